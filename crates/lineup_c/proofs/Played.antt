@@ -1,7 +1,7 @@
 -- A run, move after move.
 use Rattle.std.proofs.Common.{◌≡◌, ℕ, ◌+◌, ◌<◌, List, [], ◌∷◌, ◌++◌, length, take, get_or, Option, sym, ◌∙◌, ap, subst}
 use Rattle.std.specs.Prelude.{min, IfOk, Result, Ok, Err}
-use Rattle.lu_component.specs.Component.{Declarations}
+use Rattle.lu_component.specs.Component.{Component}
 use Rattle.lu_test.specs.Matrix.{Matrix}
 use Rattle.lineup_c.specs.Calls.{AreNumbersAfter}
 use Rattle.std.proofs.lemmas.List.{take_more, take_min}
@@ -19,7 +19,7 @@ played_more start u many now history m new event leads below read step =
     rw more (child_leads start (take many u) now history leads m new event step)
 
 -- the first moves of a schedule, at most so many
-pub first_moves : (c : Declarations) (m : Matrix) (u v : List Move) (most made : ℕ) (numbers : List ℕ) → v ≡ u → made ≡ min most (length v) → AreNumbersAfter c m (take made v) (length v) numbers → AreNumbersAfter c m (take most u) (length u) numbers
+pub first_moves : (c : Component) (m : Matrix) (u v : List Move) (most made : ℕ) (numbers : List ℕ) → v ≡ u → made ≡ min most (length v) → AreNumbersAfter c m (take made v) (length v) numbers → AreNumbersAfter c m (take most u) (length u) numbers
 first_moves c m u v most made numbers same is are =
     let first : take made v ≡ take most v = ap (λ (n : ℕ). take n v) is ∙ take_min most v in
     let most_are : AreNumbersAfter c m (take most v) (length v) numbers = subst (λ (w : List Move). AreNumbersAfter c m w (length v) numbers) first are in

@@ -9,7 +9,7 @@ use Rattle.lu_cli.specs.Outcomes.{Answer, no_memory, refused}
 use Rattle.lu_cli.specs.Program.{IsAnswerToInput}
 use Rattle.lu_cli.specs.Shown.{IsTextOfSchedule}
 use Rattle.lu_cli.specs.Texts.{AreSettled}
-use Rattle.lu_component.specs.Component.{Declarations}
+use Rattle.lu_component.specs.Component.{Component}
 use Rattle.lu_test.specs.declared.schedule.Move.{Move}
 use Rattle.lu_test.specs.Matrix.{Matrix}
 use Rattle.lu_machine.specs.declared.event.Event.{Event}
@@ -61,7 +61,7 @@ pub record TellsAnswer (line bundle : List ℕ) (stack : ℕ) (old new : List �
 -- ---- states
 
 -- from the start the moves, of a schedule of so many, lead to a state of which these are the numbers
-abbrev pub AreNumbersAfter : Declarations → Matrix → List Move → ℕ → List ℕ → Type 0
+abbrev pub AreNumbersAfter : Component → Matrix → List Move → ℕ → List ℕ → Type 0
 AreNumbersAfter c matrix u all numbers =
     (end : State) × (history : List Event) × (status : Status)
     × Plays c matrix u end history × HasStatus end status
@@ -70,7 +70,7 @@ AreNumbersAfter c matrix u all numbers =
 -- these are the numbers of the state to which the first moves of the schedule lead, at most so many
 abbrev pub IsStateOf : List ℕ → List ℕ → List ℕ → ℕ → List ℕ → Type 0
 IsStateOf component matrix schedule most numbers =
-    (c : Declarations) × (m : Matrix) × (u : List Move)
+    (c : Component) × (m : Matrix) × (u : List Move)
     × AreSettled component matrix c m × IsTextOfSchedule schedule u
     × AreNumbersAfter c m (take most u) (length u) numbers
 
@@ -87,7 +87,7 @@ TellsStateIf status component matrix schedule most old new count =
 
 -- ---- in memory, unless they are refused
 
-abbrev pub TellsNumbersAfter : {E Z : Type 0} → Declarations → Matrix → List Move → ℕ
+abbrev pub TellsNumbersAfter : {E Z : Type 0} → Component → Matrix → List Move → ℕ
     → Result (Vec ℕ Z) E → Type 0
 TellsNumbersAfter c matrix u all result =
     IfOk result (λ numbers. AreNumbersAfter c matrix u all numbers.items)

@@ -2,7 +2,7 @@
 use Rattle.std.specs.Prelude.{◌≡◌, ℕ, zero, suc, ◌+◌, ◌-◌, ◌^◌, List, [], ◌∷◌, ◌++◌, length, replicate, Option, Some, None, Result, IfOk, OnOk, Vec, min, slice_get}
 use Rattle.std.specs.Option.{option_map_or}
 use Rattle.lu_component.specs.declared.instr.Operand.TheVariants.{Reg}
-use Rattle.lu_component.specs.Component.{Declarations}
+use Rattle.lu_component.specs.Component.{Component}
 use Rattle.lu_machine.specs.declared.event.Event.{Event}
 use Rattle.lu_machine.specs.declared.event.Event.TheVariants.{Call, Return}
 use Rattle.lu_machine.specs.declared.event.Outcome.TheVariants.{Ret, Trap}
@@ -60,7 +60,7 @@ cells_numbers s w zero = []
 cells_numbers s w (suc n) = cells_numbers s w n ++ cell_number s w n
 
 -- the number of the cells of array w
-abbrev pub cell_count : Declarations → ℕ → ℕ
+abbrev pub cell_count : Component → ℕ → ℕ
 cell_count c w = option_map_or (λ array. array.len) (slice_get c.arrays w) 0
 
 -- the values of the cells of the first n arrays
@@ -122,7 +122,7 @@ abbrev pub number_of : ℕ → ℕ
 number_of n = min n (2 ^ 32 - 1)
 
 -- the number of the cells of the first n arrays
-abbrev pub cells_of_first : Declarations → ℕ → ℕ
+abbrev pub cells_of_first : Component → ℕ → ℕ
 cells_of_first c zero = 0
 cells_of_first c (suc n) = min (cells_of_first c n + cell_count c n) (2 ^ 32 - 1)
 

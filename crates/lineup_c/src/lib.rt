@@ -3,7 +3,7 @@
 //!
 //! [`lineup_answer`] answers what the program answers to the words of a command line and a bundle.
 //! [`lineup_state`] says where the first moves of a schedule lead, as numbers. Each call does all
-//! on the calling thread and keeps nothing behind: two calls may run at the same time.
+//! on the calling thread and keeps nothing after: two calls may run at the same time.
 #![tactic(auto)]
 
 mod answering;
@@ -20,7 +20,7 @@ use crate::playing::{StateFault, state_of};
 use crate::room::{fill, fill_numbers};
 use std::alloc::{AllocError, Global};
 
-/// Answers as the program does: `words` is its command line behind `lineup`, with blanks between
+/// Answers as the program does: `words` is its command line after `lineup`, with blanks between
 /// the words, and `bundle` what it reads. Puts the answer's text into the room `text`, as much of
 /// it as fits, and the whole length of it into `length`. Returns the exit status: 0 to 4.
 ///

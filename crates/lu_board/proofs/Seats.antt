@@ -14,7 +14,7 @@ use Rattle.lu_board.specs.declared.view.View.{View}
 use Rattle.lu_board.specs.Pieces.{count_of, once_below, HasEachOnce, IsLeastPiece, AllAbove}
 use Rattle.lu_board.specs.Views.{newcomer, blank, without_newcomer, merged}
 use Rattle.lu_board.specs.Fit.{ViewFits, FitsBoard, FitsWords}
-use Rattle.lu_board.specs.Seats.{SeatModel, TellsGiven, IsDone, gathered}
+use Rattle.lu_board.specs.Seats.{Seat, TellsGiven, IsDone, gathered}
 use Rattle.lu_board.specs.Close.{found_by, skipped_by, given_by, SharesOut}
 use Rattle.lu_board.proofs.Counts.{Has, having, one_at-same, all-at, all-of, has-contains, count_of-append, count_of-empty, count_of-all, once_below-lt, once_below-zero, sum_by-set, sum_by-two, sum_by-none}
 use Rattle.lu_board.proofs.Keeps.{Rule, best-small, found_times, best-counted, best-listed}
@@ -207,25 +207,25 @@ closes n workers words views id v k at whole some_workers spent nothing =
     })
 
 -- the seats' sets, in order, and then those of the view
-pub gathered-set : (set : View → List ℕ) → ((v w : View) → set (merged v w) ≡ set v ++ set w) → (seats : List SeatModel) (v : View) → set (gathered seats v) ≡ flat_map (λ s. set s.view) seats ++ set v
+pub gathered-set : (set : View → List ℕ) → ((v w : View) → set (merged v w) ≡ set v ++ set w) → (seats : List Seat) (v : View) → set (gathered seats v) ≡ flat_map (λ s. set s.view) seats ++ set v
 gathered-set set both [] v = refl
 gathered-set set both (s ∷ seats) v = both s.view (gathered seats v) ∙ (ap (λ l. set s.view ++ l) (gathered-set set both seats v) ∙ sym (append_assoc (set s.view) (flat_map (λ q. set q.view) seats) (set v)))
 
 -- one more, which stood last, is taken in
-pub gathered-push : (seats : List SeatModel) (s : SeatModel) (v : View) → gathered (seats ++ s ∷ []) v ≡ gathered seats (merged s.view v)
+pub gathered-push : (seats : List Seat) (s : Seat) (v : View) → gathered (seats ++ s ∷ []) v ≡ gathered seats (merged s.view v)
 gathered-push [] s v = refl
 gathered-push (q ∷ seats) s v = ap (merged q.view) (gathered-push seats s v)
 
 -- the plain numbers of what was gathered
-pub gathered-spent : (seats : List SeatModel) (v : View) → v.spent ≤ (gathered seats v).spent
+pub gathered-spent : (seats : List Seat) (v : View) → v.spent ≤ (gathered seats v).spent
 gathered-spent [] v = omega arith
 gathered-spent (s ∷ seats) v = let r = gathered-spent seats v in omega arith
 
-pub gathered-pieces : (seats : List SeatModel) (v : View) → (gathered seats v).pieces ≡ v.pieces
+pub gathered-pieces : (seats : List Seat) (v : View) → (gathered seats v).pieces ≡ v.pieces
 gathered-pieces [] v = refl
 gathered-pieces (s ∷ seats) v = gathered-pieces seats v
 
-pub gathered-held : (seats : List SeatModel) (v : View) → All IsDone seats → v.held ≡ [] → (gathered seats v).held ≡ []
+pub gathered-held : (seats : List Seat) (v : View) → All IsDone seats → v.held ≡ [] → (gathered seats v).held ≡ []
 gathered-held [] v done nothing = nothing
 gathered-held (s ∷ seats) v done nothing = ap (λ l. l ++ (gathered seats v).held) (done 0 s (omega arith)).1 ∙ gathered-held seats v (λ k d h. done (suc k) d (omega arith)) nothing
 
@@ -247,7 +247,7 @@ tells-more false b v w s t = (
 )
 
 -- what is known of a board whose seats were all gathered
-pub record Finished (n best : ℕ) (seats : List SeatModel) (w : View) : Type 0 where
+pub record Finished (n best : ℕ) (seats : List Seat) (w : View) : Type 0 where
   pub once : SharesOut n seats
   pub least : best < n → IsLeastPiece (found_by seats) (Some best)
   pub none_found : n ≤ best → IsLeastPiece (found_by seats) None
@@ -256,7 +256,7 @@ pub record Finished (n best : ℕ) (seats : List SeatModel) (w : View) : Type 0 
   pub given : given_by seats ≡ w.given
   pub pieces : w.pieces ≡ n
 
-pub finishes : (n workers : ℕ) (words : List ℕ) (views : List View) (id : ℕ) (seats left : List SeatModel) (last : SeatModel)
+pub finishes : (n workers : ℕ) (words : List ℕ) (views : List View) (id : ℕ) (seats left : List Seat) (last : Seat)
     → seats ≡ left ++ last ∷ [] → (gathered left last.view).weight ≡ workers → 0 < workers → All IsDone seats
     → FitsWords n workers words views → get_elem? views id ≡ some (gathered left last.view) → Finished n (slice_index words 1) seats (gathered left last.view)
 finishes n workers words views id seats left last is whole some_workers done k at =

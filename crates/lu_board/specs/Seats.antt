@@ -5,30 +5,30 @@ use Rattle.lu_board.specs.declared.view.View.{View}
 use Rattle.lu_board.specs.Views.{newcomer, IsOver, merged}
 
 -- a board: which one it is, and how many pieces and workers it has
-pub record BoardModel : Type 0 where
+pub record Board : Type 0 where
   pub board : TableId
   pub pieces : ℕ
   pub workers : ℕ
 
 -- a seat: its board, and what it knows
-pub record SeatModel : Type 0 where
+pub record Seat : Type 0 where
   pub board : TableId
   pub view : View
 
 -- a seat of a board of n pieces that has done nothing yet
-abbrev pub unused_seat : TableId → ℕ → SeatModel
+abbrev pub unused_seat : TableId → ℕ → Seat
 unused_seat board n = record { board = board; view = newcomer n 1 }
 
 -- so many of them
-abbrev pub unused_seats : ℕ → TableId → ℕ → List SeatModel
+abbrev pub unused_seats : ℕ → TableId → ℕ → List Seat
 unused_seats many board n = replicate many (unused_seat board n)
 
 -- a seat of this board
-abbrev pub IsSeatOf : TableId → SeatModel → Type 0
+abbrev pub IsSeatOf : TableId → Seat → Type 0
 IsSeatOf board seat = seat.board ≡ board
 
 -- a spent seat that holds no piece
-abbrev pub IsDone : SeatModel → Type 0
+abbrev pub IsDone : Seat → Type 0
 IsDone seat = IsOver seat.view
 
 -- the flag is set exactly where the view has a piece that was given up
@@ -42,7 +42,7 @@ pub record FieldsTell (n : ℕ) (spent gave_up : Bool) (v : View) : Type 0 where
   pub weight : v.weight ≡ 1
   pub given : TellsGiven gave_up v
 
--- the view v, behind all that the seats have
-abbrev pub gathered : List SeatModel → View → View
+-- the view v, after all that the seats have
+abbrev pub gathered : List Seat → View → View
 gathered [] v = v
 gathered (seat ∷ seats) v = merged seat.view (gathered seats v)

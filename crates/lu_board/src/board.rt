@@ -32,9 +32,9 @@ pub struct Board {
 
 impl Model for Board {
     ghost use Rattle.std.specs.Prelude.{◌≡◌, ◌<◌};
-    ghost use Rattle.lu_board.specs.Seats.{BoardModel};
+    ghost use Rattle.lu_board.specs.Seats.{Board as ABoard};
 
-    ghost Value = { BoardModel };
+    ghost Value = { ABoard };
 
     ghost view = { λ b. record {
       board = b.table.shared.table_id;
@@ -64,9 +64,9 @@ pub struct Seat {
 
 impl Model for Seat {
     ghost use Rattle.std.specs.Prelude.{◌≡◌, []};
-    ghost use Rattle.lu_board.specs.Seats.{SeatModel, FieldsTell};
+    ghost use Rattle.lu_board.specs.Seats.{Seat as ASeat, FieldsTell};
 
-    ghost Value = { SeatModel };
+    ghost Value = { ASeat };
 
     ghost view = { λ s. record { board = s.token.table_id; view = s.token.me.0 } };
 

@@ -1,7 +1,7 @@
--- Cuts that fail behind the bound.
+-- Cuts that fail after the bound.
 use Rattle.std.proofs.Common.{arith, ◌≡◌, ◌<◌, ℕ, Bool, true, false, not, List, refl, subst, inl, inr}
 use Rattle.std.proofs.lemmas.Bool.{cases_lt}
-use Rattle.lu_component.specs.Component.{Declarations}
+use Rattle.lu_component.specs.Component.{Component}
 use Rattle.lu_test.specs.Matrix.{Matrix}
 use Rattle.lu_machine.specs.States.{State}
 use Rattle.lu_machine.specs.Starts.{Settles}
@@ -17,7 +17,7 @@ use Rattle.lu_report.specs.declared.report.Report.{Report}
 use Rattle.lu_replay.specs.Reports.{IsFinding, IsReport}
 use Rattle.lu_replay.proofs.Determined.{one_report}
 use Rattle.lu_certify.specs.declared.limits.Limits.{Limits}
-use Rattle.lu_certify.specs.Certificates.{Fails, FailsBehind, IsClear, IsFailingReport, IsFailure, IsFullPass}
+use Rattle.lu_certify.specs.Certificates.{Fails, FailsAfter, IsClear, IsFailingReport, IsFailure, IsFullPass}
 use Rattle.lu_certify.specs.Places.{IsLeftOpen}
 use Rattle.lu_certify.proofs.Linear.{clear_at, clear_not_failing, never_bad, never_good}
 
@@ -63,23 +63,23 @@ passes_before s moves bound serial less none x (Pass counts) is failure = failur
 
 -- ---- a cut
 
-module _ (c : Declarations) (matrix : Matrix) (limits : Limits) (settles : Settles c matrix) where
-  pub behind_fails : (moves : ℕ) → FailsBehind c limits matrix moves → (r : Report) → IsReport c matrix moves limits.serial r → IsFailure r.finding
-  behind_fails moves behind r report =
+module _ (c : Component) (matrix : Matrix) (limits : Limits) (settles : Settles c matrix) where
+  pub after_fails : (moves : ℕ) → FailsAfter c limits matrix moves → (r : Report) → IsReport c matrix moves limits.serial r → IsFailure r.finding
+  after_fails moves behind r report =
       let there = start_there c matrix settles in
       let s = there.0 in
       let here = behind.2 s there.1 in
       fails_there s moves limits.serial here.0 here.2 r.finding (report.3 s there.1)
 
-  behind_passes : (moves : ℕ) → FailsBehind c limits matrix moves → (r : Report) → IsReport c matrix limits.bound limits.serial r → IsFailure r.finding → ⊥
-  behind_passes moves behind r report =
+  after_passes : (moves : ℕ) → FailsAfter c limits matrix moves → (r : Report) → IsReport c matrix limits.bound limits.serial r → IsFailure r.finding → ⊥
+  after_passes moves behind r report =
       let there = start_there c matrix settles in
       let s = there.0 in
       let here = behind.2 s there.1 in
       passes_before s moves limits.bound limits.serial behind.0 here.0 here.2 r.finding (report.3 s there.1)
 
-  one_behind : (m n : ℕ) → FailsBehind c limits matrix m → FailsBehind c limits matrix n → m ≡ n
-  one_behind m n x y =
+  one_after : (m n : ℕ) → FailsAfter c limits matrix m → FailsAfter c limits matrix n → m ≡ n
+  one_after m n x y =
       let there = start_there c matrix settles in
       let s = there.0 in
       one_length (IsSerialHistory s) s m n (x.2 s there.1).2 (y.2 s there.1).2
@@ -87,14 +87,14 @@ module _ (c : Declarations) (matrix : Matrix) (limits : Limits) (settles : Settl
   -- a failing report is one at some bound, and a failure
   pub failing_is : (r : Report) → IsFailingReport c limits matrix r → (n : ℕ) × IsReport c matrix n limits.serial r × IsFailure r.finding
   failing_is r (inl at) = (limits.bound, at.0, at.1)
-  failing_is r (inr behind) = (behind.0, behind.2, behind_fails behind.0 behind.1 r behind.2)
+  failing_is r (inr behind) = (behind.0, behind.2, after_fails behind.0 behind.1 r behind.2)
 
   pub one_failing : (r q : Report) → IsFailingReport c limits matrix r → IsFailingReport c limits matrix q → r ≡ q
   one_failing r q (inl x) (inl y) = one_report c matrix limits.bound limits.serial r q settles x.0 y.0
-  one_failing r q (inl x) (inr y) = absurd (behind_passes y.0 y.1 r x.0 x.1)
-  one_failing r q (inr x) (inl y) = absurd (behind_passes x.0 x.1 q y.0 y.1)
+  one_failing r q (inl x) (inr y) = absurd (after_passes y.0 y.1 r x.0 x.1)
+  one_failing r q (inr x) (inl y) = absurd (after_passes x.0 x.1 q y.0 y.1)
   one_failing r q (inr x) (inr y) =
-      let same : x.0 ≡ y.0 = one_behind x.0 y.0 x.1 y.1 in
+      let same : x.0 ≡ y.0 = one_after x.0 y.0 x.1 y.1 in
       one_report c matrix y.0 limits.serial r q settles (subst (λ (n : ℕ). IsReport c matrix n limits.serial r) same x.2) y.2
 
   -- a clear cut does not fail

@@ -3,7 +3,7 @@ use Rattle.std.proofs.Common.{arith, ◌≡◌, ℕ, zero, suc, ◌+◌, ◌-◌
 use Rattle.std.specs.Prelude.{IfOk}
 use Rattle.std.proofs.lemmas.Bool.{cases_lt}
 use Rattle.std.proofs.lemmas.List.{length_push}
-use Rattle.lu_component.specs.Component.{Declarations}
+use Rattle.lu_component.specs.Component.{Component}
 use Rattle.lu_test.specs.declared.schedule.Move.{Move}
 use Rattle.lu_test.specs.Matrix.{Matrix}
 use Rattle.lu_machine.specs.declared.event.Event.{Event}
@@ -88,7 +88,7 @@ never_lost s bound uncut u r =
 
 -- ---- what is known of a cut
 
-module _ (c : Declarations) (matrix : Matrix) (limits : Limits) (settles : Settles c matrix) where
+module _ (c : Component) (matrix : Matrix) (limits : Limits) (settles : Settles c matrix) where
   pub none_in_full_pass : HasReport IsFullPass c limits.bound limits.serial matrix → HasNoLivelock c limits matrix
   none_in_full_pass has u livelock =
       let there = start_there c matrix settles in
@@ -114,14 +114,14 @@ module _ (c : Declarations) (matrix : Matrix) (limits : Limits) (settles : Settl
         let there = start_there c matrix settles in
         (livelock there.0 there.1).0 v (finds_as (SerialCut v) is there.0 there.1).0.kind
 
--- ---- what is known behind it
+-- ---- what is known after it
 
-pub next_lost : (c : Declarations) (limits : Limits) (matrix : Matrix) (old : SoFar) → IsLost old → IsNext c limits old matrix old
+pub next_lost : (c : Component) (limits : Limits) (matrix : Matrix) (old : SoFar) → IsLost old → IsNext c limits old matrix old
 next_lost c limits matrix Clear lost = absurd lost
 next_lost c limits matrix (Unclear smaller r) lost = absurd lost
 next_lost c limits matrix (Lost smaller u) lost = refl
 
-pub next_cut : (c : Declarations) (limits : Limits) (matrix : Matrix) (old : SoFar) (livelock : Option (List Move)) (standing : Standing) → IsLivelockIfAny c limits matrix livelock → IsStanding c limits matrix standing → IsNext c limits old matrix (so_far_after old matrix livelock standing)
+pub next_cut : (c : Component) (limits : Limits) (matrix : Matrix) (old : SoFar) (livelock : Option (List Move)) (standing : Standing) → IsLivelockIfAny c limits matrix livelock → IsStanding c limits matrix standing → IsNext c limits old matrix (so_far_after old matrix livelock standing)
 next_cut c limits matrix (Lost smaller u) livelock standing has stands = refl
 next_cut c limits matrix (Unclear smaller q) None standing has stands = (refl, has)
 next_cut c limits matrix (Unclear smaller q) (Some u) standing has stands = (refl, has)
@@ -130,5 +130,5 @@ next_cut c limits matrix Clear None Proved has stands = (has, inr stands)
 next_cut c limits matrix Clear None (Open r) has stands = (refl, has, stands.0, stands.1)
 next_cut c limits matrix Clear (Some u) standing has stands = (refl, has)
 
-pub proved_none : (c : Declarations) (matrix : Matrix) (limits : Limits) → IsProved c matrix limits → FromEachStart c matrix (λ s. NoOffence s limits.serial)
+pub proved_none : (c : Component) (matrix : Matrix) (limits : Limits) → IsProved c matrix limits → FromEachStart c matrix (λ s. NoOffence s limits.serial)
 proved_none c matrix limits proved s at = (proved s at).0

@@ -1,7 +1,7 @@
 -- There is one certificate.
 use Rattle.std.proofs.Common.{◌≡◌, ℕ, List, Result, Ok, Err, refl, sym, ◌∙◌, ap, subst, inl, inr}
 use Rattle.std.specs.Prelude.{IfOk}
-use Rattle.lu_component.specs.Component.{Declarations}
+use Rattle.lu_component.specs.Component.{Component}
 use Rattle.lu_test.specs.declared.schedule.Move.{Move}
 use Rattle.lu_test.specs.Matrix.{Matrix, cut}
 use Rattle.lu_machine.specs.Starts.{Settles}
@@ -21,7 +21,7 @@ use Rattle.lu_certify.proofs.Livelocks.{one_lost}
 use Rattle.lu_certify.proofs.Ordered.{lengths_compare}
 use Rattle.lu_certify.proofs.Refuted.{none_serves}
 
-module _ (c : Declarations) (matrix : Matrix) (limits : Limits) (settles : Settles c matrix) where
+module _ (c : Component) (matrix : Matrix) (limits : Limits) (settles : Settles c matrix) where
   cut_settles : (lengths : List ℕ) → Settles c (cut matrix lengths)
   cut_settles lengths = settles_too c matrix (cut matrix lengths) settles refl
 
@@ -136,6 +136,6 @@ certificate_decides c matrix limits certificate settles is =
     (decided c matrix limits settles certificate is, (λ other at. one c matrix limits settles certificate other is at))
 
 -- where there is a certificate, it decides
-pub decides_where : {E : Type 0} (c : Declarations) (matrix : Matrix) (limits : Limits) → Settles c matrix → (result : Result Certificate E) → IfOk result (IsCertificate c matrix limits) → IfOk result (Decides c matrix)
+pub decides_where : {E : Type 0} (c : Component) (matrix : Matrix) (limits : Limits) → Settles c matrix → (result : Result Certificate E) → IfOk result (IsCertificate c matrix limits) → IfOk result (Decides c matrix)
 decides_where c matrix limits settles (Ok certificate) is = decided c matrix limits settles certificate is
 decides_where c matrix limits settles (Err e) is = tt

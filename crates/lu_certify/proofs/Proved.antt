@@ -1,6 +1,6 @@
 -- Where all nodes of a cut are gone through.
 use Rattle.std.proofs.Common.{arith, ◌≡◌, ◌<◌, ◌≤◌, ℕ, List, sym, subst}
-use Rattle.lu_component.specs.Component.{Declarations}
+use Rattle.lu_component.specs.Component.{Component}
 use Rattle.lu_test.specs.declared.schedule.Move.{Move}
 use Rattle.lu_test.specs.Matrix.{Matrix}
 use Rattle.lu_machine.specs.States.{State}
@@ -17,15 +17,15 @@ use Rattle.lu_graph.specs.Nodes.{EndsWellOnFewNodes, HasFewNodes, IsEnding, IsSh
 use Rattle.lu_graph.proofs.OtherSet.{few_too, shortest_too, well_too}
 use Rattle.lu_certify.specs.declared.limits.Limits.{Limits}
 use Rattle.lu_certify.specs.declared.told.Told.{Told}
-use Rattle.lu_certify.specs.declared.told.Told.TheVariants.{AllGood, BadBehind, Nothing}
-use Rattle.lu_certify.specs.Certificates.{FailsBehind, IsProved}
+use Rattle.lu_certify.specs.declared.told.Told.TheVariants.{AllGood, BadAfter, Nothing}
+use Rattle.lu_certify.specs.Certificates.{FailsAfter, IsProved}
 use Rattle.lu_certify.specs.Places.{IsLeftOpen, IsTold, IsToldBy}
 use Rattle.lu_certify.proofs.Behind.{one_length}
 use Rattle.lu_certify.proofs.Linear.{never_bad}
 
 -- ---- what is told
 
-module _ (c : Declarations) (matrix : Matrix) (limits : Limits) (settles : Settles c matrix) where
+module _ (c : Component) (matrix : Matrix) (limits : Limits) (settles : Settles c matrix) where
   -- where a serial run offends, nothing is
   pub none_told : ((s : State) → IsStart c matrix s → (v : List Move) × IsOffence s limits.serial v) → IsLeftOpen c limits matrix
   none_told offends =
@@ -58,7 +58,7 @@ module _ (c : Declarations) (matrix : Matrix) (limits : Limits) (settles : Settl
         let here = set s at in
         (here.none, (few_at s at (is s at).0, well_too (IsMember members) (IsSerialHistory s) (λ q y. (here.are q).0 y) (λ q y. (here.are q).1 y) s (is s at).1))
 
-    told_badly : (moves : ℕ) → FromEachStart c matrix (λ s. IsEnding (IsMember members) limits.bound limits.nodes s (Badly moves)) → limits.bound < moves → moves ≤ most_moves → FailsBehind c limits matrix moves
+    told_badly : (moves : ℕ) → FromEachStart c matrix (λ s. IsEnding (IsMember members) limits.bound limits.nodes s (Badly moves)) → limits.bound < moves → moves ≤ most_moves → FailsAfter c limits matrix moves
     told_badly moves is more few = (more, few, λ s at. ((set s at).none, few_at s at ((is s at).1 more), shortest_at s at moves (is s at).0))
 
     told_far : (moves : ℕ) → FromEachStart c matrix (λ s. IsEnding (IsMember members) limits.bound limits.nodes s (Badly moves)) → (limits.bound < moves → most_moves < moves) → IsLeftOpen c limits matrix
@@ -88,6 +88,6 @@ module _ (c : Declarations) (matrix : Matrix) (limits : Limits) (settles : Settl
     pub told_by : (ending : Ending) (told : Told) → FromEachStart c matrix (λ s. IsEnding (IsMember members) limits.bound limits.nodes s ending) → IsToldBy limits.bound ending told → IsTold c limits matrix told
     told_by Well told is by = subst (IsTold c limits matrix) (sym by) (told_well is)
     told_by (Badly moves) AllGood is by = absurd by
-    told_by (Badly moves) (BadBehind n) is by = subst (FailsBehind c limits matrix) (sym by.0) (told_badly moves is by.1 by.2)
+    told_by (Badly moves) (BadAfter n) is by = subst (FailsAfter c limits matrix) (sym by.0) (told_badly moves is by.1 by.2)
     told_by (Badly moves) Nothing is by = told_far moves is by
     told_by TooMany told is by = subst (IsTold c limits matrix) (sym by) (told_many is)

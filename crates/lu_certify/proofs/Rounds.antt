@@ -3,7 +3,7 @@ use Rattle.std.proofs.Common.{arith, ◌≡◌, ◌<◌, ◌≤◌, ◌+◌, ℕ
 use Rattle.std.specs.Prelude.{All, IfOk}
 use Rattle.std.proofs.lemmas.Bool.{cases_lt}
 use Rattle.std.proofs.lemmas.List.Elements.{All-take}
-use Rattle.lu_component.specs.Component.{Declarations}
+use Rattle.lu_component.specs.Component.{Component}
 use Rattle.lu_test.specs.declared.matrix.Call.{Call}
 use Rattle.lu_test.specs.declared.schedule.Move.{Move}
 use Rattle.lu_test.specs.Matrix.{IsCallOf, IsOf, Matrix, cut, first_calls}
@@ -34,12 +34,12 @@ use Rattle.lu_certify.proofs.Behind.{clear_never_fails}
 use Rattle.lu_certify.proofs.Linear.{clear_at, clear_cut}
 
 -- a cut that stands does not fail
-standing_never_fails : (c : Declarations) (matrix : Matrix) (limits : Limits) → Settles c matrix → (standing : Standing) → IsStanding c limits matrix standing → Fails c limits matrix → ⊥
+standing_never_fails : (c : Component) (matrix : Matrix) (limits : Limits) → Settles c matrix → (standing : Standing) → IsStanding c limits matrix standing → Fails c limits matrix → ⊥
 standing_never_fails c matrix limits settles FullPass stands = clear_never_fails c matrix limits settles (inl stands)
 standing_never_fails c matrix limits settles Proved stands = clear_never_fails c matrix limits settles (inr stands)
 standing_never_fails c matrix limits settles (Open r) stands = stands.2
 
-module _ (c : Declarations) (matrix : Matrix) (limits : Limits) where
+module _ (c : Component) (matrix : Matrix) (limits : Limits) where
   -- the cuts of all places before this one are clear
   abbrev pub ClearBefore : ℕ → Type 0
   ClearBefore place =
@@ -174,49 +174,49 @@ module _ (c : Declarations) (matrix : Matrix) (limits : Limits) where
 
 -- ---- the cut runs
 
-rows_of : (c : Declarations) (rows : List (List Call)) (lengths : List ℕ) → All (λ calls. All (IsCallOf c) calls) rows → All (λ calls. All (IsCallOf c) calls) (first_calls rows lengths)
+rows_of : (c : Component) (rows : List (List Call)) (lengths : List ℕ) → All (λ calls. All (IsCallOf c) calls) rows → All (λ calls. All (IsCallOf c) calls) (first_calls rows lengths)
 rows_of c [] lengths all k d h = absurd (omega arith)
 rows_of c (row ∷ rows) [] all k d h = absurd (omega arith)
 rows_of c (row ∷ rows) (n ∷ lengths) all zero d h = All-take (IsCallOf c) n row (all zero d (omega arith))
 rows_of c (row ∷ rows) (n ∷ lengths) all (suc k) d h = rows_of c rows lengths (λ j e w. all (suc j) e (omega arith)) k d (omega arith)
 
-pub cut_runs : (c : Declarations) (matrix : Matrix) (place : ℕ) (smaller : Matrix) → CanRun c matrix → IsCutAtPlace matrix place smaller → CanRun c smaller
+pub cut_runs : (c : Component) (matrix : Matrix) (place : ℕ) (smaller : Matrix) → CanRun c matrix → IsCutAtPlace matrix place smaller → CanRun c smaller
 cut_runs c matrix place smaller runs at =
     subst (CanRun c) (sym at.2) (can_run_too c matrix (cut matrix at.0) runs (runs.of.0, rows_of c matrix.threads at.0 runs.of.1) refl)
 
 -- so is the first that is not clear
-unclear_of : (c : Declarations) (matrix smaller : Matrix) (limits : Limits) (r : Report) → IsOf matrix c → IsFirstUnclear c matrix limits smaller r → IsOf smaller c
+unclear_of : (c : Component) (matrix smaller : Matrix) (limits : Limits) (r : Report) → IsOf matrix c → IsFirstUnclear c matrix limits smaller r → IsOf smaller c
 unclear_of c matrix smaller limits r of first =
     subst (λ (m : Matrix). IsOf m c) (sym first.is) (of.0, rows_of c matrix.threads first.lengths of.1)
 
 -- and the first that has a livelock
-livelock_of : (c : Declarations) (matrix smaller : Matrix) (limits : Limits) (u : List Move) → IsOf matrix c → IsFirstLivelock c matrix limits smaller u → IsOf smaller c
+livelock_of : (c : Component) (matrix smaller : Matrix) (limits : Limits) (u : List Move) → IsOf matrix c → IsFirstLivelock c matrix limits smaller u → IsOf smaller c
 livelock_of c matrix smaller limits u of first =
     subst (λ (m : Matrix). IsOf m c) (sym first.is) (of.0, rows_of c matrix.threads first.lengths of.1)
 
 -- the first cut that fails is a matrix of the component
-failing_of : (c : Declarations) (matrix smaller : Matrix) (limits : Limits) (r : Report) → IsOf matrix c → IsFirstFailing c matrix limits smaller r → IsOf smaller c
+failing_of : (c : Component) (matrix smaller : Matrix) (limits : Limits) (r : Report) → IsOf matrix c → IsFirstFailing c matrix limits smaller r → IsOf smaller c
 failing_of c matrix smaller limits r of first =
     subst (λ (m : Matrix). IsOf m c) (sym first.is) (of.0, rows_of c matrix.threads first.lengths of.1)
 
-pub names_cut : (c : Declarations) (matrix : Matrix) (limits : Limits) (certificate : Certificate) → IsOf matrix c → IsCertificate c matrix limits certificate → NamesCutOf c certificate
+pub names_cut : (c : Component) (matrix : Matrix) (limits : Limits) (certificate : Certificate) → IsOf matrix c → IsCertificate c matrix limits certificate → NamesCutOf c certificate
 names_cut c matrix limits (Linearizable members) of is = tt
 names_cut c matrix limits (NotLinearizable smaller r) of is = failing_of c matrix smaller limits r of is
 names_cut c matrix limits (Livelock smaller u) of is = livelock_of c matrix smaller limits u of is.1
 names_cut c matrix limits (Undecided smaller r) of is = unclear_of c matrix smaller limits r of is.2
 
-pub names_where : {E : Type 0} (c : Declarations) (matrix : Matrix) (limits : Limits) → IsOf matrix c → (result : Result Certificate E) → IfOk result (IsCertificate c matrix limits) → IfOk result (NamesCutOf c)
+pub names_where : {E : Type 0} (c : Component) (matrix : Matrix) (limits : Limits) → IsOf matrix c → (result : Result Certificate E) → IfOk result (IsCertificate c matrix limits) → IfOk result (NamesCutOf c)
 names_where c matrix limits of (Ok certificate) is = names_cut c matrix limits certificate of is
 names_where c matrix limits of (Err e) is = tt
 
 -- ---- the beginnings of the serial histories
 
-some_history : (c : Declarations) (matrix : Matrix) (s : State) (serial : ℕ) → IsStart c matrix s → NoOffence s serial → HasSerialHistory s
+some_history : (c : Component) (matrix : Matrix) (s : State) (serial : ℕ) → IsStart c matrix s → NoOffence s serial → HasSerialHistory s
 some_history c matrix s serial is =
     subst (λ x. NoOffence x serial → HasSerialHistory x) (sym (grounded c matrix s is))
     (λ none. some_serial serial (start_on (ground_of c s) matrix) (none_on (ground_of c s) matrix) (seats_start (ground_of c s) matrix) (λ u over. none u (inl over)))
 
-pub closure_begins : (c : Declarations) (matrix : Matrix) (s : State) (serial : ℕ) (set members : List (List SerialOp)) → IsStart c matrix s → IsSetOf s serial set → IsClosureOf set members → AreBeginnings s members
+pub closure_begins : (c : Component) (matrix : Matrix) (s : State) (serial : ℕ) (set members : List (List SerialOp)) → IsStart c matrix s → IsSetOf s serial set → IsClosureOf set members → AreBeginnings s members
 closure_begins c matrix s serial set members is of closure q = (
   (λ has. elim ((closure q).0 has) [
     | inl none ↦ (let z = some_history c matrix s serial is of.none in (z.0, (z.0, ap (λ x. x ++ z.0) (sym none)), z.1))

@@ -1,6 +1,6 @@
 -- Certificates: what the reports of all cuts of a matrix say together.
 use Rattle.std.specs.Prelude.{◌≡◌, ◌↔◌, ◌<◌, ◌≤◌, ◌⊎◌, ℕ, List, [], ◌∷◌}
-use Rattle.lu_component.specs.Component.{Declarations}
+use Rattle.lu_component.specs.Component.{Component}
 use Rattle.lu_test.specs.declared.schedule.Move.{Move}
 use Rattle.lu_test.specs.Matrix.{IsOf, Matrix, cut}
 use Rattle.lu_machine.specs.States.{State}
@@ -15,7 +15,7 @@ use Rattle.lu_report.specs.declared.report.Report.{Report}
 use Rattle.lu_report.specs.Limits.{most_moves}
 use Rattle.lu_replay.specs.Reports.{IsReport}
 pub use Rattle.lu_report.specs.Parts.{IsFailure, IsFullPass}
-use Rattle.lu_parallel.specs.Ranges.{Choice}
+use Rattle.lu_parallel.specs.Ranges.{Options}
 use Rattle.lu_spec.specs.Beginnings.{Begins, Has}
 use Rattle.lu_refute.specs.Linearizable.{AreLengths}
 use Rattle.lu_certify.specs.declared.certificate.Certificate.{Certificate}
@@ -25,71 +25,71 @@ use Rattle.lu_certify.specs.declared.certificate.Certificate.TheVariants.{Linear
 -- ---- the reports of all cuts
 
 -- the report of the matrix is of this kind
-abbrev pub HasReport : (Finding → Type 0) → Declarations → ℕ → ℕ → Matrix → Type 0
+abbrev pub HasReport : (Finding → Type 0) → Component → ℕ → ℕ → Matrix → Type 0
 HasReport Kind c bound serial matrix =
     (r : Report) × IsReport c matrix bound serial r × Kind r.finding
 
 -- the report of each cut of the matrix is of this kind
-abbrev pub AllCuts : (Finding → Type 0) → Declarations → Matrix → ℕ → ℕ → Type 0
+abbrev pub AllCuts : (Finding → Type 0) → Component → Matrix → ℕ → ℕ → Type 0
 AllCuts Kind c matrix bound serial =
     (lengths : List ℕ) → AreLengths matrix lengths
     → HasReport Kind c bound serial (cut matrix lengths)
 
 -- No serial run offends, there are no more nodes than the limit, and each ended schedule, of any
 -- length, is good for the serial histories.
-abbrev pub IsProved : Declarations → Matrix → Limits → Type 0
+abbrev pub IsProved : Component → Matrix → Limits → Type 0
 IsProved c matrix limits =
     FromEachStart c matrix (λ s. NoOffence s limits.serial
     × EndsWellOnFewNodes (IsSerialHistory s) s limits.nodes)
 
 -- its report is a pass, and no schedule was cut; or it is proved so
-abbrev pub IsClear : Declarations → Limits → Matrix → Type 0
+abbrev pub IsClear : Component → Limits → Matrix → Type 0
 IsClear c limits matrix =
     HasReport IsFullPass c limits.bound limits.serial matrix ⊎ IsProved c matrix limits
 
 -- No serial run offends, there are no more nodes than the limit, and the shortest schedule that
 -- ends badly has so many moves: more than the bound, and at most 256.
-abbrev pub FailsBehind : Declarations → Limits → Matrix → ℕ → Type 0
-FailsBehind c limits matrix moves =
+abbrev pub FailsAfter : Component → Limits → Matrix → ℕ → Type 0
+FailsAfter c limits matrix moves =
     (limits.bound < moves) × (moves ≤ most_moves)
     × FromEachStart c matrix (λ s. NoOffence s limits.serial
     × HasFewNodes (IsSerialHistory s) s limits.nodes
     × IsShortestBad (IsSerialHistory s) s moves)
 
 -- r shows that the matrix fails: it is its report at the bounds, and a failure; or it is its report
--- at the length of the shortest schedule that ends badly, where that lies behind the bound
-abbrev pub IsFailingReport : Declarations → Limits → Matrix → Report → Type 0
+-- at the length of the shortest schedule that ends badly, where that lies after the bound
+abbrev pub IsFailingReport : Component → Limits → Matrix → Report → Type 0
 IsFailingReport c limits matrix r =
     (IsReport c matrix limits.bound limits.serial r × IsFailure r.finding)
-    ⊎ ((moves : ℕ) × FailsBehind c limits matrix moves × IsReport c matrix moves limits.serial r)
+    ⊎ ((moves : ℕ) × FailsAfter c limits matrix moves × IsReport c matrix moves limits.serial r)
 
 -- a report shows that the matrix fails
-abbrev pub Fails : Declarations → Limits → Matrix → Type 0
+abbrev pub Fails : Component → Limits → Matrix → Type 0
 Fails c limits matrix = (r : Report) × IsFailingReport c limits matrix r
 
 -- no cut of the matrix fails
-abbrev pub NoneFails : Declarations → Matrix → Limits → Type 0
+abbrev pub NoneFails : Component → Matrix → Limits → Type 0
 NoneFails c matrix limits =
     (lengths : List ℕ) → AreLengths matrix lengths → Fails c limits (cut matrix lengths) → ⊥
 
 -- each cut of the matrix is clear
-abbrev pub AllClear : Declarations → Matrix → Limits → Type 0
+abbrev pub AllClear : Component → Matrix → Limits → Type 0
 AllClear c matrix limits =
     (lengths : List ℕ) → AreLengths matrix lengths → IsClear c limits (cut matrix lengths)
 
 -- No serial run offends, there are no more states than the limit, and u is the first schedule that
 -- leads to a state from which no schedule ends.
-abbrev pub IsLivelock : Declarations → Limits → Matrix → List Move → Type 0
+abbrev pub IsLivelock : Component → Limits → Matrix → List Move → Type 0
 IsLivelock c limits matrix u =
     FromEachStart c matrix (λ s. NoOffence s limits.serial × HasFewStates s limits.nodes
     × IsFirstLost s u)
 
 -- there is none
-abbrev pub HasNoLivelock : Declarations → Limits → Matrix → Type 0
+abbrev pub HasNoLivelock : Component → Limits → Matrix → Type 0
 HasNoLivelock c limits matrix = (u : List Move) → IsLivelock c limits matrix u → ⊥
 
 -- no cut of the matrix has one
-abbrev pub NoLivelocks : Declarations → Matrix → Limits → Type 0
+abbrev pub NoLivelocks : Component → Matrix → Limits → Type 0
 NoLivelocks c matrix limits =
     (lengths : List ℕ) → AreLengths matrix lengths
     → HasNoLivelock c limits (cut matrix lengths)
@@ -102,7 +102,7 @@ IsBefore (m ∷ u) (n ∷ v) = (m < n) ⊎ (m ≡ n) × IsBefore u v
 
 -- r shows that this cut fails; none before it does, in the lexicographic order of lengths, thread
 -- 0's first
-pub record IsFirstFailing (c : Declarations) (matrix : Matrix) (limits : Limits)
+pub record IsFirstFailing (c : Component) (matrix : Matrix) (limits : Limits)
     (smaller : Matrix) (r : Report) : Type 0 where
   pub lengths : List ℕ
   pub are : AreLengths matrix lengths
@@ -112,7 +112,7 @@ pub record IsFirstFailing (c : Declarations) (matrix : Matrix) (limits : Limits)
       → Fails c limits (cut matrix other) → ⊥
 
 -- r is the report of this cut at the bounds, which is not clear; each cut before it is
-pub record IsFirstUnclear (c : Declarations) (matrix : Matrix) (limits : Limits)
+pub record IsFirstUnclear (c : Component) (matrix : Matrix) (limits : Limits)
     (smaller : Matrix) (r : Report) : Type 0 where
   pub lengths : List ℕ
   pub are : AreLengths matrix lengths
@@ -123,7 +123,7 @@ pub record IsFirstUnclear (c : Declarations) (matrix : Matrix) (limits : Limits)
       → IsClear c limits (cut matrix other)
 
 -- u is the livelock of this cut; no cut before it has one
-pub record IsFirstLivelock (c : Declarations) (matrix : Matrix) (limits : Limits)
+pub record IsFirstLivelock (c : Component) (matrix : Matrix) (limits : Limits)
     (smaller : Matrix) (u : List Move) : Type 0 where
   pub lengths : List ℕ
   pub are : AreLengths matrix lengths
@@ -143,7 +143,7 @@ AreBeginnings s members =
 -- Each cut is clear, none has a livelock, and these are the beginnings of the matrix's serial
 -- histories; or this is the first cut that fails; or none fails, and this is the first that has a
 -- livelock; or none fails, none has a livelock, and this is the first that is not clear.
-abbrev pub IsCertificate : Declarations → Matrix → Limits → Certificate → Type 0
+abbrev pub IsCertificate : Component → Matrix → Limits → Certificate → Type 0
 IsCertificate c matrix limits (Linearizable members) =
     AllClear c matrix limits × NoLivelocks c matrix limits
     × FromEachStart c matrix (λ s. AreBeginnings s members)
@@ -156,17 +156,17 @@ IsCertificate c matrix limits (Undecided smaller r) =
     × IsFirstUnclear c matrix limits smaller r
 
 -- the bounds of a check's options, and so many nodes
-abbrev pub limits_of : Choice → ℕ → Limits
+abbrev pub limits_of : Options → ℕ → Limits
 limits_of choice nodes =
     record { bound = choice.bound; serial = choice.serial; nodes = nodes }
 
 -- within the bounds of a check's options
-abbrev pub IsCertificateWithin : Declarations → Matrix → Choice → ℕ → Certificate → Type 0
+abbrev pub IsCertificateWithin : Component → Matrix → Options → ℕ → Certificate → Type 0
 IsCertificateWithin c matrix choice nodes certificate =
     IsCertificate c matrix (limits_of choice nodes) certificate
 
 -- the cut that it names, if any, is a matrix of the component
-abbrev pub NamesCutOf : Declarations → Certificate → Type 0
+abbrev pub NamesCutOf : Component → Certificate → Type 0
 NamesCutOf c (Linearizable members) = Unit {0}
 NamesCutOf c (NotLinearizable smaller r) = IsOf smaller c
 NamesCutOf c (Livelock smaller u) = IsOf smaller c

@@ -1,7 +1,7 @@
 -- The cuts of a matrix, by their places from 0 in the lexicographic order of their lengths, and
 -- what is known of those before a place.
 use Rattle.std.specs.Prelude.{◌≡◌, ◌<◌, ◌≤◌, ℕ, ◌+◌, ◌*◌, Bool, true, IfOk, Result, List, [], ◌∷◌, length, Option, Some, None}
-use Rattle.lu_component.specs.Component.{Declarations}
+use Rattle.lu_component.specs.Component.{Component}
 use Rattle.lu_test.specs.declared.matrix.Call.{Call}
 use Rattle.lu_test.specs.declared.schedule.Move.{Move}
 use Rattle.lu_test.specs.Matrix.{Matrix, cut}
@@ -11,7 +11,7 @@ use Rattle.lu_graph.specs.declared.ending.Ending.{Ending}
 use Rattle.lu_graph.specs.declared.ending.Ending.TheVariants.{Badly, TooMany, Well}
 use Rattle.lu_report.specs.Limits.{most_moves}
 use Rattle.lu_replay.specs.Reports.{IsReport}
-use Rattle.lu_parallel.specs.Ranges.{Choice}
+use Rattle.lu_parallel.specs.Ranges.{Options}
 use Rattle.lu_refute.specs.Linearizable.{AreLengths}
 use Rattle.lu_certify.specs.declared.certificate.Certificate.{Certificate}
 use Rattle.lu_certify.specs.declared.certificate.Certificate.TheVariants.{Linearizable, Livelock, NotLinearizable, Undecided}
@@ -23,8 +23,8 @@ use Rattle.lu_certify.specs.declared.judged.Judged.TheVariants.{Failing, Stands}
 use Rattle.lu_certify.specs.declared.judged.Standing.{Standing}
 use Rattle.lu_certify.specs.declared.judged.Standing.TheVariants.{FullPass, Open, Proved}
 use Rattle.lu_certify.specs.declared.told.Told.{Told}
-use Rattle.lu_certify.specs.declared.told.Told.TheVariants.{AllGood, BadBehind, Nothing}
-use Rattle.lu_certify.specs.Certificates.{AreBeginnings, Fails, FailsBehind, HasNoLivelock, HasReport, IsClear, IsFailingReport, IsFullPass, IsLivelock, IsProved, limits_of}
+use Rattle.lu_certify.specs.declared.told.Told.TheVariants.{AllGood, BadAfter, Nothing}
+use Rattle.lu_certify.specs.Certificates.{AreBeginnings, Fails, FailsAfter, HasNoLivelock, HasReport, IsClear, IsFailingReport, IsFullPass, IsLivelock, IsProved, limits_of}
 
 -- how many cuts there are
 abbrev pub cut_count : List (List Call) → ℕ
@@ -50,19 +50,19 @@ IsCutAtPlace matrix place smaller =
 
 -- ---- one cut
 
--- neither is it proved clear, nor does it fail behind the bound
-pub record IsLeftOpen (c : Declarations) (limits : Limits) (matrix : Matrix) : Type 0 where
+-- neither is it proved clear, nor does it fail after the bound
+pub record IsLeftOpen (c : Component) (limits : Limits) (matrix : Matrix) : Type 0 where
   pub unproved : IsProved c matrix limits → ⊥
-  pub unfailing : (moves : ℕ) → FailsBehind c limits matrix moves → ⊥
+  pub unfailing : (moves : ℕ) → FailsAfter c limits matrix moves → ⊥
 
 -- what its nodes tell
-abbrev pub IsTold : Declarations → Limits → Matrix → Told → Type 0
+abbrev pub IsTold : Component → Limits → Matrix → Told → Type 0
 IsTold c limits matrix AllGood = IsProved c matrix limits
-IsTold c limits matrix (BadBehind moves) = FailsBehind c limits matrix moves
+IsTold c limits matrix (BadAfter moves) = FailsAfter c limits matrix moves
 IsTold c limits matrix Nothing = IsLeftOpen c limits matrix
 
 -- how it stands, where it does not fail
-abbrev pub IsStanding : Declarations → Limits → Matrix → Standing → Type 0
+abbrev pub IsStanding : Component → Limits → Matrix → Standing → Type 0
 IsStanding c limits matrix FullPass = HasReport IsFullPass c limits.bound limits.serial matrix
 IsStanding c limits matrix Proved = IsProved c matrix limits
 IsStanding c limits matrix (Open r) =
@@ -70,21 +70,21 @@ IsStanding c limits matrix (Open r) =
     × (Fails c limits matrix → ⊥)
 
 -- the report that shows that it fails, or how it stands
-abbrev pub IsJudged : Declarations → Limits → Matrix → Judged → Type 0
+abbrev pub IsJudged : Component → Limits → Matrix → Judged → Type 0
 IsJudged c limits matrix (Failing r) = IsFailingReport c limits matrix r
 IsJudged c limits matrix (Stands standing) = IsStanding c limits matrix standing
 
 -- within the bounds of a check's options
-abbrev pub IsJudgedWithin : Declarations → Choice → ℕ → Matrix → Judged → Type 0
+abbrev pub IsJudgedWithin : Component → Options → ℕ → Matrix → Judged → Type 0
 IsJudgedWithin c choice nodes matrix judged = IsJudged c (limits_of choice nodes) matrix judged
 
 -- what its nodes tell, or none where they tell nothing; where that is not tried, none
-abbrev pub IsJudgedFirst : Bool → Declarations → Limits → Matrix → Option Judged → Type 0
+abbrev pub IsJudgedFirst : Bool → Component → Limits → Matrix → Option Judged → Type 0
 IsJudgedFirst tried c limits matrix (Some judged) = IsJudged c limits matrix judged
 IsJudgedFirst tried c limits matrix None = tried ≡ true → IsLeftOpen c limits matrix
 
 -- its livelock, or none where there is none
-abbrev pub IsLivelockIfAny : Declarations → Limits → Matrix → Option (List Move) → Type 0
+abbrev pub IsLivelockIfAny : Component → Limits → Matrix → Option (List Move) → Type 0
 IsLivelockIfAny c limits matrix None = HasNoLivelock c limits matrix
 IsLivelockIfAny c limits matrix (Some u) = IsLivelock c limits matrix u
 
@@ -95,7 +95,7 @@ IsLost Clear = ⊥
 IsLost (Unclear smaller r) = ⊥
 IsLost (Lost smaller u) = Unit {0}
 
--- Behind one cut more, with this livelock or none, and how it stands: the first livelock stays, and
+-- After one cut more, with this livelock or none, and how it stands: the first livelock stays, and
 -- else the first that is not clear.
 abbrev pub so_far_after : SoFar → Matrix → Option (List Move) → Standing → SoFar
 so_far_after (Lost smaller u) matrix livelock standing = Lost smaller u
@@ -106,8 +106,8 @@ so_far_after Clear matrix None Proved = Clear
 so_far_after Clear matrix None (Open r) = Unclear matrix r
 so_far_after Clear matrix (Some u) standing = Lost matrix u
 
--- `new` is known behind this cut, where `old` was before it
-abbrev pub IsNext : Declarations → Limits → SoFar → Matrix → SoFar → Type 0
+-- `new` is known after this cut, where `old` was before it
+abbrev pub IsNext : Component → Limits → SoFar → Matrix → SoFar → Type 0
 IsNext c limits (Lost smaller u) matrix new = new ≡ Lost smaller u
 IsNext c limits (Unclear smaller r) matrix Clear = ⊥
 IsNext c limits (Unclear smaller r) matrix (Unclear other q) =
@@ -127,19 +127,19 @@ IsNext c limits Clear matrix (Lost other u) = (other ≡ matrix) × IsLivelock c
 abbrev pub IsToldBy : ℕ → Ending → Told → Type 0
 IsToldBy bound Well told = told ≡ AllGood
 IsToldBy bound (Badly moves) AllGood = ⊥
-IsToldBy bound (Badly moves) (BadBehind n) =
+IsToldBy bound (Badly moves) (BadAfter n) =
     (n ≡ moves) × (bound < moves) × (moves ≤ most_moves)
 IsToldBy bound (Badly moves) Nothing = bound < moves → most_moves < moves
 IsToldBy bound TooMany told = told ≡ Nothing
 
 -- the cut that stands so has this livelock, or none
-abbrev pub SeeksLivelock : {E : Type 0} → Declarations → Matrix → Limits → Standing
+abbrev pub SeeksLivelock : {E : Type 0} → Component → Matrix → Limits → Standing
     → Result (Option (List Move)) E → Type 0
 SeeksLivelock c matrix limits standing result =
     IsStanding c limits matrix standing → IfOk result (IsLivelockIfAny c limits matrix)
 
--- this is known behind a cut that stands so
-abbrev pub PassesCut : {E : Type 0} → Declarations → SoFar → Matrix → Limits → Standing
+-- this is known after a cut that stands so
+abbrev pub PassesCut : {E : Type 0} → Component → SoFar → Matrix → Limits → Standing
     → Result SoFar E → Type 0
 PassesCut c old matrix limits standing result =
     IsStanding c limits matrix standing → IfOk result (IsNext c limits old matrix)
@@ -147,12 +147,12 @@ PassesCut c old matrix limits standing result =
 -- ---- at the end
 
 -- no serial run offends
-abbrev pub IsWithoutOffence : Declarations → Matrix → ℕ → Type 0
+abbrev pub IsWithoutOffence : Component → Matrix → ℕ → Type 0
 IsWithoutOffence c matrix serial = FromEachStart c matrix (λ s. NoOffence s serial)
 
 -- Where no cut fails: the first livelock is shown, or the first that is not clear; where there is
 -- neither, the beginnings of the serial histories are the set.
-abbrev pub IsConcluded : Declarations → Matrix → SoFar → Certificate → Type 0
+abbrev pub IsConcluded : Component → Matrix → SoFar → Certificate → Type 0
 IsConcluded c matrix (Lost smaller u) certificate = certificate ≡ Livelock smaller u
 IsConcluded c matrix (Unclear smaller r) certificate = certificate ≡ Undecided smaller r
 IsConcluded c matrix Clear (Linearizable members) =

@@ -47,7 +47,7 @@ fn seek_livelock(
     }
 }
 
-/// What is known behind this cut, which stands so.
+/// What is known after this cut, which stands so.
 pub(crate) fn pass_cut(
     alloc: Global,
     component: &Component,

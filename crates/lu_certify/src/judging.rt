@@ -83,7 +83,7 @@ pub(crate) fn judge_first(
     }
     match tell_by_nodes(alloc, component, cut, limits)? {
         Told::AllGood => Ok(Some(Judged::Stands(Standing::Proved))),
-        Told::BadBehind(moves) => {
+        Told::BadAfter(moves) => {
             let report = check_one(alloc, alloc, component, cut, moves, limits.serial)?;
             Ok(Some(Judged::Failing(report)))
         }

@@ -33,7 +33,7 @@ impl SoFar {
         }
     }
 
-    /// The same behind one cut more: with this schedule as its livelock, or none, and how it
+    /// The same after one cut more: with this schedule as its livelock, or none, and how it
     /// stands.
     pub(crate) fn after(self, cut: Matrix, livelock: Option<Schedule>, standing: Standing) -> SoFar
         ensures { result ≡ so_far_after self cut livelock standing }

@@ -12,7 +12,7 @@ pub(crate) enum Told {
 
     /// There are few, no serial run offends, and the shortest schedule that ends badly has so many
     /// moves: more than the bound, and at most 256.
-    BadBehind(u16),
+    BadAfter(u16),
 
     /// Neither.
     Nothing,
@@ -29,7 +29,7 @@ impl Told {
             Ending::Well => Told::AllGood,
             Ending::Badly(moves) => {
                 if usize::from(bound) < moves && moves <= usize::from(MOST_MOVES) {
-                    Told::BadBehind(moves as u16)
+                    Told::BadAfter(moves as u16)
                 } else {
                     Told::Nothing
                 }

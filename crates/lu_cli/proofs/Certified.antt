@@ -1,7 +1,7 @@
 -- Answers to certificates that are refused.
 use Rattle.std.proofs.Common.{◌≡◌, refl, inr}
 use Rattle.std.specs.Prelude.{IfSome}
-use Rattle.lu_component.specs.Component.{Declarations}
+use Rattle.lu_component.specs.Component.{Component}
 use Rattle.lu_test.specs.Matrix.{Matrix}
 use Rattle.lu_cli.specs.declared.request.CertifyOptions.{CertifyOptions}
 use Rattle.lu_parallel.specs.declared.fault.CheckFault.{CheckFault}
@@ -9,6 +9,6 @@ use Rattle.lu_parallel.specs.declared.fault.CheckFault.TheVariants.{Memory, Work
 use Rattle.lu_cli.specs.Refusals.{worker_answer}
 use Rattle.lu_cli.specs.Certify.{IsCertified}
 
-pub certified_refused : (c : Declarations) (m : Matrix) (asked : CertifyOptions) (fault : CheckFault) → (asked.options.workers ≡ 1 → fault ≡ Memory) → IfSome (worker_answer fault) (IsCertified c m asked)
+pub certified_refused : (c : Component) (m : Matrix) (asked : CertifyOptions) (fault : CheckFault) → (asked.options.workers ≡ 1 → fault ≡ Memory) → IfSome (worker_answer fault) (IsCertified c m asked)
 certified_refused c m asked Memory alone = tt
 certified_refused c m asked Worker alone = inr (λ e. (let blamed = alone e in absurd cc), refl)

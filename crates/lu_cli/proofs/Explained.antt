@@ -3,7 +3,7 @@ use Rattle.std.proofs.Common.{◌≡◌, ℕ, Bool, true, false, List, Ok, Resul
 use Rattle.std.proofs.lemmas.Option.{IfSome_then}
 use Rattle.std.specs.Prelude.{IfSome, MatchBool}
 use Rattle.lu_text.specs.declared.fault.Fault.{Fault}
-use Rattle.lu_component.specs.Component.{Declarations}
+use Rattle.lu_component.specs.Component.{Component}
 use Rattle.lu_test.specs.declared.schedule.Move.{Move}
 use Rattle.lu_test.specs.declared.schedule_fault.ScheduleFault.{ScheduleFault}
 use Rattle.lu_test.specs.declared.schedule_fault.ScheduleFault.TheVariants.{Form, Number, Limit, Memory}
@@ -16,7 +16,7 @@ use Rattle.lu_machine.specs.Starts.{IsStart}
 use Rattle.lu_machine.specs.Runs.{Leads}
 use Rattle.lu_machine.specs.Schedules.{IsSchedule}
 use Rattle.lu_machine.proofs.Starting.{start_same}
-use Rattle.lu_report.specs.Parts.{Parts}
+use Rattle.lu_report.specs.Parts.{Report}
 use Rattle.lu_report.specs.declared.fault.ReportFaultKind.{ReportFaultKind}
 use Rattle.lu_report.specs.Forms.{IsFault, Spells}
 use Rattle.lu_replay.specs.Replays.{PlaysToStatus}
@@ -32,7 +32,7 @@ use Rattle.lu_cli.specs.Shown.{IsTextOfSchedule, IsShownRefusal, ToShown, or_sch
 use Rattle.lu_cli.proofs.Refuted.{report_refused}
 
 -- what shows something is a schedule from each start
-pub schedule_from : (c : Declarations) (m : Matrix) (u : List Move) (h : List Event) (status : Status) → PlaysToStatus c m u h status → (s : State) → IsStart c m s → IsSchedule s u
+pub schedule_from : (c : Component) (m : Matrix) (u : List Move) (h : List Event) (status : Status) → PlaysToStatus c m u h status → (s : State) → IsStart c m s → IsSchedule s u
 schedule_from c m u h status shows s is =
     let plays = shows.1 in
     let same = start_same c m plays.0 s plays.1 is in
@@ -70,7 +70,7 @@ module _ (text : List ℕ) (IsAnswer : Target → Answer → Type 0) where
   pub target_answered : (t : Target) → IsTarget text t → (answer : Answer) → IsAnswer t answer → ToTarget text IsAnswer answer
   target_answered t is answer says = go (is_report text) is
     where
-      go : (b : Bool) → MatchBool b ((r : Parts) × Spells text r × (t ≡ target.Report r)) ((u : List Move) × (schedule_of text ≡ Ok u) × (t ≡ target.Schedule u))
+      go : (b : Bool) → MatchBool b ((r : Report) × Spells text r × (t ≡ target.Report r)) ((u : List Move) × (schedule_of text ≡ Ok u) × (t ≡ target.Schedule u))
           → MatchBool b (ToReport text (λ r. IsAnswer (target.Report r)) answer) (ToSchedule (schedule_of text) (λ u. IsAnswer (target.Schedule u)) answer)
       go true (r, spells, e) = inl (r, spells, subst (λ (x : Target). IsAnswer x answer) e says)
       go false (u, spelled, e) = rw spelled (subst (λ (x : Target). IsAnswer x answer) e says)

@@ -1,4 +1,4 @@
--- Lines of messages, one behind the other.
+-- Lines of messages, one after the other.
 use Rattle.std.proofs.Common.{◌≡◌, ℕ, List, [], ◌∷◌, ◌++◌, refl, sym}
 use Rattle.std.proofs.lemmas.List.{append-nil, append_assoc}
 use Rattle.lu_source_lint.specs.declared.message.SourceMessage.{SourceMessage}

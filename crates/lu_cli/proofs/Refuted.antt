@@ -3,14 +3,14 @@ use Rattle.std.proofs.Common.{ℕ, zero, suc, List, [], ◌∷◌, sym, subst, a
 use Rattle.std.specs.Prelude.{All, IfSome, Option}
 use Rattle.std.proofs.lemmas.List.Elements.{All-take}
 use Rattle.std.proofs.lemmas.Option.{IfSome_then}
-use Rattle.lu_component.specs.Component.{Declarations}
+use Rattle.lu_component.specs.Component.{Component}
 use Rattle.lu_test.specs.declared.matrix.Call.{Call}
 use Rattle.lu_test.specs.declared.schedule.Move.{Move}
 use Rattle.lu_test.specs.Matrix.{Matrix, IsCallOf, IsOf, cut, first_calls}
 use Rattle.lu_history.specs.declared.serial.SerialOp.{SerialOp}
 use Rattle.lu_text.specs.declared.fault.Fault.{Fault}
 use Rattle.lu_text.specs.declared.fault.Fault.TheVariants.{At, Memory}
-use Rattle.lu_report.specs.Parts.{Parts}
+use Rattle.lu_report.specs.Parts.{Report}
 use Rattle.lu_report.specs.declared.fault.ReportFaultKind.{ReportFaultKind}
 use Rattle.lu_report.specs.Codes.{report_code_of}
 use Rattle.lu_report.specs.Forms.{IsFault}
@@ -28,17 +28,17 @@ use Rattle.lu_cli.specs.Reading.{ToGiven, ToReport, ToSpec, ToTexts}
 use Rattle.lu_cli.specs.Texts.{AreSettled, IsFaultOfTexts}
 
 -- the calls of a cut are the component's
-first_of : (c : Declarations) (threads : List (List Call)) (lengths : List ℕ) → All (λ calls. All (IsCallOf c) calls) threads → All (λ calls. All (IsCallOf c) calls) (first_calls threads lengths)
+first_of : (c : Component) (threads : List (List Call)) (lengths : List ℕ) → All (λ calls. All (IsCallOf c) calls) threads → All (λ calls. All (IsCallOf c) calls) (first_calls threads lengths)
 first_of c [] lengths of k d within = absurd (omega arith)
 first_of c (calls ∷ m) [] of k d within = absurd (omega arith)
 first_of c (calls ∷ m) (n ∷ ns) of zero d within = All-take (IsCallOf c) n calls (of zero d (omega arith))
 first_of c (calls ∷ m) (n ∷ ns) of (suc k) d within = first_of c m ns (λ j e w. of (suc j) e (omega arith)) k d (omega arith)
 
-cut_of : (c : Declarations) (matrix : Matrix) (lengths : List ℕ) → IsOf matrix c → IsOf (cut matrix lengths) c
+cut_of : (c : Component) (matrix : Matrix) (lengths : List ℕ) → IsOf matrix c → IsOf (cut matrix lengths) c
 cut_of c matrix lengths of = (of.0, first_of c matrix.threads lengths of.1)
 
 -- a counterexample is one of the component
-pub example_of : (c : Declarations) (matrix : Matrix) (Set : List SerialOp → Type 0) (example : Matrix × List Move) → IsOf matrix c → IsCounterexample c matrix Set example → IsOf example.0 c
+pub example_of : (c : Component) (matrix : Matrix) (Set : List SerialOp → Type 0) (example : Matrix × List Move) → IsOf matrix c → IsCounterexample c matrix Set example → IsOf example.0 c
 example_of c matrix Set example of is = subst (λ (m : Matrix). IsOf m c) (sym is.0.2) (cut_of c matrix is.0.0 of)
 
 -- what an answer or the line of a refusal is, is what is said
@@ -53,7 +53,7 @@ pub answered_more : (P Q : Answer → Type 0) → ((a : Answer) → P a → Q a)
 answered_more P Q h (Ok a) is = h a is
 answered_more P Q h (Err e) is = IfSome_then (refusal_answer e) {P = P} {Q = Q} is h
 
-pub report_refused : (text : List ℕ) (fault : Fault ReportFaultKind) (IsAnswer : Parts → Answer → Type 0) → IsFault text fault → IfSome (line_answer report_code_of fault) (ToReport text IsAnswer)
+pub report_refused : (text : List ℕ) (fault : Fault ReportFaultKind) (IsAnswer : Report → Answer → Type 0) → IsFault text fault → IfSome (line_answer report_code_of fault) (ToReport text IsAnswer)
 report_refused text (At kind n) IsAnswer is = inr (kind, n, is, refl)
 report_refused text Memory IsAnswer is = tt
 
@@ -66,12 +66,12 @@ given_refused matrix text (At kind n) IsAnswer is = inr (kind, n, is, refl)
 given_refused matrix text Memory IsAnswer is = tt
 
 -- what is said of the answer to a component and a matrix is said of that to their texts
-pub texts_answered : (component matrix : List ℕ) (c : Declarations) (m : Matrix) (IsAnswer : Declarations → Matrix → Answer → Type 0) → AreSettled component matrix c m → (result : Result Answer Refusal) → Answered (IsAnswer c m) result → Answered (ToTexts component matrix IsAnswer) result
+pub texts_answered : (component matrix : List ℕ) (c : Component) (m : Matrix) (IsAnswer : Component → Matrix → Answer → Type 0) → AreSettled component matrix c m → (result : Result Answer Refusal) → Answered (IsAnswer c m) result → Answered (ToTexts component matrix IsAnswer) result
 texts_answered component matrix c m IsAnswer are result is =
     answered_more (IsAnswer c m) (ToTexts component matrix IsAnswer) (λ a h. rw (are.0.0, are.0.1) (inl (are.1, h))) result is
 
 -- the fault of the texts is what is said of them
-pub texts_refused : (component matrix : List ℕ) (fault : TextsFault) (IsAnswer : Declarations → Matrix → Answer → Type 0) → IsFaultOfTexts component matrix fault → IfSome (texts_answer fault) (ToTexts component matrix IsAnswer)
+pub texts_refused : (component matrix : List ℕ) (fault : TextsFault) (IsAnswer : Component → Matrix → Answer → Type 0) → IsFaultOfTexts component matrix fault → IfSome (texts_answer fault) (ToTexts component matrix IsAnswer)
 texts_refused component matrix (variant.Component (At kind n)) IsAnswer is = rw is refl
 texts_refused component matrix (variant.Component Memory) IsAnswer is = tt
 texts_refused component matrix (variant.Matrix (At kind n)) IsAnswer is = rw (is.1, is.2) refl

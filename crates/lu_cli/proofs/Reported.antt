@@ -1,26 +1,26 @@
 -- Answers to serial runs and to removals.
 use Rattle.std.proofs.Common.{◌≡◌, ℕ, subst, List, Result, Ok, Err, inl, inr}
 use Rattle.std.specs.Prelude.{IfOk}
-use Rattle.lu_component.specs.Component.{Declarations}
+use Rattle.lu_component.specs.Component.{Component}
 use Rattle.lu_test.specs.Matrix.{Matrix}
 use Rattle.lu_machine.specs.States.{State}
 use Rattle.lu_machine.specs.Starts.{IsStart, Settles}
 use Rattle.lu_machine.proofs.Starting.{start_there}
 use Rattle.lu_history.specs.declared.serial.SerialOp.{SerialOp}
 use Rattle.lu_serial.specs.Offences.{IsSetOf}
-use Rattle.lu_report.specs.Parts.{Parts}
+use Rattle.lu_report.specs.Parts.{Report}
 use Rattle.lu_replay.specs.Reports.{IsReport}
 use Rattle.lu_spec.specs.Beginnings.{IsClosureOf}
 use Rattle.lu_refine.specs.declared.shrink_fault.ShrinkFault.{ShrinkFault}
 use Rattle.lu_refine.specs.declared.shrink_fault.ShrinkFault.TheVariants.{NotFailing}
 use Rattle.lu_refine.specs.Removals.{IsShrinkFault, IsShrunk}
-use Rattle.lu_report.specs.Limits.{Limits}
+use Rattle.lu_report.specs.Limits.{Bounds}
 use Rattle.lu_cli.specs.Outcomes.{Answer}
 use Rattle.lu_cli.specs.Serial.{IsRunSerially}
 use Rattle.lu_cli.specs.Shows.{IsListed, reported, with_matrix}
 use Rattle.lu_cli.specs.Shrink.{ShowsShrunk}
 
-module _ {E : Type 0} (c : Declarations) (matrix : Matrix) (limits : Limits) where
+module _ {E : Type 0} (c : Component) (matrix : Matrix) (limits : Bounds) where
   -- the specification of the serial histories
   pub set_serial : (histories members : List (List SerialOp)) → Settles c matrix → ((s : State) → IsStart c matrix s → IsSetOf s limits.serial histories) → IsClosureOf histories members → (result : Result Answer E) → IfOk result (IsListed members) → IfOk result (IsRunSerially c matrix limits)
   set_serial histories members settles is closure (Ok answer) listed =
@@ -30,14 +30,14 @@ module _ {E : Type 0} (c : Declarations) (matrix : Matrix) (limits : Limits) whe
   set_serial histories members settles is closure (Err e) h = tt
 
   -- a matrix that does not fail is not shrunk
-  pub not_failing : (bound serial : ℕ) → bound ≡ limits.bound → serial ≡ limits.serial → (fault : ShrinkFault) (r : Parts) → fault ≡ NotFailing r → IsShrinkFault c matrix bound serial fault → (result : Result Answer E) → IfOk result (λ answer. answer ≡ reported r) → IfOk result (ShowsShrunk c matrix limits)
+  pub not_failing : (bound serial : ℕ) → bound ≡ limits.bound → serial ≡ limits.serial → (fault : ShrinkFault) (r : Report) → fault ≡ NotFailing r → IsShrinkFault c matrix bound serial fault → (result : Result Answer E) → IfOk result (λ answer. answer ≡ reported r) → IfOk result (ShowsShrunk c matrix limits)
   not_failing bound serial b s fault r f is (Ok answer) e =
       let told = subst (IsShrinkFault c matrix bound serial) f is in
       inr (r, subst (λ x. IsReport c matrix x limits.serial r) b (subst (λ x. IsReport c matrix bound x r) s told.0), told.1, e)
   not_failing bound serial b s fault r f is (Err e) h = tt
 
   -- a matrix that is left
-  pub left_shown : (bound serial : ℕ) → bound ≡ limits.bound → serial ≡ limits.serial → (smaller : Matrix) (r : Parts) → IsShrunk c matrix bound serial (smaller, r) → (result : Result Answer E) → IfOk result (λ answer. answer ≡ with_matrix c smaller r) → IfOk result (ShowsShrunk c matrix limits)
+  pub left_shown : (bound serial : ℕ) → bound ≡ limits.bound → serial ≡ limits.serial → (smaller : Matrix) (r : Report) → IsShrunk c matrix bound serial (smaller, r) → (result : Result Answer E) → IfOk result (λ answer. answer ≡ with_matrix c smaller r) → IfOk result (ShowsShrunk c matrix limits)
   left_shown bound serial b s smaller r is (Ok answer) e =
       inl (smaller, r, subst (λ x. IsShrunk c matrix x limits.serial (smaller, r)) b (subst (λ x. IsShrunk c matrix bound x (smaller, r)) s is), e)
   left_shown bound serial b s smaller r is (Err e) h = tt

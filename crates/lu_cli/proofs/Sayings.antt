@@ -10,7 +10,7 @@ use Rattle.lu_text.specs.declared.fault.Fault.{Fault}
 use Rattle.lu_text.specs.declared.fault.Fault.TheVariants.{At, Memory}
 use Rattle.lu_text.specs.Faults.{meaning_of}
 use Rattle.lu_text.specs.Words.{exactly_two, exactly_three, exactly_four}
-use Rattle.lu_component.specs.Component.{Declarations}
+use Rattle.lu_component.specs.Component.{Component}
 use Rattle.lu_lang.specs.Kinds.{code_of}
 use Rattle.lu_lang.specs.Grammar.{component_grammar}
 use Rattle.lu_test.specs.declared.matrix.Call.{Call}
@@ -29,8 +29,8 @@ use Rattle.lu_history.specs.declared.serial.SerialOp.{SerialOp}
 use Rattle.lu_report.specs.declared.report.Finding.{Finding}
 use Rattle.lu_report.specs.declared.report.Finding.TheVariants.{SerialCut, Nondeterministic, Fail, Pass}
 use Rattle.lu_report.specs.Codes.{report_code_of}
-use Rattle.lu_report.specs.Parts.{Parts, shown_schedule}
-use Rattle.lu_parallel.specs.Ranges.{Choice}
+use Rattle.lu_report.specs.Parts.{Report, shown_schedule}
+use Rattle.lu_parallel.specs.Ranges.{Options}
 use Rattle.lu_spec.specs.Codes.{spec_code_of}
 use Rattle.lu_refine.specs.declared.campaigns.Campaign.{Campaign}
 use Rattle.lu_refine.specs.ByThread.{Asked}
@@ -51,7 +51,7 @@ use Rattle.lu_cli.specs.declared.failing.View.{View}
 use Rattle.lu_cli.specs.declared.failing.View.TheVariants as view
 use Rattle.lu_cli.specs.Args.{most_long}
 use Rattle.lu_cli.specs.Failing.{AloneOr, IsShownAlone, ShowsByView, ShowsFailing, ShowsRun, below, failure, in_words, view_of_failure}
-use Rattle.lu_cli.specs.Shown.{IsRunShown, IsAnswerToTraceOrDraw, IsShownBehind, ToShown, or_schedule, shown_parts}
+use Rattle.lu_cli.specs.Shown.{IsRunShown, IsAnswerToTraceOrDraw, IsShownAfter, ToShown, or_schedule, shown_parts}
 use Rattle.lu_cli.specs.declared.request.CampaignPart.{CampaignPart}
 use Rattle.lu_cli.specs.declared.request.CampaignPart.TheVariants.{Whole, Slice, Count}
 use Rattle.lu_cli.specs.declared.request.CampaignThreads.{CampaignThreads}
@@ -63,18 +63,18 @@ use Rattle.lu_cli.specs.declared.request.BundleCommand.TheVariants.{Replay, Trac
 use Rattle.lu_trace.specs.declared.wording.Wording.{Wording}
 use Rattle.lu_source_text.specs.Begins.{is_source}
 use Rattle.lu_source_text.specs.declared.fault.SourceFaultKind.{SourceFaultKind}
-use Rattle.lu_cli.specs.Linting.{IsFaulted, IsLint, IsLinted, IsLintedBehind, IsLintedBy, IsSourceLinted, below_source}
+use Rattle.lu_cli.specs.Linting.{IsFaulted, IsLint, IsLinted, IsLintedAfter, IsLintedBy, IsSourceLinted, below_source}
 use Rattle.lu_cli.specs.Telling.{IsWordingOf}
 use Rattle.lu_cli.specs.declared.explanation.Presentation.{Presentation}
 use Rattle.lu_cli.specs.declared.explanation.Presenting.{Presenting}
 use Rattle.lu_cli.specs.declared.explanation.Presentation.TheVariants.{Words, Picture}
-use Rattle.lu_explain.specs.Explanations.{Explained}
+use Rattle.lu_explain.specs.Explanations.{Explanation}
 use Rattle.lu_lint.specs.Said.{is_fault}
 use Rattle.std.specs.List.{list_any}
 use Rattle.lu_cli.specs.Drawing.{IsDrawnExplained}
 use Rattle.lu_cli.specs.declared.explanation.Target.{Target}
 use Rattle.lu_cli.specs.declared.explanation.Target.TheVariants as target
-use Rattle.lu_cli.specs.Explaining.{IsAnswerToExplainAgainst, IsExplainBehind, IsAnswerToExplain, IsExplainedAgainstText, IsExplainedText, ToTarget, is_report, limits_for, view_of}
+use Rattle.lu_cli.specs.Explaining.{IsAnswerToExplainAgainst, IsExplainAfter, IsAnswerToExplain, IsExplainedAgainstText, IsExplainedText, ToTarget, is_report, limits_for, view_of}
 use Rattle.lu_cli.specs.Explanation.{IsExplainedTarget, IsExplainedHistory, IsExplainedSchedule, IsExplainedSerially, IsPicturedHistory, IsPresentedAs, IsPresentedHistory, ToEnded, ToFinding, status_by, unexplained}
 use Rattle.lu_recorded.specs.declared.recorded.Recorded.{Recorded}
 use Rattle.lu_recorded.specs.Codes.{recorded_code_of}
@@ -90,7 +90,7 @@ use Rattle.lu_cli.specs.declared.request.Showing.{Showing}
 use Rattle.lu_cli.specs.declared.request.Showing.TheVariants.{Count as CountAlone, Schedules}
 use Rattle.lu_text.specs.Bundle.{bundle_parts}
 use Rattle.lu_cli.specs.Help.{help_answer}
-use Rattle.lu_report.specs.Limits.{Limits}
+use Rattle.lu_report.specs.Limits.{Bounds}
 use Rattle.lu_cli.specs.declared.failing.RunView.{RunView}
 use Rattle.lu_cli.specs.declared.failing.RunView.TheVariants as run
 use Rattle.lu_cli.specs.Campaigning.{IsAnswerToAlike, IsCheckedPart, IsAnswerToTrial, IsCheckedWhole, IsCampaignAlike, IsCampaignByThreads, IsCampaignOfMatrix, IsCertifiedPart, IsCertifiedNumbers, IsCountAnswer, IsCheckedNumbers, IsSurveyedNumbers, IsSurveyedPart, IsTriedAll, IsTriedPart, ShowsCertified, found_answer, lists_of, survey_status}
@@ -173,18 +173,18 @@ status_of_else (Nondeterministic u before earlier) e = omega arith
 status_of_else (Fail u why) e = omega arith
 status_of_else (Pass counts) e = omega arith
 
-reported_else : (r : Parts) (answer : Answer) → answer ≡ reported r → IsElse answer
+reported_else : (r : Report) (answer : Answer) → answer ≡ reported r → IsElse answer
 reported_else r answer is = status_else answer (status_of r.finding) (ap (λ (a : Answer). a.status) is) (status_of_else r.finding)
 
-replayed_else : (c : Declarations) (m : Matrix) (u : List Move) (answer : Answer) → IsReplayed c m u answer → IsElse answer
+replayed_else : (c : Component) (m : Matrix) (u : List Move) (answer : Answer) → IsReplayed c m u answer → IsElse answer
 replayed_else c m u answer (inl is) = status_else answer 0 (ap (λ (a : Answer). a.status) is.3) (λ e. omega arith)
 replayed_else c m u answer (inr is) = status_else answer 1 (ap (λ (a : Answer). a.status) is.2) (λ e. omega arith)
 
-traced_else : (start : TraceStart) (how : Wording) (c : Declarations) (m : Matrix) (u : List Move) (answer : Answer) → IsTraced start how c m u answer → IsElse answer
+traced_else : (start : TraceStart) (how : Wording) (c : Component) (m : Matrix) (u : List Move) (answer : Answer) → IsTraced start how c m u answer → IsElse answer
 traced_else start how c m u answer (inl is) = status_else answer 0 (ap (λ (a : Answer). a.status) is.2) (λ e. omega arith)
 traced_else start how c m u answer (inr is) = status_else answer 1 (ap (λ (a : Answer). a.status) is.2) (λ e. omega arith)
 
-drawn_else : (how : Wording) (why : Option Explained) (c : Declarations) (m : Matrix) (u : List Move) (answer : Answer) → IsDrawnExplained how why c m u answer → IsElse answer
+drawn_else : (how : Wording) (why : Option Explanation) (c : Component) (m : Matrix) (u : List Move) (answer : Answer) → IsDrawnExplained how why c m u answer → IsElse answer
 drawn_else how why c m u answer (inl is) = status_else answer 0 (ap (λ (a : Answer). a.status) is.2) (λ e. omega arith)
 drawn_else how why c m u answer (inr is) = status_else answer 1 (ap (λ (a : Answer). a.status) is.2) (λ e. omega arith)
 
@@ -192,47 +192,47 @@ scheduled_else : (r : Result (List Move) ScheduleFault) (IsAnswer : List Move �
 scheduled_else (Ok u) IsAnswer answer h is = h u is
 scheduled_else (Err fault) IsAnswer answer h is = refused_else _ answer is
 
-serial_else : (c : Declarations) (m : Matrix) (limits : Limits) (answer : Answer) → IsRunSerially c m limits answer → IsElse answer
+serial_else : (c : Component) (m : Matrix) (limits : Bounds) (answer : Answer) → IsRunSerially c m limits answer → IsElse answer
 serial_else c m limits answer (inl is) = status_else answer 0 (ap (λ (a : Answer). a.status) is.3.4.2) (λ e. omega arith)
 serial_else c m limits answer (inr is) = reported_else is.0 answer is.3
 
-checked_else : (c : Declarations) (m : Matrix) (choice : Choice) (answer : Answer) → IsChecked c m choice answer → IsElse answer
+checked_else : (c : Component) (m : Matrix) (choice : Options) (answer : Answer) → IsChecked c m choice answer → IsElse answer
 checked_else c m choice answer (inl is) = reported_else is.0 answer is.2
 checked_else c m choice answer (inr is) = text_else answer 75 (ap (byte_of 8) is.1) (λ e. omega arith)
 
-against_else : (c : Declarations) (m : Matrix) (choice : Choice) (members : List (List SerialOp)) (answer : Answer) → IsCheckedAgainst c m choice members answer → IsElse answer
+against_else : (c : Component) (m : Matrix) (choice : Options) (members : List (List SerialOp)) (answer : Answer) → IsCheckedAgainst c m choice members answer → IsElse answer
 against_else c m choice members answer (inl is) = reported_else is.0 answer is.2
 against_else c m choice members answer (inr is) = text_else answer 75 (ap (byte_of 8) is.1) (λ e. omega arith)
 
 other_status : (answer : Answer) (n : ℕ) → answer.status ≡ n → (n ≡ 4 → ⊥) → answer.status ≡ 4 → ⊥
 other_status answer n is other e = other (sym is ∙ e)
 
-certificate_status : (c : Declarations) (certificate : Certificate) (answer : Answer) → ShowsCertificate c certificate answer → answer.status ≡ 4 → ⊥
+certificate_status : (c : Component) (certificate : Certificate) (answer : Answer) → ShowsCertificate c certificate answer → answer.status ≡ 4 → ⊥
 certificate_status c (Linearizable members) answer is = other_status answer 0 (ap (λ (a : Answer). a.status) is.2) (λ e. omega arith)
 certificate_status c (NotLinearizable smaller r) answer is = other_status answer 1 (ap (λ (a : Answer). a.status) is) (λ e. omega arith)
 certificate_status c (Livelock smaller u) answer is = other_status answer 1 (ap (λ (a : Answer). a.status) is) (λ e. omega arith)
 certificate_status c (Undecided smaller r) answer is = other_status answer 3 (ap (λ (a : Answer). a.status) is) (λ e. omega arith)
 
-shown_else : (c : Declarations) (certificate : Certificate) (answer : Answer) → ShowsCertificate c certificate answer → IsElse answer
+shown_else : (c : Component) (certificate : Certificate) (answer : Answer) → ShowsCertificate c certificate answer → IsElse answer
 shown_else c certificate answer is = status_else answer answer.status refl (certificate_status c certificate answer is)
 
 -- what fails is told with status 1
 failure_else : (answer : Answer) (text : List ℕ) → answer ≡ failure text → IsElse answer
 failure_else answer text is = status_else answer 1 (ap (λ (a : Answer). a.status) is) (λ e. omega arith)
 
-run_else : (view : View) (how : Wording) (c : Declarations) (cut : Matrix) (u : List Move) (text : List ℕ) (answer : Answer) → ShowsRun view how c cut u text answer → IsElse answer
+run_else : (view : View) (how : Wording) (c : Component) (cut : Matrix) (u : List Move) (text : List ℕ) (answer : Answer) → ShowsRun view how c cut u text answer → IsElse answer
 run_else view.Explanation how c cut u text answer (steps, made, is) = failure_else answer (below text steps) is
 run_else (view.Trace start) how c cut u text answer (steps, made, is) = failure_else answer (below text steps) is
 run_else view.Picture how c cut u text answer (picture, made, is) = failure_else answer picture.text is
 run_else view.ExplainedPicture how c cut u text answer (picture, made, is) = failure_else answer picture.text is
 
-failing_else : (view : View) (how : Wording) (c : Declarations) (cut : Matrix) (r : Parts) (u : List Move) (answer : Answer) → ShowsFailing view how c cut r u answer → IsElse answer
+failing_else : (view : View) (how : Wording) (c : Component) (cut : Matrix) (r : Report) (u : List Move) (answer : Answer) → ShowsFailing view how c cut r u answer → IsElse answer
 failing_else view.Explanation how c cut r u answer (why, explains, is) = run_else view.Explanation how c cut u (below (two_texts c cut r) why) answer is
 failing_else view.ExplainedPicture how c cut r u answer (picture, explains, is) = failure_else answer picture.text is
 failing_else (view.Trace start) how c cut r u answer is = run_else (view.Trace start) how c cut u (two_texts c cut r) answer is
 failing_else view.Picture how c cut r u answer is = run_else view.Picture how c cut u (two_texts c cut r) answer is
 
-by_view_else : (view : View) (how : Wording) (c : Declarations) (certificate : Certificate) (answer : Answer) → ShowsByView view how c certificate answer → IsElse answer
+by_view_else : (view : View) (how : Wording) (c : Component) (certificate : Certificate) (answer : Answer) → ShowsByView view how c certificate answer → IsElse answer
 by_view_else view how c (Linearizable members) answer is = shown_else c (Linearizable members) answer is
 by_view_else view how c (Undecided cut r) answer is = shown_else c (Undecided cut r) answer is
 by_view_else view how c (Livelock cut u) answer is = run_else view how c cut u (with_schedule c (cut, u)).text answer is
@@ -242,7 +242,7 @@ by_view_else view how c (NotLinearizable cut r) answer is = go (shown_schedule r
     go None is = shown_else c (NotLinearizable cut r) answer is
     go (Some u) is = failing_else view how c cut r u answer is
 
-certified_else : (c : Declarations) (m : Matrix) (asked : CertifyOptions) (answer : Answer) → IsCertified c m asked answer → IsElse answer
+certified_else : (c : Component) (m : Matrix) (asked : CertifyOptions) (answer : Answer) → IsCertified c m asked answer → IsElse answer
 certified_else c m asked answer (inl is) = shown_else c is.0 answer is.2
 certified_else c m asked answer (inr is) = text_else answer 75 (ap (byte_of 8) is.1) (λ e. omega arith)
 
@@ -251,24 +251,24 @@ value_else code (Ok x) IsAnswer answer h is = h x is
 value_else code (Err (At kind n)) IsAnswer answer h is = refused_else _ answer is
 value_else code (Err Memory) IsAnswer answer h is = absurd is
 
-settled_else : (c : Declarations) (m : Matrix) (IsAnswer : Answer → Type 0) (answer : Answer) → (IsAnswer answer → IsElse answer) → ToSettled c m IsAnswer answer → IsElse answer
+settled_else : (c : Component) (m : Matrix) (IsAnswer : Answer → Type 0) (answer : Answer) → (IsAnswer answer → IsElse answer) → ToSettled c m IsAnswer answer → IsElse answer
 settled_else c m IsAnswer answer h (inl is) = h is.1
 settled_else c m IsAnswer answer h (inr is) = refused_else (codes "U1 call " ++ decimal is.0) answer is.2
 
-texts_else : (component matrix : List ℕ) (IsAnswer : Declarations → Matrix → Answer → Type 0) (answer : Answer) → ((c : Declarations) (m : Matrix) → IsAnswer c m answer → IsElse answer) → ToTexts component matrix IsAnswer answer → IsElse answer
+texts_else : (component matrix : List ℕ) (IsAnswer : Component → Matrix → Answer → Type 0) (answer : Answer) → ((c : Component) (m : Matrix) → IsAnswer c m answer → IsElse answer) → ToTexts component matrix IsAnswer answer → IsElse answer
 texts_else component matrix IsAnswer answer h is =
     value_else code_of (meaning_of component_grammar component) (λ c. ToMatrix c matrix (λ m. ToSettled c m (IsAnswer c m))) answer
     (λ c more. value_else matrix_code_of (meaning_of (matrix_grammar c) matrix) (λ m. ToSettled c m (IsAnswer c m)) answer
     (λ m last. settled_else c m (IsAnswer c m) answer (h c m) last) more) is
 
-component_else : (text : List ℕ) (IsAnswer : Declarations → Answer → Type 0) (answer : Answer) → ((c : Declarations) → IsAnswer c answer → IsElse answer) → ToComponent text IsAnswer answer → IsElse answer
+component_else : (text : List ℕ) (IsAnswer : Component → Answer → Type 0) (answer : Answer) → ((c : Component) → IsAnswer c answer → IsElse answer) → ToComponent text IsAnswer answer → IsElse answer
 component_else text IsAnswer answer h is = go (is_source text) is
   where
     go : (b : Bool) → MatchBool b (ToValue source_code_of (component_meant text) IsAnswer answer) (ToValue code_of (meaning_of component_grammar text) IsAnswer answer) → IsElse answer
     go true is = value_else source_code_of (component_meant text) IsAnswer answer h is
     go false is = value_else code_of (meaning_of component_grammar text) IsAnswer answer h is
 
-told_else : (text matrix : List ℕ) (IsAnswer : Wording → Declarations → Matrix → Answer → Type 0) (answer : Answer) → ((how : Wording) (c : Declarations) (m : Matrix) → IsAnswer how c m answer → IsElse answer) → ToTold text matrix IsAnswer answer → IsElse answer
+told_else : (text matrix : List ℕ) (IsAnswer : Wording → Component → Matrix → Answer → Type 0) (answer : Answer) → ((how : Wording) (c : Component) (m : Matrix) → IsAnswer how c m answer → IsElse answer) → ToTold text matrix IsAnswer answer → IsElse answer
 told_else text matrix IsAnswer answer h is =
     component_else text (λ c. ToMatrix c matrix (λ m. ToSettled c m (λ a. (how : Wording) × IsWordingOf text how × IsAnswer how c m a))) answer
     (λ c more. value_else matrix_code_of (meaning_of (matrix_grammar c) matrix) (λ m. ToSettled c m (λ a. (how : Wording) × IsWordingOf text how × IsAnswer how c m a)) answer
@@ -278,11 +278,11 @@ parts_else : {A : Type 0} (parts : Option A) (IsAnswer : A → Answer → Type 0
 parts_else None IsAnswer answer h is = refused_else (codes "B1") answer is
 parts_else (Some parts) IsAnswer answer h is = h parts is
 
-two_else : (parts : List (List ℕ)) (IsAnswer : Declarations → Matrix → Answer → Type 0) (answer : Answer) → ((c : Declarations) (m : Matrix) → IsAnswer c m answer → IsElse answer) → ToParts (exactly_two parts) (λ p. ToTexts p.0 p.1 IsAnswer) answer → IsElse answer
+two_else : (parts : List (List ℕ)) (IsAnswer : Component → Matrix → Answer → Type 0) (answer : Answer) → ((c : Component) (m : Matrix) → IsAnswer c m answer → IsElse answer) → ToParts (exactly_two parts) (λ p. ToTexts p.0 p.1 IsAnswer) answer → IsElse answer
 two_else parts IsAnswer answer h is =
     parts_else (exactly_two parts) (λ p. ToTexts p.0 p.1 IsAnswer) answer (λ p more. texts_else p.0 p.1 IsAnswer answer h more) is
 
-three_else : (parts : List (List ℕ)) (IsAnswer : Declarations → Matrix → List Move → Answer → Type 0) (answer : Answer) → ((c : Declarations) (m : Matrix) (u : List Move) → IsAnswer c m u answer → IsElse answer) → ToParts (exactly_three parts) (λ p. ToTexts p.0 p.1 (λ c m. ToSchedule (schedule_of p.2) (IsAnswer c m))) answer → IsElse answer
+three_else : (parts : List (List ℕ)) (IsAnswer : Component → Matrix → List Move → Answer → Type 0) (answer : Answer) → ((c : Component) (m : Matrix) (u : List Move) → IsAnswer c m u answer → IsElse answer) → ToParts (exactly_three parts) (λ p. ToTexts p.0 p.1 (λ c m. ToSchedule (schedule_of p.2) (IsAnswer c m))) answer → IsElse answer
 three_else parts IsAnswer answer h is =
     parts_else (exactly_three parts) (λ p. ToTexts p.0 p.1 (λ c m. ToSchedule (schedule_of p.2) (IsAnswer c m))) answer
     (λ p more. texts_else p.0 p.1 (λ c m. ToSchedule (schedule_of p.2) (IsAnswer c m)) answer (λ c m play. scheduled_else (schedule_of p.2) (IsAnswer c m) answer (h c m) play) more) is
@@ -290,8 +290,8 @@ three_else parts IsAnswer answer h is =
 told_shown_else : (text : List ℕ) (IsAnswer : List Move → Answer → Type 0) (answer : Answer) → ((u : List Move) → IsAnswer u answer → IsElse answer) → ToShown text IsAnswer answer → IsElse answer
 told_shown_else text IsAnswer answer h (found, of, more) = scheduled_else (or_schedule found text) IsAnswer answer h more
 
-behind_else : (parts : List (List ℕ)) (IsAnswer : Wording → Declarations → Matrix → List Move → Answer → Type 0) (answer : Answer) → ((how : Wording) (c : Declarations) (m : Matrix) (u : List Move) → IsAnswer how c m u answer → IsElse answer) → ToParts (shown_parts parts) (λ p. ToTold p.0 p.1 (λ how c m. ToShown p.2 (IsAnswer how c m))) answer → IsElse answer
-behind_else parts IsAnswer answer h is =
+after_else : (parts : List (List ℕ)) (IsAnswer : Wording → Component → Matrix → List Move → Answer → Type 0) (answer : Answer) → ((how : Wording) (c : Component) (m : Matrix) (u : List Move) → IsAnswer how c m u answer → IsElse answer) → ToParts (shown_parts parts) (λ p. ToTold p.0 p.1 (λ how c m. ToShown p.2 (IsAnswer how c m))) answer → IsElse answer
+after_else parts IsAnswer answer h is =
     parts_else (shown_parts parts) (λ p. ToTold p.0 p.1 (λ how c m. ToShown p.2 (IsAnswer how c m))) answer
     (λ p more. told_else p.0 p.1 (λ how c m. ToShown p.2 (IsAnswer how c m)) answer (λ how c m play. told_shown_else p.2 (IsAnswer how c m) answer (h how c m) play) more) is
 
@@ -302,18 +302,18 @@ alone_or_else view IsShown parts answer h is = go (exactly_two parts) is
     go None is = h is
     go (Some p) is = told_else p.0 p.1 (IsShownAlone view) answer (λ how c m shown. by_view_else view how c shown.0 answer shown.2) is
 
-matrix_else : (c : Declarations) (m : Matrix) (r : Parts) (answer : Answer) → answer ≡ with_matrix c m r → IsElse answer
+matrix_else : (c : Component) (m : Matrix) (r : Report) (answer : Answer) → answer ≡ with_matrix c m r → IsElse answer
 matrix_else c m r answer is = status_else answer (status_of r.finding) (ap (λ (a : Answer). a.status) is) (status_of_else r.finding)
 
-shrink_else : (c : Declarations) (m : Matrix) (limits : Limits) (answer : Answer) → ShowsShrunk c m limits answer → IsElse answer
+shrink_else : (c : Component) (m : Matrix) (limits : Bounds) (answer : Answer) → ShowsShrunk c m limits answer → IsElse answer
 shrink_else c m limits answer (inl is) = matrix_else c is.0 is.1 answer is.3
 shrink_else c m limits answer (inr is) = reported_else is.0 answer is.3
 
-refuted_else : (c : Declarations) (m : Matrix) (r : Parts) (members : List (List SerialOp)) (answer : Answer) → IsRefuted c m r members answer → IsElse answer
+refuted_else : (c : Component) (m : Matrix) (r : Report) (members : List (List SerialOp)) (answer : Answer) → IsRefuted c m r members answer → IsElse answer
 refuted_else c m r members answer (inl is) = status_else answer 1 (ap (λ (a : Answer). a.status) is.1.2) (λ e. omega arith)
 refuted_else c m r members answer (inr is) = refused_else (codes "F2") answer is.1
 
-report_else : (text : List ℕ) (IsAnswer : Parts → Answer → Type 0) (answer : Answer) → ((r : Parts) → IsAnswer r answer → IsElse answer) → ToReport text IsAnswer answer → IsElse answer
+report_else : (text : List ℕ) (IsAnswer : Report → Answer → Type 0) (answer : Answer) → ((r : Report) → IsAnswer r answer → IsElse answer) → ToReport text IsAnswer answer → IsElse answer
 report_else text IsAnswer answer h (inl is) = h is.0 is.2
 report_else text IsAnswer answer h (inr is) = refused_else (report_code_of is.0 ++ codes " line " ++ decimal is.1) answer is.3
 
@@ -325,12 +325,12 @@ given_else : (m : Matrix) (text : List ℕ) (IsAnswer : List (List SerialOp) →
 given_else m text IsAnswer answer h (inl is) = h is.0 is.2
 given_else m text IsAnswer answer h (inr is) = refused_else (spec_code_of is.0 ++ codes " line " ++ decimal is.1) answer is.3
 
-refute_else : (c : Declarations) (m : Matrix) (report spec : List ℕ) (answer : Answer) → IsRefutedTexts c m report spec answer → IsElse answer
+refute_else : (c : Component) (m : Matrix) (report spec : List ℕ) (answer : Answer) → IsRefutedTexts c m report spec answer → IsElse answer
 refute_else c m report spec answer is =
     report_else report (λ r. ToSpec m spec (IsRefuted c m r)) answer
     (λ r more. spec_else m spec (IsRefuted c m r) answer (λ members last. refuted_else c m r members answer last) more) is
 
-spec_parts_else : (choice : Choice) (parts : List (List ℕ)) (answer : Answer) → IsAnswerToCheckAgainst choice parts answer → IsElse answer
+spec_parts_else : (choice : Options) (parts : List (List ℕ)) (answer : Answer) → IsAnswerToCheckAgainst choice parts answer → IsElse answer
 spec_parts_else choice parts answer is =
     parts_else (exactly_three parts) (λ p. ToTexts p.0 p.1 (λ c m. IsCheckedAgainstText c m choice p.2)) answer
     (λ p more. texts_else p.0 p.1 (λ c m. IsCheckedAgainstText c m choice p.2) answer
@@ -349,7 +349,7 @@ status_by_else Good e = omega arith
 status_by_else NoWitness e = omega arith
 status_by_else (NoWitnessFor t) e = omega arith
 
-by_else : (members : List (List SerialOp)) (c : Declarations) (m : Matrix) (u : List Move) (h : List Event) (answer : Answer) → IsExplainedHistory members c m u h answer → IsElse answer
+by_else : (members : List (List SerialOp)) (c : Component) (m : Matrix) (u : List Move) (h : List Event) (answer : Answer) → IsExplainedHistory members c m u h answer → IsElse answer
 by_else members c m u h answer is = status_else answer (status_by is.2) (ap (λ (a : Answer). a.status) is.6) (status_by_else is.2)
 
 ended_else : (status : Status) (IsAnswer : Answer → Type 0) (answer : Answer) → (IsAnswer answer → IsElse answer) → ToEnded status IsAnswer answer → IsElse answer
@@ -357,17 +357,17 @@ ended_else Running IsAnswer answer h is = unexplained_else (codes "running") [] 
 ended_else Complete IsAnswer answer h is = h is
 ended_else Stuck IsAnswer answer h is = h is
 
-pictured_else : (how : Wording) (members : List (List SerialOp)) (c : Declarations) (m : Matrix) (u : List Move) (h : List Event) (answer : Answer) → IsPicturedHistory how members c m u h answer → IsElse answer
+pictured_else : (how : Wording) (members : List (List SerialOp)) (c : Component) (m : Matrix) (u : List Move) (h : List Event) (answer : Answer) → IsPicturedHistory how members c m u h answer → IsElse answer
 pictured_else how members c m u h answer (e, shown, is) = drawn_else how (Some e) c m u answer is
 
-presented_as_else : (by : Presentation) (how : Wording) (members : List (List SerialOp)) (c : Declarations) (m : Matrix) (u : List Move) (h : List Event) (answer : Answer) → IsPresentedAs by how members c m u h answer → IsElse answer
+presented_as_else : (by : Presentation) (how : Wording) (members : List (List SerialOp)) (c : Component) (m : Matrix) (u : List Move) (h : List Event) (answer : Answer) → IsPresentedAs by how members c m u h answer → IsElse answer
 presented_as_else Words how members c m u h answer is = by_else members c m u h answer is
 presented_as_else Picture how members c m u h answer is = pictured_else how members c m u h answer is
 
-presented_else : (by : Presenting) (members : List (List SerialOp)) (c : Declarations) (m : Matrix) (u : List Move) (h : List Event) (answer : Answer) → IsPresentedHistory by members c m u h answer → IsElse answer
+presented_else : (by : Presenting) (members : List (List SerialOp)) (c : Component) (m : Matrix) (u : List Move) (h : List Event) (answer : Answer) → IsPresentedHistory by members c m u h answer → IsElse answer
 presented_else by members c m u h answer is = presented_as_else by.by by.how members c m u h answer is
 
-explained_else : (by : Presenting) (members : List (List SerialOp)) (c : Declarations) (m : Matrix) (u : List Move) (answer : Answer) → IsExplainedSchedule by members c m u answer → IsElse answer
+explained_else : (by : Presenting) (members : List (List SerialOp)) (c : Component) (m : Matrix) (u : List Move) (answer : Answer) → IsExplainedSchedule by members c m u answer → IsElse answer
 explained_else by members c m u answer (inl is) = ended_else is.1 (IsPresentedHistory by members c m u is.0) answer (presented_else by members c m u is.0 answer) is.3
 explained_else by members c m u answer (inr is) = status_else answer 1 (ap (λ (a : Answer). a.status) is.2) (λ e. omega arith)
 
@@ -377,11 +377,11 @@ finding_else IsAnswer (Nondeterministic u before earlier) answer h is = unexplai
 finding_else IsAnswer (Fail u why) answer h is = h u is
 finding_else IsAnswer (Pass counts) answer h is = unexplained_else (codes "pass") [] answer is
 
-explanation_else : (by : Presenting) (members : List (List SerialOp)) (c : Declarations) (m : Matrix) (t : Target) (answer : Answer) → IsExplainedTarget by members c m t answer → IsElse answer
+explanation_else : (by : Presenting) (members : List (List SerialOp)) (c : Component) (m : Matrix) (t : Target) (answer : Answer) → IsExplainedTarget by members c m t answer → IsElse answer
 explanation_else by members c m (target.Schedule u) answer is = explained_else by members c m u answer is
 explanation_else by members c m (target.Report r) answer is = finding_else (IsExplainedSchedule by members c m) r.finding answer (λ u more. explained_else by members c m u answer more) is
 
-serially_else : (by : Presenting) (limits : Limits) (c : Declarations) (m : Matrix) (t : Target) (answer : Answer) → IsExplainedSerially by limits c m t answer → IsElse answer
+serially_else : (by : Presenting) (limits : Bounds) (c : Component) (m : Matrix) (t : Target) (answer : Answer) → IsExplainedSerially by limits c m t answer → IsElse answer
 serially_else by limits c m t answer (inl is) = explanation_else by is.1 c m t answer is.4
 serially_else by limits c m t answer (inr is) = finding_else (λ v a. ⊥) is.0 answer (λ u never. absurd never) is.2
 
@@ -392,14 +392,14 @@ target_else text IsAnswer answer h is = go (is_report text) is
     go true is = report_else text (λ r. IsAnswer (target.Report r)) answer (λ r more. h (target.Report r) more) is
     go false is = scheduled_else (schedule_of text) (λ u. IsAnswer (target.Schedule u)) answer (λ u more. h (target.Schedule u) more) is
 
-explain_behind_else : (by : Presentation) (limits : Limits) (parts : List (List ℕ)) (answer : Answer) → IsExplainBehind by limits parts answer → IsElse answer
-explain_behind_else by limits parts answer is =
+explain_after_else : (by : Presentation) (limits : Bounds) (parts : List (List ℕ)) (answer : Answer) → IsExplainAfter by limits parts answer → IsElse answer
+explain_after_else by limits parts answer is =
     parts_else (shown_parts parts) (λ p. ToTold p.0 p.1 (λ how c m. IsExplainedText (in_words by how) limits c m p.2)) answer
     (λ p more. told_else p.0 p.1 (λ how c m. IsExplainedText (in_words by how) limits c m p.2) answer
     (λ how c m from. target_else p.2 (λ t. IsExplainedSerially (in_words by how) (limits_for limits t) c m t) answer (λ t last. serially_else (in_words by how) (limits_for limits t) c m t answer last) from) more) is
 
-explain_else : (by : Presentation) (limits : Limits) (parts : List (List ℕ)) (answer : Answer) → IsAnswerToExplain by limits parts answer → IsElse answer
-explain_else by limits parts answer is = alone_or_else (view_of by) (IsExplainBehind by limits) parts answer (explain_behind_else by limits parts answer) is
+explain_else : (by : Presentation) (limits : Bounds) (parts : List (List ℕ)) (answer : Answer) → IsAnswerToExplain by limits parts answer → IsElse answer
+explain_else by limits parts answer is = alone_or_else (view_of by) (IsExplainAfter by limits) parts answer (explain_after_else by limits parts answer) is
 
 explain_against_else : (parts : List (List ℕ)) (answer : Answer) → IsAnswerToExplainAgainst parts answer → IsElse answer
 explain_against_else parts answer is =
@@ -408,11 +408,11 @@ explain_against_else parts answer is =
     (λ how c m from. target_else p.2 (λ t. ToGiven m p.3 (λ members. IsExplainedTarget (in_words Words how) members c m t)) answer
     (λ t read. given_else m p.3 (λ members. IsExplainedTarget (in_words Words how) members c m t) answer (λ members last. explanation_else (in_words Words how) members c m t answer last) read) from) more) is
 
-found_else : (c : Declarations) (found : Campaign) (answer : Answer) → answer ≡ found_answer c found → IsElse answer
+found_else : (c : Component) (found : Campaign) (answer : Answer) → answer ≡ found_answer c found → IsElse answer
 found_else c (AllPass count) answer is = status_else answer 0 (ap (λ (a : Answer). a.status) is) (λ e. omega arith)
 found_else c (First m r) answer is = matrix_else c m r answer is
 
-campaign_else : (c : Declarations) (options : CampaignOptions) (setup candidates : List Call) (threads : ℕ) (answer : Answer) → IsTriedAll c setup candidates threads options answer → IsElse answer
+campaign_else : (c : Component) (options : CampaignOptions) (setup candidates : List Call) (threads : ℕ) (answer : Answer) → IsTriedAll c setup candidates threads options answer → IsElse answer
 campaign_else c options setup candidates threads answer (inl is) = found_else c is.0 answer is.2
 campaign_else c options setup candidates threads answer (inr is) = refused_else _ answer is.3
 
@@ -428,7 +428,7 @@ count_else : (lists : List (List Call)) (calls : ℕ) (answer : Answer) → IsCo
 count_else lists calls answer (inl is) = status_else answer 0 (ap (λ (a : Answer). a.status) is.1) (λ e. omega arith)
 count_else lists calls answer (inr is) = refused_else _ answer is.3
 
-certified_shown_else : (c : Declarations) (found : CertifiedCampaign) (answer : Answer) → ShowsCertified c found answer → IsElse answer
+certified_shown_else : (c : Component) (found : CertifiedCampaign) (answer : Answer) → ShowsCertified c found answer → IsElse answer
 certified_shown_else c (AllLinearizable count) answer is = status_else answer 0 (ap (λ (a : Answer). a.status) is) (λ e. omega arith)
 certified_shown_else c (NotAll matrix certificate) answer (shown, shows, is) = status_else answer shown.status (ap (λ (a : Answer). a.status) is) (certificate_status c certificate shown shows)
 
@@ -456,28 +456,28 @@ surveyed_part_else Whole asked answer is = survey_reply_else asked 0 most_long a
 surveyed_part_else (Slice from upto) asked answer is = survey_reply_else asked from upto answer is
 surveyed_part_else Count asked answer is = count_else asked.candidates asked.calls answer is
 
-comparison_status : (c : Declarations) (found : Comparison) → (comparison_answer c found).status ≡ 4 → ⊥
+comparison_status : (c : Component) (found : Comparison) → (comparison_answer c found).status ≡ 4 → ⊥
 comparison_status c (AllAgree count) e = omega arith
 comparison_status c (Differs m (TrustedCut u)) e = omega arith
 comparison_status c (Differs m (TrustedConflict u before earlier)) e = omega arith
 comparison_status c (Differs m (Serially u)) e = omega arith
 comparison_status c (Differs m (Concurrently r)) e = omega arith
 
-comparison_else : (trusted : Declarations) (asked : Asked) (from upto : ℕ) (answer : Answer) → IsComparedNumbers trusted asked from upto answer → IsElse answer
+comparison_else : (trusted : Component) (asked : Asked) (from upto : ℕ) (answer : Answer) → IsComparedNumbers trusted asked from upto answer → IsElse answer
 comparison_else trusted asked from upto answer (inl (found, compared, is)) = status_else answer (comparison_answer asked.component found).status (ap (λ (a : Answer). a.status) is) (comparison_status asked.component found)
 comparison_else trusted asked from upto answer (inr is) = refused_else _ answer is.3
 
-compared_part_else : (trusted : Declarations) (part : CampaignPart) (asked : Asked) (answer : Answer) → IsComparedPart trusted part asked answer → IsElse answer
+compared_part_else : (trusted : Component) (part : CampaignPart) (asked : Asked) (answer : Answer) → IsComparedPart trusted part asked answer → IsElse answer
 compared_part_else trusted Whole asked answer is = comparison_else trusted asked 0 most_long answer is
 compared_part_else trusted (Slice from upto) asked answer is = comparison_else trusted asked from upto answer is
 compared_part_else trusted Count asked answer is = count_else asked.candidates asked.calls answer is
 
-compared_alike_else : (trusted c : Declarations) (threads : ℕ) (options : CampaignOptions) (setup : List Call) (lists : List (List Call)) (answer : Answer) → IsComparedAlike trusted c threads options (record { setup = setup; threads = lists }) answer → IsElse answer
+compared_alike_else : (trusted c : Component) (threads : ℕ) (options : CampaignOptions) (setup : List Call) (lists : List (List Call)) (answer : Answer) → IsComparedAlike trusted c threads options (record { setup = setup; threads = lists }) answer → IsElse answer
 compared_alike_else trusted c threads options setup [] answer is = refused_else (codes "G2") answer is
 compared_alike_else trusted c threads options setup (candidates ∷ []) answer is = compared_part_else trusted options.part (lists_of c setup (replicate threads candidates) options) answer is
 compared_alike_else trusted c threads options setup (a ∷ b ∷ m) answer is = refused_else (codes "G2") answer is
 
-compared_by_else : (threads : CampaignThreads) (trusted c : Declarations) (options : CampaignOptions) (m : Matrix) (answer : Answer) → IsComparedByThreads threads trusted c options m answer → IsElse answer
+compared_by_else : (threads : CampaignThreads) (trusted c : Component) (options : CampaignOptions) (m : Matrix) (answer : Answer) → IsComparedByThreads threads trusted c options m answer → IsElse answer
 compared_by_else (Alike threads) trusted c options m answer is = compared_alike_else trusted c threads options m.setup m.threads answer is
 compared_by_else Own trusted c options m answer is = compared_part_else trusted options.part (lists_of c m.setup m.threads options) answer is
 
@@ -496,22 +496,22 @@ lists_else Checked part asked answer is = part_else part asked answer is
 lists_else Certified part asked answer is = certified_part_else part asked answer is
 lists_else Surveyed part asked answer is = surveyed_part_else part asked answer is
 
-same_lists_else : (c : Declarations) (options : CampaignOptions) (setup candidates : List Call) (threads : ℕ) (answer : Answer) → IsTriedPart c setup candidates threads options answer → IsElse answer
+same_lists_else : (c : Component) (options : CampaignOptions) (setup candidates : List Call) (threads : ℕ) (answer : Answer) → IsTriedPart c setup candidates threads options answer → IsElse answer
 same_lists_else c options setup candidates threads answer is = lists_else options.trial options.part (lists_of c setup (replicate threads candidates) options) answer is
 
-alike_else : (trial : CampaignTrial) (part : CampaignPart) (c : Declarations) (options : CampaignOptions) (setup candidates : List Call) (threads : ℕ) (answer : Answer) → IsAnswerToAlike trial part c setup candidates threads options answer → IsElse answer
+alike_else : (trial : CampaignTrial) (part : CampaignPart) (c : Component) (options : CampaignOptions) (setup candidates : List Call) (threads : ℕ) (answer : Answer) → IsAnswerToAlike trial part c setup candidates threads options answer → IsElse answer
 alike_else Checked Whole c options setup candidates threads answer is = campaign_else c options setup candidates threads answer is
 alike_else Checked (Slice from upto) c options setup candidates threads answer is = same_lists_else c options setup candidates threads answer is
 alike_else Checked Count c options setup candidates threads answer is = same_lists_else c options setup candidates threads answer is
 alike_else Certified part c options setup candidates threads answer is = same_lists_else c options setup candidates threads answer is
 alike_else Surveyed part c options setup candidates threads answer is = same_lists_else c options setup candidates threads answer is
 
-candidates_else : (c : Declarations) (threads : ℕ) (options : CampaignOptions) (setup : List Call) (lists : List (List Call)) (answer : Answer) → IsCampaignAlike c threads options (record { setup = setup; threads = lists }) answer → IsElse answer
+candidates_else : (c : Component) (threads : ℕ) (options : CampaignOptions) (setup : List Call) (lists : List (List Call)) (answer : Answer) → IsCampaignAlike c threads options (record { setup = setup; threads = lists }) answer → IsElse answer
 candidates_else c threads options setup [] answer is = refused_else (codes "G2") answer is
 candidates_else c threads options setup (candidates ∷ []) answer is = alike_else options.trial options.part c options setup candidates threads answer is
 candidates_else c threads options setup (a ∷ b ∷ m) answer is = refused_else (codes "G2") answer is
 
-matrices_else : (threads : CampaignThreads) (c : Declarations) (options : CampaignOptions) (m : Matrix) (answer : Answer) → IsCampaignByThreads threads c options m answer → IsElse answer
+matrices_else : (threads : CampaignThreads) (c : Component) (options : CampaignOptions) (m : Matrix) (answer : Answer) → IsCampaignByThreads threads c options m answer → IsElse answer
 matrices_else (Alike threads) c options m answer is = candidates_else c threads options m.setup m.threads answer is
 matrices_else Own c options m answer is = lists_else options.trial options.part (lists_of c m.setup m.threads options) answer is
 
@@ -524,7 +524,7 @@ collected_parts_else parts answer is =
     parts_else (exactly_three parts) (λ p. ToTexts p.0 p.1 (λ c m. IsCollected m p.2)) answer
     (λ p more. texts_else p.0 p.1 (λ c m. IsCollected m p.2) answer (λ c m last. collected_else m p.2 answer last) more) is
 
-judged_else : (members : List (List SerialOp)) (c : Declarations) (m : Matrix) (all : List Recorded) (answer : Answer) → IsJudgedByMembers members c m all answer → IsElse answer
+judged_else : (members : List (List SerialOp)) (c : Component) (m : Matrix) (all : List Recorded) (answer : Answer) → IsJudgedByMembers members c m all answer → IsElse answer
 judged_else members c m all answer (None, found, is) = status_else answer 0 (ap (λ (a : Answer). a.status) is) (λ e. omega arith)
 judged_else members c m all answer (Some n, found, is) = status_else answer 1 (ap (λ (a : Answer). a.status) is.2.2) (λ e. omega arith)
 
@@ -532,11 +532,11 @@ recorded_else : (m : Matrix) (texts : List (List ℕ)) (IsAnswer : List Recorded
 recorded_else m texts IsAnswer answer h (inl is) = h is.0 is.2
 recorded_else m texts IsAnswer answer h (inr is) = refused_else (recorded_code_of is.1 ++ codes " history " ++ decimal is.0 ++ codes " line " ++ decimal is.2) answer is.4
 
-judged_serially_else : (c : Declarations) (m : Matrix) (limits : Limits) (all : List Recorded) (answer : Answer) → IsJudgedSerially c m limits all answer → IsElse answer
+judged_serially_else : (c : Component) (m : Matrix) (limits : Bounds) (all : List Recorded) (answer : Answer) → IsJudgedSerially c m limits all answer → IsElse answer
 judged_serially_else c m limits all answer (inl is) = judged_else is.2 c m all answer is.7
 judged_serially_else c m limits all answer (inr is) = reported_else is.0 answer is.3
 
-judge_else : (limits : Limits) (parts : List (List ℕ)) (answer : Answer) → IsAnswerToJudge limits parts answer → IsElse answer
+judge_else : (limits : Bounds) (parts : List (List ℕ)) (answer : Answer) → IsAnswerToJudge limits parts answer → IsElse answer
 judge_else limits parts answer is =
     parts_else (three_parts parts) (λ p. ToTexts p.0 p.1 (λ c m. IsJudgedTexts c m limits p.2)) answer
     (λ p more. texts_else p.0 p.1 (λ c m. IsJudgedTexts c m limits p.2) answer
@@ -549,7 +549,7 @@ judge_against_else parts answer is =
     (λ c m from. given_else m p.2 (λ members. ToRecorded m p.3 (IsJudgedByMembers members c m)) answer
     (λ members read. recorded_else m p.3 (IsJudgedByMembers members c m) answer (λ all last. judged_else members c m all answer last) read) from) more) is
 
-conformed_else : (c : Declarations) (m : Matrix) (showing : Showing) (all : List Recorded) (answer : Answer) → IsConformed c m showing all answer → IsElse answer
+conformed_else : (c : Component) (m : Matrix) (showing : Showing) (all : List Recorded) (answer : Answer) → IsConformed c m showing all answer → IsElse answer
 conformed_else c m CountAlone all answer (Conforms schedules, found, is) = status_else answer 0 (ap (λ (a : Answer). a.status) is) (λ e. omega arith)
 conformed_else c m Schedules all answer (Conforms schedules, found, is) = status_else answer 0 (ap (λ (a : Answer). a.status) is) (λ e. omega arith)
 conformed_else c m showing all answer (NoneShows n, found, is) = status_else answer 1 (ap (λ (a : Answer). a.status) is.2) (λ e. omega arith)
@@ -561,7 +561,7 @@ conform_else showing parts answer is =
     (λ p more. texts_else p.0 p.1 (λ c m. IsConformedTexts c m showing p.2) answer
     (λ c m from. recorded_else m p.2 (IsConformed c m showing) answer (λ all last. conformed_else c m showing all answer last) from) more) is
 
-trusted_else : (text : List ℕ) (c : Declarations) (m : Matrix) (IsAnswer : Declarations → Answer → Type 0) (answer : Answer) → ((trusted : Declarations) → IsAnswer trusted answer → IsElse answer) → ToTrusted text c m IsAnswer answer → IsElse answer
+trusted_else : (text : List ℕ) (c : Component) (m : Matrix) (IsAnswer : Component → Answer → Type 0) (answer : Answer) → ((trusted : Component) → IsAnswer trusted answer → IsElse answer) → ToTrusted text c m IsAnswer answer → IsElse answer
 trusted_else text c m IsAnswer answer h is =
     value_else code_of (meaning_of component_grammar text) (λ trusted a. (HasSameOperations c trusted × ToSettled trusted m (IsAnswer trusted) a) ⊎ ((HasSameOperations c trusted → ⊥) × (a ≡ refused (codes "G4")))) answer
     (λ trusted either. elim either [
@@ -587,12 +587,12 @@ compile_else (source ∷ parts) answer is =
     is
 
 -- a run that is shown
-run_view_else : (view : RunView) (how : Wording) (c : Declarations) (m : Matrix) (u : List Move) (answer : Answer) → IsRunShown view how c m u answer → IsElse answer
+run_view_else : (view : RunView) (how : Wording) (c : Component) (m : Matrix) (u : List Move) (answer : Answer) → IsRunShown view how c m u answer → IsElse answer
 run_view_else (run.Trace start) how c m u answer is = traced_else start how c m u answer is
 run_view_else run.Picture how c m u answer is = drawn_else how None c m u answer is
 
 view_else : (shown : RunView) (parts : List (List ℕ)) (answer : Answer) → IsAnswerToTraceOrDraw shown parts answer → IsElse answer
-view_else shown parts answer is = alone_or_else (view_of_failure shown) (IsShownBehind shown) parts answer (λ behind. behind_else parts (IsRunShown shown) answer (λ how c m u more. run_view_else shown how c m u answer more) behind) is
+view_else shown parts answer is = alone_or_else (view_of_failure shown) (IsShownAfter shown) parts answer (λ behind. after_else parts (IsRunShown shown) answer (λ how c m u more. run_view_else shown how c m u answer more) behind) is
 
 command_else : (command : BundleCommand) (parts : List (List ℕ)) (answer : Answer) → IsAnswerToCommand command parts answer → IsElse answer
 command_else Replay parts answer is = three_else parts IsReplayed answer (λ c m u more. replayed_else c m u answer more) is
@@ -619,17 +619,17 @@ marked_else : (answer : Answer) (b : Bool) → answer.status ≡ (if b then 2 el
 marked_else answer true e = status_else answer 2 e (λ f. omega arith)
 marked_else answer false e = status_else answer 0 e (λ f. omega arith)
 
-linted_else : (limits : Limits) (bundle : List ℕ) (answer : Answer) → IsLinted limits bundle answer → IsElse answer
+linted_else : (limits : Bounds) (bundle : List ℕ) (answer : Answer) → IsLinted limits bundle answer → IsElse answer
 linted_else limits bundle answer (remarks, are, e) = marked_else answer (list_any (λ r. is_fault r.said.cause) remarks) (ap (λ (a : Answer). a.status) e)
 
-source_linted_else : (limits : Limits) (source : List ℕ) (parts : List (List ℕ)) (answer : Answer) → IsSourceLinted limits source parts answer → IsElse answer
+source_linted_else : (limits : Bounds) (source : List ℕ) (parts : List (List ℕ)) (answer : Answer) → IsSourceLinted limits source parts answer → IsElse answer
 source_linted_else limits source parts answer is = go (component_meant source) is
   where
-    go : (meant : Result Declarations (Fault SourceFaultKind)) → MatchResult meant (λ c. IsLintedBehind limits source parts c answer) (λ fault. IsFaulted source answer) → IsElse answer
+    go : (meant : Result Component (Fault SourceFaultKind)) → MatchResult meant (λ c. IsLintedAfter limits source parts c answer) (λ fault. IsFaulted source answer) → IsElse answer
     go (Ok c) (said, remarks, tells, are, e) = marked_else answer (list_any (λ r. is_fault r.said.cause) (below_source source c remarks)) (ap (λ (a : Answer). a.status) e)
     go (Err fault) (text, tells, e) = status_else answer 2 (ap (λ (a : Answer). a.status) e) (λ f. omega arith)
 
-lint_else : (limits : Limits) (bundle : List ℕ) (answer : Answer) → IsLint limits bundle answer → IsElse answer
+lint_else : (limits : Bounds) (bundle : List ℕ) (answer : Answer) → IsLint limits bundle answer → IsElse answer
 lint_else limits bundle answer is = go (bundle_parts bundle) is
   where
     by : (first : List ℕ) (parts : List (List ℕ)) (b : Bool) → MatchBool b (IsSourceLinted limits first parts answer) (IsLinted limits bundle answer) → IsElse answer

@@ -3,7 +3,7 @@ use Rattle.std.proofs.Common.{◌≡◌, ℕ, List, Bool, true, false, Option, S
 use Rattle.std.specs.Prelude.{IfSome, MatchBool, Ok}
 use Rattle.lu_text.specs.declared.fault.Fault.TheVariants.{At, Memory}
 use Rattle.lu_text.specs.Lines.{lines_of, texts}
-use Rattle.lu_component.specs.Component.{Declarations}
+use Rattle.lu_component.specs.Component.{Component}
 use Rattle.lu_test.specs.Matrix.{Matrix}
 use Rattle.lu_source_text.specs.Begins.{is_source}
 use Rattle.lu_source_text.specs.Origins.{AreOrigins}
@@ -34,7 +34,7 @@ wording_is text (told_by.Source source) (wording.Source lines origins) are by =
     (are.0, ap texts by.0 ∙ are.1.0, subst (AreOrigins (lines_of text)) (sym by.1) are.1.1)
 
 -- what is said of the answer to a component, a matrix and the words in which it is told is said of that to their texts
-pub told_answered : (text matrix : List ℕ) (told : Told) (how : Wording) (IsAnswer : Wording → Declarations → Matrix → Answer → Type 0) → IsToldOf text matrix told → TellsBy told.words how → (result : Result Answer Refusal) → Answered (IsAnswer how told.component told.matrix) result → Answered (ToTold text matrix IsAnswer) result
+pub told_answered : (text matrix : List ℕ) (told : Told) (how : Wording) (IsAnswer : Wording → Component → Matrix → Answer → Type 0) → IsToldOf text matrix told → TellsBy told.words how → (result : Result Answer Refusal) → Answered (IsAnswer how told.component told.matrix) result → Answered (ToTold text matrix IsAnswer) result
 told_answered text matrix told how IsAnswer is by result answered =
     let worded = wording_is text told.words how is.1 by in
     answered_more (IsAnswer how told.component told.matrix) (ToTold text matrix IsAnswer) (λ a h. go (is_source text) refl a (how, worded, h)) result answered
@@ -48,7 +48,7 @@ told_answered text matrix told how IsAnswer is by result answered =
         rw (source, read.0.0, read.0.1) (inl (read.1, h))
 
 -- a refusal of the source, or of the matrix of its component
-source_refused : (text matrix : List ℕ) (refused : Refusal) (IsAnswer : Wording → Declarations → Matrix → Answer → Type 0) → is_source text ≡ true → IsToldRefusalOfSource text matrix refused → IfSome (refusal_answer refused) (ToTold text matrix IsAnswer)
+source_refused : (text matrix : List ℕ) (refused : Refusal) (IsAnswer : Wording → Component → Matrix → Answer → Type 0) → is_source text ≡ true → IsToldRefusalOfSource text matrix refused → IfSome (refusal_answer refused) (ToTold text matrix IsAnswer)
 source_refused text matrix refused IsAnswer source (inl is) = rw is tt
 source_refused text matrix refused IsAnswer source (inr (inl (At kind n, is, of))) = rw (of, source, is) refl
 source_refused text matrix refused IsAnswer source (inr (inl (Memory, is, of))) = rw of tt
@@ -63,18 +63,18 @@ source_refused text matrix refused IsAnswer source (inr (inr (c, fault, read, is
     go (variant.Check f) is = absurd is
 
 -- what is said of a component's texts is said of them
-in_component : (text matrix : List ℕ) (IsAnswer : Wording → Declarations → Matrix → Answer → Type 0) → is_source text ≡ false → (found : Option Answer) → IfSome found (ToTexts text matrix (λ c m answer. (how : Wording) × IsWordingOf text how × IsAnswer how c m answer)) → IfSome found (ToTold text matrix IsAnswer)
+in_component : (text matrix : List ℕ) (IsAnswer : Wording → Component → Matrix → Answer → Type 0) → is_source text ≡ false → (found : Option Answer) → IfSome found (ToTexts text matrix (λ c m answer. (how : Wording) × IsWordingOf text how × IsAnswer how c m answer)) → IfSome found (ToTold text matrix IsAnswer)
 in_component text matrix IsAnswer source None said = tt
 in_component text matrix IsAnswer source (Some a) said = rw source said
 
 -- a refusal of the texts of a component and a matrix
-component_refused : (text matrix : List ℕ) (refused : Refusal) (IsAnswer : Wording → Declarations → Matrix → Answer → Type 0) → is_source text ≡ false → IsTextsRefusal text matrix refused → IfSome (refusal_answer refused) (ToTold text matrix IsAnswer)
+component_refused : (text matrix : List ℕ) (refused : Refusal) (IsAnswer : Wording → Component → Matrix → Answer → Type 0) → is_source text ≡ false → IsTextsRefusal text matrix refused → IfSome (refusal_answer refused) (ToTold text matrix IsAnswer)
 component_refused text matrix refused IsAnswer source (inl is) = rw is tt
 component_refused text matrix refused IsAnswer source (inr (fault, is, of)) =
     rw of (in_component text matrix IsAnswer source (texts_answer fault) (texts_refused text matrix fault (λ c m answer. (how : Wording) × IsWordingOf text how × IsAnswer how c m answer) is))
 
 -- the refusal is what is said of them
-pub told_refused : (text matrix : List ℕ) (refused : Refusal) (IsAnswer : Wording → Declarations → Matrix → Answer → Type 0) → IsToldRefusal text matrix refused → IfSome (refusal_answer refused) (ToTold text matrix IsAnswer)
+pub told_refused : (text matrix : List ℕ) (refused : Refusal) (IsAnswer : Wording → Component → Matrix → Answer → Type 0) → IsToldRefusal text matrix refused → IfSome (refusal_answer refused) (ToTold text matrix IsAnswer)
 told_refused text matrix refused IsAnswer (inl is) = rw is tt
 told_refused text matrix refused IsAnswer (inr is) = go (is_source text) refl is
   where

@@ -31,8 +31,8 @@ use Rattle.lu_cli.specs.declared.table.Kind.{Kind}
 use Rattle.lu_cli.specs.declared.table.Kind.TheVariants.{Flag, Number, Long}
 use Rattle.lu_cli.specs.declared.table.OptionRow.{OptionRow}
 use Rattle.lu_cli.specs.Table.{TableCommand, TableOption, command_said, commands, commands_said, option_said, options, options_said}
-use Rattle.lu_report.specs.Limits.{Limits, lies, limits_of, most_moves}
-use Rattle.lu_parallel.specs.Ranges.{Choice, choice, with_head_start}
+use Rattle.lu_report.specs.Limits.{Bounds, lies, limits_of, most_moves}
+use Rattle.lu_parallel.specs.Ranges.{Options, choice, with_head_start}
 
 -- the greatest number of 64 bits
 abbrev pub most_long : ℕ
@@ -78,7 +78,7 @@ command_app options c = fold (with_option c.name) (new_app c.name) options
 abbrev pub with_command : List TableOption → App → TableCommand → App
 with_command options app c = with_subcommand app (command_app options c).top
 
--- the program without commands, which takes the words behind its name, and wants a command
+-- the program without commands, which takes the words after its name, and wants a command
 abbrev pub program : App
 program =
     record (new_app (codes "lineup")) {
@@ -148,12 +148,12 @@ flag_said None = false
 abbrev pub flag_in : Text → List Row → Bool
 flag_in name rows = flag_said (one_of name rows)
 
-abbrev pub limits_with : Option ℕ → Option ℕ → Option Limits
+abbrev pub limits_with : Option ℕ → Option ℕ → Option Bounds
 limits_with (Some bound) (Some serial) = limits_of bound serial
 limits_with (Some bound) None = None
 limits_with None serial = None
 
-abbrev pub limits_in : List Row → Option Limits
+abbrev pub limits_in : List Row → Option Bounds
 limits_in rows =
     limits_with (number_named (codes "bound") rows) (number_named (codes "serial") rows)
 
@@ -162,35 +162,35 @@ abbrev pub head_start : ℕ
 head_start = 16777216
 
 -- pieces of so many moves at once; where that is not said, a head start, and then pieces of 4
-abbrev pub choice_for : ℕ → ℕ → ℕ → Option ℕ → Choice
+abbrev pub choice_for : ℕ → ℕ → ℕ → Option ℕ → Options
 choice_for bound serial workers None = with_head_start head_start (choice bound serial workers 4)
 choice_for bound serial workers (Some depth) = choice bound serial workers depth
 
 -- the options of a check, where they are in range
-abbrev pub choice_of : Choice → Option Choice
+abbrev pub choice_of : Options → Option Options
 choice_of c =
     if lies 0 c.bound most_moves &&
     (lies 1 c.serial most_moves && (lies 1 c.workers 16 && lies 0 c.depth 8)) then Some c else None
 
-abbrev pub choice_with : Option ℕ → Option ℕ → Option ℕ → Option ℕ → Option Choice
+abbrev pub choice_with : Option ℕ → Option ℕ → Option ℕ → Option ℕ → Option Options
 choice_with (Some bound) (Some serial) (Some workers) depth =
     choice_of (choice_for bound serial workers depth)
 choice_with _ _ _ _ = None
 
-abbrev pub choice_in : List Row → Option Choice
+abbrev pub choice_in : List Row → Option Options
 choice_in rows =
     choice_with (number_named (codes "bound") rows) (number_named (codes "serial") rows)
     (number_named (codes "workers") rows)
     (number_named (codes "depth") rows)
 
 -- a check against the serial runs, or one against a specification
-abbrev pub check_command : Bool → Choice → BundleCommand
+abbrev pub check_command : Bool → Options → BundleCommand
 check_command against choice = if against then CheckAgainst choice else Check choice
 
 abbrev pub check_in : List Row → Option BundleCommand
 check_in rows = option_map (check_command (flag_in (codes "spec") rows)) (choice_in rows)
 
-abbrev pub certify_with : Option Choice → Option ℕ → Option ℕ → Option CertifyOptions
+abbrev pub certify_with : Option Options → Option ℕ → Option ℕ → Option CertifyOptions
 certify_with (Some choice) (Some local) (Some nodes) =
     Some (record { options = choice; local = local; nodes = nodes })
 certify_with _ _ _ = None
@@ -200,7 +200,7 @@ certify_in rows =
     certify_with (choice_in rows) (number_named (codes "local") rows) (nodes_in rows)
 
 -- a judgement by the serial runs, or one by a specification
-abbrev pub judge_command : Bool → Limits → BundleCommand
+abbrev pub judge_command : Bool → Bounds → BundleCommand
 judge_command against limits = if against then JudgeAgainst else Judge limits
 
 abbrev pub judge_in : List Row → Option BundleCommand
@@ -221,7 +221,7 @@ abbrev pub trace_in : List Row → BundleCommand
 trace_in rows = trace_command (flag_in (codes "setup") rows)
 
 -- a picture, or one with an explanation
-abbrev pub draw_command : Bool → Limits → BundleCommand
+abbrev pub draw_command : Bool → Bounds → BundleCommand
 draw_command explained limits = if explained then DrawExplained limits else Draw
 
 abbrev pub draw_in : List Row → Option BundleCommand
@@ -230,7 +230,7 @@ draw_in rows =
     (limits_with (Some 0) (number_named (codes "serial") rows))
 
 -- an explanation by the serial runs, or one by a specification
-abbrev pub explain_command : Bool → Limits → BundleCommand
+abbrev pub explain_command : Bool → Bounds → BundleCommand
 explain_command against limits = if against then ExplainAgainst else Explain limits
 
 -- no schedule is bounded
@@ -289,11 +289,11 @@ default_bound Checked = 40
 default_bound Certified = most_moves
 default_bound Surveyed = most_moves
 
-abbrev pub campaign_limits : CampaignTrial → Option ℕ → Option ℕ → Option Limits
+abbrev pub campaign_limits : CampaignTrial → Option ℕ → Option ℕ → Option Bounds
 campaign_limits trial bound serial =
     limits_of (unwrap_or bound (default_bound trial)) (unwrap_or serial (default_bound trial))
 
-abbrev pub campaign_with : CampaignTrial → Option Limits → Option CampaignThreads → Option ℕ
+abbrev pub campaign_with : CampaignTrial → Option Bounds → Option CampaignThreads → Option ℕ
     → Option CampaignPart → Option CampaignOptions
 campaign_with trial (Some limits) (Some threads) (Some calls) (Some part) =
     if nat_lt calls 256 then Some
@@ -364,7 +364,7 @@ abbrev pub request_without : List ErrorKind → Option Request → Option Reques
 request_without [] request = request
 request_without (k ∷ kinds) request = None
 
--- what the words behind the program's name ask for: nothing where they are refused
+-- what the words after the program's name ask for: nothing where they are refused
 abbrev pub request_of : List Text → Option Request
 request_of words =
     request_without (fault_of lineup words) (request_in (subcommand_of lineup words))

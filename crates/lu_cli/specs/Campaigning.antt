@@ -2,7 +2,7 @@
 use Rattle.std.specs.Prelude.{ℕ, ◌++◌, codes, List, ◌≡◌, ◌≢◌, ◌⊎◌, length, Result, IfOk, [], Option, Some, None, String, string_bytes, ◌||◌, nat_lt, if◌then◌else◌, replicate, ◌∷◌}
 use Rattle.std.specs.Fmt.{decimal}
 use Rattle.lu_text.specs.Words.{exactly_two}
-use Rattle.lu_component.specs.Component.{Declarations}
+use Rattle.lu_component.specs.Component.{Component}
 use Rattle.lu_test.specs.declared.matrix.Call.{Call}
 use Rattle.lu_test.specs.MatrixText.{matrix_text}
 use Rattle.lu_test.specs.Matrix.{Matrix}
@@ -42,7 +42,7 @@ abbrev pub all_pass : ℕ → Answer
 all_pass count = record { text = codes "campaign pass " ++ decimal count ++ codes "\n"; status = 0 }
 
 -- how many matrices there are, where all pass; or the first that does not, with its report
-abbrev pub found_answer : Declarations → Campaign → Answer
+abbrev pub found_answer : Component → Campaign → Answer
 found_answer c (AllPass count) = all_pass count
 found_answer c (First matrix r) = with_matrix c matrix r
 
@@ -50,13 +50,13 @@ found_answer c (First matrix r) = with_matrix c matrix r
 abbrev pub numbered : ℕ → Answer
 numbered n = record { text = decimal n ++ codes "\n"; status = 0 }
 
-abbrev pub options_of : Declarations → List Call → List Call → ℕ → CampaignOptions → Campaigned
+abbrev pub options_of : Component → List Call → List Call → ℕ → CampaignOptions → Campaigned
 options_of c setup candidates threads o =
     campaigned c setup candidates threads o.calls o.bounds.bound o.bounds.serial
 
 -- what the campaign of so many threads over these calls finds, with this setup, or why there is
 -- none
-abbrev pub IsTriedAll : Declarations → List Call → List Call → ℕ → CampaignOptions → Answer
+abbrev pub IsTriedAll : Component → List Call → List Call → ℕ → CampaignOptions → Answer
     → Type 0
 IsTriedAll c setup candidates threads o answer =
     ((found : Campaign) × IsFound (options_of c setup candidates threads o) found
@@ -65,7 +65,7 @@ IsTriedAll c setup candidates threads o answer =
     × IsLimitFault (length candidates) threads o.calls fault
     × (answer ≡ refused (campaign_code_of fault)))
 
-abbrev pub lists_of : Declarations → List Call → List (List Call) → CampaignOptions → Asked
+abbrev pub lists_of : Component → List Call → List (List Call) → CampaignOptions → Asked
 lists_of c setup candidates o =
     asked_for c setup candidates o.calls o.bounds.bound o.bounds.serial
 
@@ -109,14 +109,14 @@ all_linearizable count =
     record { text = codes "campaign linearizable " ++ decimal count ++ codes "\n"; status = 0 }
 
 -- a matrix, and what its certificate is shown as below it
-abbrev pub below_matrix : Declarations → Matrix → Answer → Answer
+abbrev pub below_matrix : Component → Matrix → Answer → Answer
 below_matrix c matrix shown = record {
   text = matrix_text c matrix ++ codes "---\n" ++ shown.text;
   status = shown.status;
 }
 
 -- the answer, where there is one, is that
-abbrev pub ShowsBelow : {E : Type 0} → Declarations → Matrix → Certificate → Result Answer E
+abbrev pub ShowsBelow : {E : Type 0} → Component → Matrix → Certificate → Result Answer E
     → Type 0
 ShowsBelow c matrix certificate result =
     IfOk result (λ answer. (shown : Answer) × ShowsCertificate c certificate shown
@@ -124,7 +124,7 @@ ShowsBelow c matrix certificate result =
 
 -- how many matrices there are, where the component is linearizable on all; or the first on which it
 -- is not certified to be, with its certificate
-abbrev pub ShowsCertified : Declarations → CertifiedCampaign → Answer → Type 0
+abbrev pub ShowsCertified : Component → CertifiedCampaign → Answer → Type 0
 ShowsCertified c (AllLinearizable count) answer = answer ≡ all_linearizable count
 ShowsCertified c (NotAll matrix certificate) answer =
     (shown : Answer) × ShowsCertificate c certificate shown
@@ -158,14 +158,14 @@ survey_head s =
     ++ tally_line (codes "undecided") s.undecided.count
 
 -- the first matrix of a kind with its certificate, if there is one
-abbrev pub ShowsFirst : Declarations → Option CertifiedMatrix → List ℕ → Type 0
+abbrev pub ShowsFirst : Component → Option CertifiedMatrix → List ℕ → Type 0
 ShowsFirst c None text = text ≡ []
 ShowsFirst c (Some one) text =
     (shown : Answer) × ShowsCertificate c one.certificate shown
     × (text ≡ codes "---\n" ++ (below_matrix c one.matrix shown).text)
 
--- it stands behind the old text
-abbrev pub PushesFirst : {Z : Type 0} → Declarations → Option CertifiedMatrix → String Z → String Z
+-- it stands after the old text
+abbrev pub PushesFirst : {Z : Type 0} → Component → Option CertifiedMatrix → String Z → String Z
     → Type 0
 PushesFirst c first old new =
     (text : List ℕ) × ShowsFirst c first text × (string_bytes new ≡ string_bytes old ++ text)
@@ -177,7 +177,7 @@ survey_status s =
     else (if nat_lt 0 s.undecided.count then 3 else 0)
 
 -- how many matrices have a certificate of each kind, and the first of each kind but linearizable
-abbrev pub ShowsSurvey : Declarations → Survey → Answer → Type 0
+abbrev pub ShowsSurvey : Component → Survey → Answer → Type 0
 ShowsSurvey c s answer =
     (failing : List ℕ) × (lost : List ℕ) × (undecided : List ℕ)
     × ShowsFirst c s.not_linearizable.first failing × ShowsFirst c s.livelock.first lost
@@ -208,17 +208,17 @@ IsAnswerToTrial Certified = IsCertifiedPart
 IsAnswerToTrial Surveyed = IsSurveyedPart
 
 -- what is answered where each thread has its own candidates
-abbrev pub IsListsAnswer : Declarations → List Call → List (List Call) → CampaignOptions → Answer
+abbrev pub IsListsAnswer : Component → List Call → List (List Call) → CampaignOptions → Answer
     → Type 0
 IsListsAnswer c setup candidates o =
     IsAnswerToTrial o.trial o.part (lists_of c setup candidates o)
 
 -- what is answered where so many threads have the same, and a part is asked for
-abbrev pub IsTriedPart : Declarations → List Call → List Call → ℕ → CampaignOptions → Answer
+abbrev pub IsTriedPart : Component → List Call → List Call → ℕ → CampaignOptions → Answer
     → Type 0
 IsTriedPart c setup candidates threads o = IsListsAnswer c setup (replicate threads candidates) o
 
-abbrev pub IsAnswerToAlike : CampaignTrial → CampaignPart → Declarations → List Call → List Call
+abbrev pub IsAnswerToAlike : CampaignTrial → CampaignPart → Component → List Call → List Call
     → ℕ → CampaignOptions → Answer → Type 0
 IsAnswerToAlike Checked Whole c setup candidates threads o =
     IsTriedAll c setup candidates threads o
@@ -232,7 +232,7 @@ IsAnswerToAlike Surveyed part c setup candidates threads o =
     IsTriedPart c setup candidates threads o
 
 -- what is answered where so many threads have the same
-abbrev pub IsTriedSame : Declarations → List Call → List Call → ℕ → CampaignOptions → Answer
+abbrev pub IsTriedSame : Component → List Call → List Call → ℕ → CampaignOptions → Answer
     → Type 0
 IsTriedSame c setup candidates threads o =
     IsAnswerToAlike o.trial o.part c setup candidates threads o
@@ -243,18 +243,18 @@ ToCandidates (candidates ∷ []) IsAnswer answer = IsAnswer candidates answer
 ToCandidates threads IsAnswer answer = answer ≡ refused (codes "G2")
 
 -- what is answered to the calls of the matrix's one thread, with the matrix's setup
-abbrev pub IsCampaignAlike : Declarations → ℕ → CampaignOptions → Matrix → Answer → Type 0
+abbrev pub IsCampaignAlike : Component → ℕ → CampaignOptions → Matrix → Answer → Type 0
 IsCampaignAlike c threads o matrix =
     ToCandidates matrix.threads
     (λ candidates. IsTriedSame c matrix.setup candidates threads o)
 
-abbrev pub IsCampaignByThreads : CampaignThreads → Declarations → CampaignOptions → Matrix → Answer
+abbrev pub IsCampaignByThreads : CampaignThreads → Component → CampaignOptions → Matrix → Answer
     → Type 0
 IsCampaignByThreads (Alike threads) c o matrix = IsCampaignAlike c threads o matrix
 IsCampaignByThreads Own c o matrix = IsListsAnswer c matrix.setup matrix.threads o
 
 -- what is answered to the matrix: to its one thread, or to each of its lines
-abbrev pub IsCampaignOfMatrix : Declarations → CampaignOptions → Matrix → Answer → Type 0
+abbrev pub IsCampaignOfMatrix : Component → CampaignOptions → Matrix → Answer → Type 0
 IsCampaignOfMatrix c o matrix = IsCampaignByThreads o.threads c o matrix
 
 abbrev pub IsAnswerToCampaign : CampaignOptions → List (List ℕ) → Answer → Type 0

@@ -1,7 +1,7 @@
 -- What `certify` answers.
 use Rattle.std.specs.Prelude.{ℕ, max, min, ◌≡◌, ◌≢◌, ◌⊎◌, List}
 use Rattle.lu_text.specs.Words.{exactly_two}
-use Rattle.lu_component.specs.Component.{Declarations}
+use Rattle.lu_component.specs.Component.{Component}
 use Rattle.lu_test.specs.Matrix.{Matrix}
 use Rattle.lu_certify.specs.declared.certificate.Certificate.{Certificate}
 use Rattle.lu_grain.specs.Longer.{IsMadeWithin}
@@ -11,12 +11,12 @@ use Rattle.lu_cli.specs.Reading.{ToParts, ToTexts}
 use Rattle.lu_cli.specs.declared.request.CertifyOptions.{CertifyOptions}
 
 -- how many local instructions run with a move: as many as the component says, or as are asked for
-abbrev pub certified_local : CertifyOptions → Declarations → ℕ
+abbrev pub certified_local : CertifyOptions → Component → ℕ
 certified_local asked c = max (min asked.local 16) c.local
 
 -- the certificate of the component with so many local instructions to a move, whatever the number
 -- of workers and the depth; or, with more than one worker, that a thread could not start
-abbrev pub IsCertified : Declarations → Matrix → CertifyOptions → Answer → Type 0
+abbrev pub IsCertified : Component → Matrix → CertifyOptions → Answer → Type 0
 IsCertified c matrix asked answer =
     ((certificate : Certificate)
     × IsMadeWithin (certified_local asked c) c matrix asked.options asked.nodes certificate

@@ -1,25 +1,25 @@
 -- What `check` answers.
 use Rattle.std.specs.Prelude.{◌≡◌, ◌≢◌, ◌⊎◌, ℕ, List}
 use Rattle.lu_text.specs.Words.{exactly_two, exactly_three}
-use Rattle.lu_component.specs.Component.{Declarations}
+use Rattle.lu_component.specs.Component.{Component}
 use Rattle.lu_test.specs.Matrix.{Matrix}
 use Rattle.lu_history.specs.declared.serial.SerialOp.{SerialOp}
-use Rattle.lu_report.specs.Parts.{Parts}
+use Rattle.lu_report.specs.Parts.{Report}
 use Rattle.lu_witness.specs.Witnesses.{IsMember}
 use Rattle.lu_replay.specs.Reports.{IsReport, IsReportAgainst}
-use Rattle.lu_parallel.specs.Ranges.{Choice}
+use Rattle.lu_parallel.specs.Ranges.{Options}
 use Rattle.lu_cli.specs.Shows.{reported}
 use Rattle.lu_cli.specs.Outcomes.{Answer, no_worker}
 use Rattle.lu_cli.specs.Reading.{ToParts, ToTexts, ToGiven}
 
 -- the report, whatever the number of workers and the depth; or, with more than one worker, that a
 -- thread could not start
-abbrev pub IsChecked : Declarations → Matrix → Choice → Answer → Type 0
+abbrev pub IsChecked : Component → Matrix → Options → Answer → Type 0
 IsChecked c matrix choice answer =
-    ((r : Parts) × IsReport c matrix choice.bound choice.serial r × (answer ≡ reported r))
+    ((r : Report) × IsReport c matrix choice.bound choice.serial r × (answer ≡ reported r))
     ⊎ ((choice.workers ≢ 1) × (answer ≡ no_worker))
 
-abbrev pub IsAnswerToCheck : Choice → List (List ℕ) → Answer → Type 0
+abbrev pub IsAnswerToCheck : Options → List (List ℕ) → Answer → Type 0
 IsAnswerToCheck choice parts =
     ToParts (exactly_two parts) (λ p. ToTexts p.0 p.1 (λ c m. IsChecked c m choice))
 
@@ -27,17 +27,17 @@ IsAnswerToCheck choice parts =
 
 -- the report against the set of these members, whatever the number of workers and the depth; or,
 -- with more than one worker, that a thread could not start
-abbrev pub IsCheckedAgainst : Declarations → Matrix → Choice → List (List SerialOp) → Answer
+abbrev pub IsCheckedAgainst : Component → Matrix → Options → List (List SerialOp) → Answer
     → Type 0
 IsCheckedAgainst c matrix choice members answer =
-    ((r : Parts) × IsReportAgainst (IsMember members) c matrix choice.bound r
+    ((r : Report) × IsReportAgainst (IsMember members) c matrix choice.bound r
     × (answer ≡ reported r))
     ⊎ ((choice.workers ≢ 1) × (answer ≡ no_worker))
 
 -- the specification is read, and then the matrix is checked against it
-abbrev pub IsCheckedAgainstText : Declarations → Matrix → Choice → List ℕ → Answer → Type 0
+abbrev pub IsCheckedAgainstText : Component → Matrix → Options → List ℕ → Answer → Type 0
 IsCheckedAgainstText c matrix choice spec = ToGiven matrix spec (IsCheckedAgainst c matrix choice)
 
-abbrev pub IsAnswerToCheckAgainst : Choice → List (List ℕ) → Answer → Type 0
+abbrev pub IsAnswerToCheckAgainst : Options → List (List ℕ) → Answer → Type 0
 IsAnswerToCheckAgainst choice parts =
     ToParts (exactly_three parts) (λ p. ToTexts p.0 p.1 (λ c m. IsCheckedAgainstText c m choice p.2))

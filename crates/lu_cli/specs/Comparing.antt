@@ -4,7 +4,7 @@ use Rattle.std.specs.Fmt.{decimal}
 use Rattle.lu_text.specs.declared.fault.Fault.{Fault}
 use Rattle.lu_text.specs.Faults.{IsUnlessMemory, meaning_of}
 use Rattle.lu_text.specs.Words.{exactly_three}
-use Rattle.lu_component.specs.Component.{Declarations}
+use Rattle.lu_component.specs.Component.{Component}
 use Rattle.lu_lang.specs.Kinds.{code_of}
 use Rattle.lu_lang.specs.declared.fault.LangFaultKind.{LangFaultKind}
 use Rattle.lu_lang.specs.Grammar.{component_grammar}
@@ -41,11 +41,11 @@ all_agree count =
     record { text = codes "campaign agrees " ++ decimal count ++ codes "\n"; status = 0 }
 
 -- a verdict with the matrix and a schedule of it
-abbrev pub run_verdict : List ℕ → Declarations → Matrix → List Move → ℕ → Answer
+abbrev pub run_verdict : List ℕ → Component → Matrix → List Move → ℕ → Answer
 run_verdict words c m u status = verdict words (with_schedule c (m, u)).text status
 
 -- the first matrix on which it does not, and what shows that
-abbrev pub difference_answer : Declarations → Matrix → Difference → Answer
+abbrev pub difference_answer : Component → Matrix → Difference → Answer
 difference_answer c m (TrustedCut u) =
     verdict (codes "trusted serial-cut") (with_schedule c (m, u)).text 3
 difference_answer c m (TrustedConflict u before earlier) =
@@ -55,30 +55,30 @@ difference_answer c m (Serially u) =
 difference_answer c m (Concurrently r) =
     verdict (codes "differs concurrently") (two_texts c m r) 1
 
-abbrev pub comparison_answer : Declarations → Comparison → Answer
+abbrev pub comparison_answer : Component → Comparison → Answer
 comparison_answer c (AllAgree count) = all_agree count
 comparison_answer c (Differs m difference) = difference_answer c m difference
 
 -- what the comparison on the matrices with these numbers says, or why there is no campaign
-abbrev pub IsComparedNumbers : Declarations → Asked → ℕ → ℕ → Answer → Type 0
+abbrev pub IsComparedNumbers : Component → Asked → ℕ → ℕ → Answer → Type 0
 IsComparedNumbers trusted asked from upto answer =
     ((found : Comparison) × IsCompared trusted asked from upto found
     × (answer ≡ comparison_answer asked.component found))
     ⊎ IsListsRefusal asked.candidates asked.calls answer
 
 -- so it is of the result, for these roles
-abbrev pub ComparesNumbers : Declarations → Roles → ℕ → ℕ → Result Answer Refusal → Type 0
+abbrev pub ComparesNumbers : Component → Roles → ℕ → ℕ → Result Answer Refusal → Type 0
 ComparesNumbers trusted roles from upto =
     Answered (IsComparedNumbers trusted (asked_of roles) from upto)
 
 -- the same against a trusted component
-abbrev pub IsComparedPart : Declarations → CampaignPart → Asked → Answer → Type 0
+abbrev pub IsComparedPart : Component → CampaignPart → Asked → Answer → Type 0
 IsComparedPart trusted Whole asked = IsComparedNumbers trusted asked 0 most_long
 IsComparedPart trusted (Slice from upto) asked = IsComparedNumbers trusted asked from upto
 IsComparedPart trusted Count asked = IsCountAnswer asked.candidates asked.calls
 
 -- so it is of the result, for these candidates
-abbrev pub ComparesLists : Declarations → Declarations → List Call → List (List Call)
+abbrev pub ComparesLists : Component → Component → List Call → List (List Call)
     → CampaignOptions → Result Answer Refusal → Type 0
 ComparesLists trusted c setup candidates o =
     Answered (IsComparedPart trusted o.part (lists_of c setup candidates o))
@@ -86,7 +86,7 @@ ComparesLists trusted c setup candidates o =
 -- ---- the calls that are chosen from
 
 -- what is answered against a trusted component: to the calls of the matrix's one thread
-abbrev pub IsComparedAlike : Declarations → Declarations → ℕ → CampaignOptions → Matrix → Answer
+abbrev pub IsComparedAlike : Component → Component → ℕ → CampaignOptions → Matrix → Answer
     → Type 0
 IsComparedAlike trusted c threads o matrix =
     ToCandidates matrix.threads
@@ -94,18 +94,18 @@ IsComparedAlike trusted c threads o matrix =
     (lists_of c matrix.setup (replicate threads candidates) o))
 
 -- or to each of its lines
-abbrev pub IsComparedByThreads : CampaignThreads → Declarations → Declarations → CampaignOptions → Matrix
+abbrev pub IsComparedByThreads : CampaignThreads → Component → Component → CampaignOptions → Matrix
     → Answer → Type 0
 IsComparedByThreads (Alike threads) trusted c o matrix = IsComparedAlike trusted c threads o matrix
 IsComparedByThreads Own trusted c o matrix =
     IsComparedPart trusted o.part (lists_of c matrix.setup matrix.threads o)
 
-abbrev pub IsComparedMatrix : Declarations → Declarations → CampaignOptions → Matrix → Answer
+abbrev pub IsComparedMatrix : Component → Component → CampaignOptions → Matrix → Answer
     → Type 0
 IsComparedMatrix trusted c o matrix = IsComparedByThreads o.threads trusted c o matrix
 
 -- so it is of the result: to the calls of the one thread, and to each of the lines
-abbrev pub ComparesAlike : Declarations → Declarations → ℕ → CampaignOptions → Matrix
+abbrev pub ComparesAlike : Component → Component → ℕ → CampaignOptions → Matrix
     → Result Answer Refusal → Type 0
 ComparesAlike trusted c threads o matrix = Answered (IsComparedAlike trusted c threads o matrix)
 
@@ -118,7 +118,7 @@ IsTrustedRefusal text refused =
     × (refused ≡ refusal.Texts (TextsComponent fault))
 
 -- the trusted component is read, and has the operations of the other one; and its setup settles too
-abbrev pub ToTrusted : List ℕ → Declarations → Matrix → (Declarations → Answer → Type 0) → Answer
+abbrev pub ToTrusted : List ℕ → Component → Matrix → (Component → Answer → Type 0) → Answer
     → Type 0
 ToTrusted text c m IsAnswer =
     ToValue code_of (meaning_of component_grammar text)
@@ -127,11 +127,11 @@ ToTrusted text c m IsAnswer =
     ⊎ ((HasSameOperations c trusted → ⊥) × (answer ≡ refused (codes "G4"))))
 
 -- so it is of the result, where the trusted component is read, and of its text
-abbrev pub ComparesSettled : Declarations → Declarations → CampaignOptions → Matrix
+abbrev pub ComparesSettled : Component → Component → CampaignOptions → Matrix
     → Result Answer Refusal → Type 0
 ComparesSettled trusted c o m = Answered (ToSettled trusted m (IsComparedMatrix trusted c o m))
 
-abbrev pub ComparesWith : List ℕ → Declarations → CampaignOptions → Matrix → Result Answer Refusal
+abbrev pub ComparesWith : List ℕ → Component → CampaignOptions → Matrix → Result Answer Refusal
     → Type 0
 ComparesWith text c o m =
     Answered (ToTrusted text c m (λ trusted. IsComparedMatrix trusted c o m))

@@ -1,6 +1,6 @@
 -- What `compile` answers.
 use Rattle.std.specs.Prelude.{◌≡◌, ℕ, List, All, Option, Some, None, Vec, codes, ◌++◌, ◌⊎◌, [], ◌∷◌}
-use Rattle.lu_component.specs.Component.{Declarations}
+use Rattle.lu_component.specs.Component.{Component}
 use Rattle.std.specs.List.{flat_map}
 use Rattle.lu_source_text.specs.Kinds.{code_of as source_code_of}
 use Rattle.lu_source_text.specs.Readers.{component_meant}
@@ -24,15 +24,15 @@ part_text part = codes "---\n" ++ part
 abbrev pub behind : List (List ℕ) → List ℕ
 behind parts = flat_map part_text parts
 
-abbrev pub lent_behind : List (Bor (List ℕ)) → List ℕ
-lent_behind parts = flat_map (λ part. part_text part.now) parts
+abbrev pub lent_after : List (Bor (List ℕ)) → List ℕ
+lent_after parts = flat_map (λ part. part_text part.now) parts
 
--- the text of the component, and these parts behind it as they are
-abbrev pub compiled_bundle : Declarations → List (List ℕ) → Answer
+-- the text of the component, and these parts after it as they are
+abbrev pub compiled_bundle : Component → List (List ℕ) → Answer
 compiled_bundle c parts = record { text = component_text c ++ behind parts; status = 0 }
 
 -- that, or that a part is no UTF-8
-abbrev pub IsCompiledBundle : Declarations → List (List ℕ) → Answer → Type 0
+abbrev pub IsCompiledBundle : Component → List (List ℕ) → Answer → Type 0
 IsCompiledBundle c parts answer =
     (answer ≡ compiled_bundle c parts)
     ⊎ ((All IsUtf8 parts → ⊥) × (answer ≡ refused (codes "B3")))

@@ -1,7 +1,7 @@
 -- What `conform` answers.
 use Rattle.std.specs.Prelude.{ℕ, ◌++◌, List, codes, length, ◌<◌, ◌≡◌, Some, slice_get, Result}
 use Rattle.std.specs.Fmt.{decimal}
-use Rattle.lu_component.specs.Component.{Declarations}
+use Rattle.lu_component.specs.Component.{Component}
 use Rattle.lu_test.specs.declared.schedule.Move.{Move}
 use Rattle.lu_test.specs.Matrix.{Matrix}
 use Rattle.lu_test.specs.ScheduleText.{schedule_text}
@@ -61,16 +61,16 @@ TellsConformance showing all (NoneShows n) answer =
 TellsConformance showing all (Undecided n) answer = answer ≡ undecided_at n
 
 -- whether some schedule of the component shows each history
-abbrev pub IsConformed : Declarations → Matrix → Showing → List Recorded → Answer → Type 0
+abbrev pub IsConformed : Component → Matrix → Showing → List Recorded → Answer → Type 0
 IsConformed c m showing all answer =
     (found : Conformance) × IsConformance c m all found × TellsConformance showing all found answer
 
 -- the recorded histories are read first
-abbrev pub IsConformedTexts : Declarations → Matrix → Showing → List (List ℕ) → Answer → Type 0
+abbrev pub IsConformedTexts : Component → Matrix → Showing → List (List ℕ) → Answer → Type 0
 IsConformedTexts c m showing texts = ToRecorded m texts (IsConformed c m showing)
 
 -- that is answered, or a refusal that is
-abbrev pub ConformsTexts : Declarations → Matrix → Showing → List (List ℕ) → Result Answer Refusal
+abbrev pub ConformsTexts : Component → Matrix → Showing → List (List ℕ) → Result Answer Refusal
     → Type 0
 ConformsTexts c m showing texts result = Answered (IsConformedTexts c m showing texts) result
 

@@ -2,17 +2,17 @@
 use Rattle.std.specs.Prelude.{ℕ, List, codes, Bool, nat_eq, MatchBool, ◌≡◌, Ok, Option, Some, None, Result}
 use Rattle.lu_text.specs.declared.fault.Fault.{Fault}
 use Rattle.lu_text.specs.Words.{exactly_four}
-use Rattle.lu_component.specs.Component.{Declarations}
+use Rattle.lu_component.specs.Component.{Component}
 use Rattle.lu_test.specs.declared.schedule.Move.{Move}
 use Rattle.lu_test.specs.declared.schedule_fault.ScheduleFault.{ScheduleFault}
 use Rattle.lu_test.specs.ScheduleText.{schedule_of, IsScheduleUnlessMemory}
 use Rattle.lu_test.specs.Matrix.{Matrix}
-use Rattle.lu_report.specs.Parts.{Parts}
+use Rattle.lu_report.specs.Parts.{Report}
 use Rattle.lu_report.specs.declared.fault.ReportFaultKind.{ReportFaultKind}
 use Rattle.lu_report.specs.Forms.{Spells, IsFault}
 use Rattle.std.specs.List.{starts_with}
 use Rattle.lu_trace.specs.declared.wording.Wording.{Wording}
-use Rattle.lu_report.specs.Limits.{Limits}
+use Rattle.lu_report.specs.Limits.{Bounds}
 use Rattle.lu_cli.specs.declared.refusal.Refusal.{Refusal}
 use Rattle.lu_cli.specs.declared.refusal.Refusal.TheVariants as refusal
 use Rattle.lu_cli.specs.declared.failing.View.{View}
@@ -44,7 +44,7 @@ ToTarget text IsAnswer answer =
 -- what is read of such a text
 abbrev pub IsTarget : List ℕ → Target → Type 0
 IsTarget text t =
-    MatchBool (is_report text) ((r : Parts) × Spells text r × (t ≡ target.Report r))
+    MatchBool (is_report text) ((r : Report) × Spells text r × (t ≡ target.Report r))
     ((u : List Move) × (schedule_of text ≡ Ok u) × (t ≡ target.Schedule u))
 
 -- why it is refused
@@ -56,30 +56,30 @@ IsTargetRefusal text refused =
     × (refused ≡ refusal.Schedule fault))
 
 -- the bound of serial runs that the report has, else the one that is asked for
-abbrev pub serial_of : Limits → Option ℕ → Limits
+abbrev pub serial_of : Bounds → Option ℕ → Bounds
 serial_of limits None = limits
 serial_of limits (Some serial) = record { bound = limits.bound; serial = serial }
 
 -- a report is explained by its own bound of serial runs
-abbrev pub limits_for : Limits → Target → Limits
+abbrev pub limits_for : Bounds → Target → Bounds
 limits_for limits (target.Schedule u) = limits
 limits_for limits (target.Report r) = serial_of limits r.serial
 
 -- ---- by the serial runs
 
 -- the schedule or the report is read, and explained by the serial runs: a report by its own bound
-abbrev pub IsExplainedText : Presenting → Limits → Declarations → Matrix → List ℕ → Answer
+abbrev pub IsExplainedText : Presenting → Bounds → Component → Matrix → List ℕ → Answer
     → Type 0
 IsExplainedText by limits c m text =
     ToTarget text (λ t. IsExplainedSerially by (limits_for limits t) c m t)
 
 -- the results are so
-abbrev pub ExplainsText : Presenting → Limits → Declarations → Matrix → List ℕ
+abbrev pub ExplainsText : Presenting → Bounds → Component → Matrix → List ℕ
     → Result Answer Refusal → Type 0
 ExplainsText by limits c m text = Answered (IsExplainedText by limits c m text)
 
-abbrev pub IsExplainBehind : Presentation → Limits → List (List ℕ) → Answer → Type 0
-IsExplainBehind by limits parts =
+abbrev pub IsExplainAfter : Presentation → Bounds → List (List ℕ) → Answer → Type 0
+IsExplainAfter by limits parts =
     ToParts (shown_parts parts)
     (λ p. ToTold p.0 p.1 (λ how c m. IsExplainedText (in_words by how) limits c m p.2))
 
@@ -87,17 +87,17 @@ abbrev pub view_of : Presentation → View
 view_of Words = view.Explanation
 view_of Picture = view.ExplainedPicture
 
-abbrev pub IsAnswerToExplain : Presentation → Limits → List (List ℕ) → Answer → Type 0
-IsAnswerToExplain by limits = AloneOr (view_of by) (IsExplainBehind by limits)
+abbrev pub IsAnswerToExplain : Presentation → Bounds → List (List ℕ) → Answer → Type 0
+IsAnswerToExplain by limits = AloneOr (view_of by) (IsExplainAfter by limits)
 
 -- ---- by a specification
 
 -- the schedule or the report is read first, and then the specification
-abbrev pub IsExplainedAgainstText : Wording → Declarations → Matrix → List ℕ → List ℕ → Answer → Type 0
+abbrev pub IsExplainedAgainstText : Wording → Component → Matrix → List ℕ → List ℕ → Answer → Type 0
 IsExplainedAgainstText how c m text spec =
     ToTarget text (λ t. ToGiven m spec (λ members. IsExplainedTarget (in_words Words how) members c m t))
 
-abbrev pub ExplainsAgainst : Wording → Declarations → Matrix → List ℕ → List ℕ
+abbrev pub ExplainsAgainst : Wording → Component → Matrix → List ℕ → List ℕ
     → Result Answer Refusal → Type 0
 ExplainsAgainst how c m text spec = Answered (IsExplainedAgainstText how c m text spec)
 

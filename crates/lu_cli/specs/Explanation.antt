@@ -1,6 +1,6 @@
 -- How a schedule is explained, by serial histories: in words, or by marks in its picture.
 use Rattle.std.specs.Prelude.{◌≡◌, ◌⊎◌, ℕ, ◌<◌, true, false, List, ◌++◌, codes, Some, [], Result, IfOk}
-use Rattle.lu_component.specs.Component.{Declarations}
+use Rattle.lu_component.specs.Component.{Component}
 use Rattle.lu_test.specs.declared.schedule.Move.{Move}
 use Rattle.lu_test.specs.ScheduleText.{schedule_text}
 use Rattle.lu_test.specs.Matrix.{Matrix}
@@ -16,13 +16,13 @@ use Rattle.lu_witness.specs.Witnesses.{IsMember, IsVerdict}
 use Rattle.lu_replay.specs.Reports.{IsFinding}
 use Rattle.lu_replay.specs.Replays.{IsInfeasibleAt, PlaysToStatus}
 use Rattle.lu_trace.specs.declared.wording.Wording.{Wording}
-use Rattle.lu_report.specs.Limits.{Limits}
+use Rattle.lu_report.specs.Limits.{Bounds}
 use Rattle.lu_report.specs.declared.report.Finding.TheVariants.{SerialCut, Nondeterministic, Fail, Pass}
 use Rattle.lu_history.specs.Histories.{pending}
 use Rattle.lu_history.specs.Parts.{keep_pending}
 use Rattle.lu_witness.specs.declared.judgement.Verdict.{Verdict}
 use Rattle.lu_witness.specs.declared.judgement.Verdict.TheVariants.{Good, NoWitness, NoWitnessFor}
-use Rattle.lu_explain.specs.Explanations.{Explained, IsExplanation}
+use Rattle.lu_explain.specs.Explanations.{Explanation, IsExplanation}
 use Rattle.lu_machine.specs.declared.event.Status.TheVariants.{Running, Complete, Stuck}
 use Rattle.lu_explain.specs.Blocks.{IsTextFor, run_of}
 use Rattle.lu_explain.specs.EventMoves.{AreEventMoves}
@@ -51,7 +51,7 @@ IsShownThread (NoWitnessFor u) h t = t ≡ u
 
 -- the explanation by these serial histories, without the pending calls of other threads
 pub record IsShownExplanation (members : List (List SerialOp)) (h : List Event)
-    (e : Explained) : Type 0 where
+    (e : Explanation) : Type 0 where
   pub verdict : Verdict
   pub judged : IsVerdict (IsMember members) h verdict
   pub thread : ℕ
@@ -71,7 +71,7 @@ status_by NoWitness = 1
 status_by (NoWitnessFor t) = 1
 
 -- the history of an ended schedule, explained by these serial histories
-abbrev pub IsExplainedHistory : List (List SerialOp) → Declarations → Matrix → List Move → List Event
+abbrev pub IsExplainedHistory : List (List SerialOp) → Component → Matrix → List Move → List Event
     → Answer → Type 0
 IsExplainedHistory members c m u h answer =
     (moves : List ℕ) × (text : List ℕ) × (verdict : Verdict)
@@ -80,18 +80,18 @@ IsExplainedHistory members c m u h answer =
     × (answer ≡ record { text = text; status = status_by verdict })
 
 -- the same as a picture
-abbrev pub IsPicturedHistory : Wording → List (List SerialOp) → Declarations → Matrix → List Move
+abbrev pub IsPicturedHistory : Wording → List (List SerialOp) → Component → Matrix → List Move
     → List Event → Answer → Type 0
 IsPicturedHistory how members c m u h answer =
-    (e : Explained) × IsShownExplanation members h e × IsDrawnExplained how (Some e) c m u answer
+    (e : Explanation) × IsShownExplanation members h e × IsDrawnExplained how (Some e) c m u answer
 
 -- by an explanation, or as a picture in these words
-abbrev pub IsPresentedAs : Presentation → Wording → List (List SerialOp) → Declarations → Matrix
+abbrev pub IsPresentedAs : Presentation → Wording → List (List SerialOp) → Component → Matrix
     → List Move → List Event → Answer → Type 0
 IsPresentedAs Words how = IsExplainedHistory
 IsPresentedAs Picture how = IsPicturedHistory how
 
-abbrev pub IsPresentedHistory : Presenting → List (List SerialOp) → Declarations → Matrix → List Move
+abbrev pub IsPresentedHistory : Presenting → List (List SerialOp) → Component → Matrix → List Move
     → List Event → Answer → Type 0
 IsPresentedHistory shown = IsPresentedAs shown.by shown.how
 
@@ -111,7 +111,7 @@ ToEnded Complete IsAnswer answer = IsAnswer answer
 ToEnded Stuck IsAnswer answer = IsAnswer answer
 
 -- a schedule, explained by these serial histories, or where it is infeasible
-abbrev pub IsExplainedSchedule : Presenting → List (List SerialOp) → Declarations → Matrix
+abbrev pub IsExplainedSchedule : Presenting → List (List SerialOp) → Component → Matrix
     → List Move → Answer → Type 0
 IsExplainedSchedule by members c m u answer =
     ((h : List Event) × (status : Status) × PlaysToStatus c m u h status
@@ -119,7 +119,7 @@ IsExplainedSchedule by members c m u answer =
     ⊎ ((i : ℕ) × IsInfeasibleAt c m u i × (answer ≡ infeasible i))
 
 -- a schedule, or that of a report
-abbrev pub IsExplainedTarget : Presenting → List (List SerialOp) → Declarations → Matrix → Target
+abbrev pub IsExplainedTarget : Presenting → List (List SerialOp) → Component → Matrix → Target
     → Answer → Type 0
 IsExplainedTarget by members c m (target.Schedule u) = IsExplainedSchedule by members c m u
 IsExplainedTarget by members c m (target.Report r) =
@@ -128,25 +128,25 @@ IsExplainedTarget by members c m (target.Report r) =
 -- ---- by the serial runs
 
 -- what a check finds, with any bound of schedules, where a serial run offends
-abbrev pub IsOffenceOf : Declarations → Matrix → ℕ → Finding → Type 0
+abbrev pub IsOffenceOf : Component → Matrix → ℕ → Finding → Type 0
 IsOffenceOf c m serial f =
     IsOfOffence f × ((bound : ℕ) → FromEachStart c m (λ s. IsFinding s bound serial f))
 
 -- by the serial histories, where no serial run offends; else that one does
-abbrev pub BySerialRuns : Declarations → Matrix → ℕ → (List (List SerialOp) → Answer → Type 0)
+abbrev pub BySerialRuns : Component → Matrix → ℕ → (List (List SerialOp) → Answer → Type 0)
     → Answer → Type 0
 BySerialRuns c m serial IsAnswer answer =
     ((s : State) × (members : List (List SerialOp)) × IsStart c m s × IsSetOf s serial members
     × IsAnswer members answer)
     ⊎ ((f : Finding) × IsOffenceOf c m serial f × ToFinding (λ v a. ⊥) f answer)
 
-abbrev pub IsExplainedSerially : Presenting → Limits → Declarations → Matrix → Target → Answer
+abbrev pub IsExplainedSerially : Presenting → Bounds → Component → Matrix → Target → Answer
     → Type 0
 IsExplainedSerially by limits c m explained =
     BySerialRuns c m limits.serial (λ members. IsExplainedTarget by members c m explained)
 
 -- so it is of the result, where there is one
-abbrev pub ExplainsSerially : {E : Type 0} → Presenting → Limits → Declarations → Matrix → Target
+abbrev pub ExplainsSerially : {E : Type 0} → Presenting → Bounds → Component → Matrix → Target
     → Result Answer E → Type 0
 ExplainsSerially by limits c m explained result =
     IfOk result (IsExplainedSerially by limits c m explained)
@@ -154,41 +154,41 @@ ExplainsSerially by limits c m explained result =
 -- ---- by the serial histories of a tree, which `members` gives
 
 -- the schedule leads to what is shown
-abbrev pub IsPlayed : Declarations → Matrix → ShownSchedule → Type 0
+abbrev pub IsPlayed : Component → Matrix → ShownSchedule → Type 0
 IsPlayed c m run = PlaysToStatus c m run.schedule.now run.shown.now.history run.shown.now.status
 
 -- the answer, where there is one, explains the history of an ended schedule
-abbrev pub ExplainsRun : {T E : Type 0} → (T → List (List SerialOp)) → T → Declarations → Matrix
+abbrev pub ExplainsRun : {T E : Type 0} → (T → List (List SerialOp)) → T → Component → Matrix
     → ShownSchedule → Result Answer E → Type 0
 ExplainsRun members tree c m run result =
     IfOk result (IsExplainedHistory (members tree) c m run.schedule.now run.shown.now.history)
 
 -- it is a picture of it in these words
-abbrev pub PicturesRun : {T E : Type 0} → Wording → (T → List (List SerialOp)) → T → Declarations
+abbrev pub PicturesRun : {T E : Type 0} → Wording → (T → List (List SerialOp)) → T → Component
     → Matrix → ShownSchedule → Result Answer E → Type 0
 PicturesRun how members tree c m run result =
     IfOk result (IsPicturedHistory how (members tree) c m run.schedule.now run.shown.now.history)
 
 -- it presents it so
-abbrev pub Presents : {T E : Type 0} → Presenting → (T → List (List SerialOp)) → T → Declarations
+abbrev pub Presents : {T E : Type 0} → Presenting → (T → List (List SerialOp)) → T → Component
     → Matrix → ShownSchedule → Result Answer E → Type 0
 Presents by members tree c m run result =
     IfOk result (IsPresentedHistory by (members tree) c m run.schedule.now run.shown.now.history)
 
 -- it explains a schedule
 abbrev pub ExplainsSchedule : {T E : Type 0} → Presenting → (T → List (List SerialOp)) → T
-    → Declarations → Matrix → List Move → Result Answer E → Type 0
+    → Component → Matrix → List Move → Result Answer E → Type 0
 ExplainsSchedule by members tree c m u result =
     IfOk result (IsExplainedSchedule by (members tree) c m u)
 
 -- the schedule of a finding
 abbrev pub ExplainsFinding : {T E : Type 0} → Presenting → (T → List (List SerialOp)) → T
-    → Declarations → Matrix → Finding → Result Answer E → Type 0
+    → Component → Matrix → Finding → Result Answer E → Type 0
 ExplainsFinding by members tree c m f result =
     IfOk result (ToFinding (IsExplainedSchedule by (members tree) c m) f)
 
 -- a schedule, or that of a report
 abbrev pub ExplainsTarget : {T E : Type 0} → Presenting → (T → List (List SerialOp)) → T
-    → Declarations → Matrix → Target → Result Answer E → Type 0
+    → Component → Matrix → Target → Result Answer E → Type 0
 ExplainsTarget by members tree c m explained result =
     IfOk result (IsExplainedTarget by (members tree) c m explained)

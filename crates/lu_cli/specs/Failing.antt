@@ -2,12 +2,12 @@
 -- certificate.
 use Rattle.std.specs.Prelude.{ℕ, List, ◌++◌, codes, ◌≡◌, Result, IfOk, String, string_bytes, MatchOption}
 use Rattle.lu_text.specs.Words.{exactly_two}
-use Rattle.lu_component.specs.Component.{Declarations}
+use Rattle.lu_component.specs.Component.{Component}
 use Rattle.lu_test.specs.declared.schedule.Move.{Move}
 use Rattle.lu_test.specs.Matrix.{Matrix}
 use Rattle.lu_machine.specs.Starts.{CanRun}
 use Rattle.lu_report.specs.declared.report.Finding.{Finding}
-use Rattle.lu_report.specs.Parts.{Parts, shown_schedule}
+use Rattle.lu_report.specs.Parts.{Report, shown_schedule}
 use Rattle.lu_graph.specs.Nodes.{default_nodes}
 use Rattle.lu_certify.specs.declared.certificate.Certificate.{Certificate}
 use Rattle.lu_trace.specs.declared.wording.Wording.{Wording}
@@ -38,7 +38,7 @@ abbrev pub failure : List ℕ → Answer
 failure text = record { text = text; status = 1 }
 
 -- the finding, explained by the serial runs within the bounds of a certificate
-abbrev pub IsFindingExplained : Presenting → Declarations → Matrix → Finding → Answer → Type 0
+abbrev pub IsFindingExplained : Presenting → Component → Matrix → Finding → Answer → Type 0
 IsFindingExplained by c m f =
     BySerialRuns c m most_moves (λ members. ToFinding (IsExplainedSchedule by members c m) f)
 
@@ -53,7 +53,7 @@ view_of_failure run.Picture = Picture
 
 -- The cut and what shows that it fails, `text`, with what each move of the schedule does below; or
 -- the picture of the schedule alone.
-abbrev pub ShowsRun : View → Wording → Declarations → Matrix → List Move → List ℕ → Answer → Type 0
+abbrev pub ShowsRun : View → Wording → Component → Matrix → List Move → List ℕ → Answer → Type 0
 ShowsRun Explanation how c cut u text answer =
     (steps : Answer) × IsTraced FirstMove how c cut u steps
     × (answer ≡ failure (below text steps))
@@ -65,14 +65,14 @@ ShowsRun ExplainedPicture how c cut u text answer =
     (picture : Answer) × IsDrawn how c cut u picture × (answer ≡ failure picture.text)
 
 -- the answer, where there is one, shows that of the text
-abbrev pub ShowsRunBelow : {E Z : Type 0} → View → Wording → Declarations → Matrix → List Move
+abbrev pub ShowsRunBelow : {E Z : Type 0} → View → Wording → Component → Matrix → List Move
     → String Z → Result Answer E → Type 0
 ShowsRunBelow view how c cut u text result =
     IfOk result (ShowsRun view how c cut u (string_bytes text))
 
 -- The same where the cut has this report, with why it fails between them, or in the picture, where
 -- that is asked for.
-abbrev pub ShowsFailing : View → Wording → Declarations → Matrix → Parts → List Move → Answer
+abbrev pub ShowsFailing : View → Wording → Component → Matrix → Report → List Move → Answer
     → Type 0
 ShowsFailing Explanation how c cut r u answer =
     (why : Answer) × IsFindingExplained (in_words Words how) c cut r.finding why
@@ -85,12 +85,12 @@ ShowsFailing (Trace start) how c cut r u answer =
 ShowsFailing Picture how c cut r u answer = ShowsRun Picture how c cut u (two_texts c cut r) answer
 
 -- so it is of the result, where there is one
-abbrev pub ShowsFailure : {E : Type 0} → View → Wording → Declarations → Matrix → Parts → List Move
+abbrev pub ShowsFailure : {E : Type 0} → View → Wording → Component → Matrix → Report → List Move
     → Result Answer E → Type 0
 ShowsFailure view how c cut r u result = IfOk result (ShowsFailing view how c cut r u)
 
 -- of a certificate the cut that fails or has a livelock is shown; another one as it is
-abbrev pub ShowsByView : View → Wording → Declarations → Certificate → Answer → Type 0
+abbrev pub ShowsByView : View → Wording → Component → Certificate → Answer → Type 0
 ShowsByView view how c (Linearizable members) answer = ShowsCertificate c (Linearizable members) answer
 ShowsByView view how c (NotLinearizable cut r) answer =
     MatchOption (shown_schedule r.finding) (ShowsCertificate c (NotLinearizable cut r) answer)
@@ -100,7 +100,7 @@ ShowsByView view how c (Livelock cut u) answer =
 ShowsByView view how c (Undecided cut r) answer = ShowsCertificate c (Undecided cut r) answer
 
 -- the cut that it names, if any, can be run
-abbrev pub CanRunCut : Declarations → Certificate → Type 0
+abbrev pub CanRunCut : Component → Certificate → Type 0
 CanRunCut c (Linearizable members) = Unit {0}
 CanRunCut c (NotLinearizable cut r) = CanRun c cut
 CanRunCut c (Livelock cut u) = CanRun c cut
@@ -111,12 +111,12 @@ abbrev pub widest : Limits
 widest = record { bound = most_moves; serial = most_moves; nodes = default_nodes }
 
 -- what is shown of the certificate, which has the limits of `certify`
-abbrev pub IsShownAlone : View → Wording → Declarations → Matrix → Answer → Type 0
+abbrev pub IsShownAlone : View → Wording → Component → Matrix → Answer → Type 0
 IsShownAlone view how c m answer =
     (certificate : Certificate) × IsCertificate c m widest certificate
     × ShowsByView view how c certificate answer
 
--- of a component and a matrix alone what fails is shown so; of more parts what stands behind them
+-- of a component and a matrix alone what fails is shown so; of more parts what stands after them
 abbrev pub AloneOr : View → (List (List ℕ) → Answer → Type 0) → List (List ℕ) → Answer → Type 0
 AloneOr view IsShown parts answer =
     MatchOption (exactly_two parts) (IsShown parts answer)

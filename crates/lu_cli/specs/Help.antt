@@ -16,7 +16,7 @@ use Rattle.lu_cli.specs.Table.{TableCommand, TableOption, command_said, commands
 abbrev pub blanks : ℕ → Text
 blanks count = replicate count 32
 
--- the text, and blanks behind it up to this width
+-- the text, and blanks after it up to this width
 abbrev pub padded : ℕ → Text → Text
 padded width text = text ++ blanks (width - length text)
 
@@ -66,7 +66,7 @@ written o = written_by o.kind o.name o.letter
 abbrev pub other_name : Text → Text
 other_name name = codes ", " ++ name
 
--- names in memory, each behind a comma
+-- names in memory, each after a comma
 abbrev pub lent_others : List (Bor Text) → Text
 lent_others = flat_map (λ name. other_name name.now)
 

@@ -2,7 +2,7 @@
 use Rattle.std.specs.Prelude.{ℕ, ◌++◌, codes, List, ◌≡◌, length, Option, Some, None, slice_get, ◌∷◌, ◌⊎◌, Result, IfOk}
 use Rattle.std.specs.Fmt.{decimal}
 use Rattle.lu_text.specs.Words.{Word}
-use Rattle.lu_component.specs.Component.{Declarations}
+use Rattle.lu_component.specs.Component.{Component}
 use Rattle.lu_test.specs.Matrix.{Matrix}
 use Rattle.lu_machine.specs.States.{State}
 use Rattle.lu_machine.specs.Starts.{IsStart}
@@ -11,7 +11,7 @@ use Rattle.lu_serial.specs.Offences.{NoOffence}
 use Rattle.lu_witness.specs.Witnesses.{IsMember}
 use Rattle.lu_spec.specs.Beginnings.{IsClosureOf}
 use Rattle.lu_recorded.specs.declared.recorded.Recorded.{Recorded}
-use Rattle.lu_report.specs.Limits.{Limits}
+use Rattle.lu_report.specs.Limits.{Bounds}
 use denote.Ref.{Bor}
 use Rattle.std.specs.Option.{option_map}
 use Rattle.lu_text.specs.Lines.{texts}
@@ -36,13 +36,13 @@ unwitnessed n history reason = record {
 }
 
 -- history n is shown, and why it has not its witnesses
-abbrev pub IsShown : List (List SerialOp) → Declarations → Matrix → ℕ → Recorded → Answer → Type 0
+abbrev pub IsShown : List (List SerialOp) → Component → Matrix → ℕ → Recorded → Answer → Type 0
 IsShown members c m n recorded answer =
     (reason : List ℕ) × IsReason (IsMember members) c m recorded reason
     × (answer ≡ unwitnessed n (recorded_text recorded) reason)
 
 -- all have their witnesses; or the first that has not is shown
-abbrev pub Tells : List (List SerialOp) → Declarations → Matrix → List Recorded → Option ℕ → Answer
+abbrev pub Tells : List (List SerialOp) → Component → Matrix → List Recorded → Option ℕ → Answer
     → Type 0
 Tells members c m all None answer = answer ≡ all_witnessed (length all)
 Tells members c m all (Some n) answer =
@@ -50,7 +50,7 @@ Tells members c m all (Some n) answer =
     × IsShown members c m n recorded answer
 
 -- the recorded histories, judged by these serial histories
-abbrev pub IsJudgedByMembers : List (List SerialOp) → Declarations → Matrix → List Recorded → Answer
+abbrev pub IsJudgedByMembers : List (List SerialOp) → Component → Matrix → List Recorded → Answer
     → Type 0
 IsJudgedByMembers members c m all answer =
     (found : Option ℕ) × TellsUnwitnessed (IsMember members) all found
@@ -58,12 +58,12 @@ IsJudgedByMembers members c m all answer =
 
 -- ---- the parts of a bundle
 
--- the first two parts, and those behind them, where there are some
+-- the first two parts, and those after them, where there are some
 abbrev pub three_parts : List Word → Option (Word × Word × List Word)
 three_parts (a ∷ b ∷ c ∷ parts) = Some (a, b, c ∷ parts)
 three_parts _ = None
 
--- the first three parts, and those behind them, where there are some
+-- the first three parts, and those after them, where there are some
 abbrev pub four_parts : List Word → Option (Word × Word × Word × List Word)
 four_parts (a ∷ b ∷ c ∷ d ∷ parts) = Some (a, b, c, d ∷ parts)
 four_parts _ = None
@@ -81,7 +81,7 @@ seen_as_four parts = option_map (λ p. (p.0.now, p.1.now, p.2.now, texts p.3.now
 
 -- where there is no serial offence, judged by all beginnings of the serial histories; else the
 -- report of the least offence
-abbrev pub IsJudgedSerially : Declarations → Matrix → Limits → List Recorded → Answer → Type 0
+abbrev pub IsJudgedSerially : Component → Matrix → Bounds → List Recorded → Answer → Type 0
 IsJudgedSerially c m limits all answer =
     ((s : State) × (histories : List (List SerialOp)) × (members : List (List SerialOp))
     × IsStart c m s × NoOffence s limits.serial × AreSerial s histories
@@ -89,17 +89,17 @@ IsJudgedSerially c m limits all answer =
     ⊎ IsOffenceReported c m limits answer
 
 -- the recorded histories are read, and then judged by the serial runs
-abbrev pub IsJudgedTexts : Declarations → Matrix → Limits → List (List ℕ) → Answer → Type 0
+abbrev pub IsJudgedTexts : Component → Matrix → Bounds → List (List ℕ) → Answer → Type 0
 IsJudgedTexts c matrix limits texts = ToRecorded matrix texts (IsJudgedSerially c matrix limits)
 
-abbrev pub IsAnswerToJudge : Limits → List (List ℕ) → Answer → Type 0
+abbrev pub IsAnswerToJudge : Bounds → List (List ℕ) → Answer → Type 0
 IsAnswerToJudge limits parts =
     ToParts (three_parts parts) (λ p. ToTexts p.0 p.1 (λ c m. IsJudgedTexts c m limits p.2))
 
 -- ---- by a specification
 
 -- the specification is read first, and then the recorded histories, which are judged by it
-abbrev pub IsJudgedAgainstTexts : Declarations → Matrix → List ℕ → List (List ℕ) → Answer → Type 0
+abbrev pub IsJudgedAgainstTexts : Component → Matrix → List ℕ → List (List ℕ) → Answer → Type 0
 IsJudgedAgainstTexts c matrix spec texts =
     ToGiven matrix spec (λ members. ToRecorded matrix texts (IsJudgedByMembers members c matrix))
 
@@ -109,20 +109,20 @@ IsAnswerToJudgeAgainst parts =
 
 -- ---- in memory, unless it ran out
 
-abbrev pub ShowsFirst : {E : Type 0} → List (List SerialOp) → Declarations → Matrix → ℕ → Recorded
+abbrev pub ShowsFirst : {E : Type 0} → List (List SerialOp) → Component → Matrix → ℕ → Recorded
     → Result Answer E → Type 0
 ShowsFirst members c m n recorded result = IfOk result (IsShown members c m n recorded)
 
-abbrev pub JudgesBy : {E : Type 0} → List (List SerialOp) → Declarations → Matrix → List Recorded
+abbrev pub JudgesBy : {E : Type 0} → List (List SerialOp) → Component → Matrix → List Recorded
     → Result Answer E → Type 0
 JudgesBy members c m all result = IfOk result (IsJudgedByMembers members c m all)
 
 -- that is answered, or a refusal that is
-abbrev pub JudgesTexts : Declarations → Matrix → Limits → List (List ℕ) → Result Answer Refusal
+abbrev pub JudgesTexts : Component → Matrix → Bounds → List (List ℕ) → Result Answer Refusal
     → Type 0
 JudgesTexts c matrix limits texts result = Answered (IsJudgedTexts c matrix limits texts) result
 
-abbrev pub JudgesTextsAgainst : Declarations → Matrix → List ℕ → List (List ℕ)
+abbrev pub JudgesTextsAgainst : Component → Matrix → List ℕ → List (List ℕ)
     → Result Answer Refusal → Type 0
 JudgesTextsAgainst c matrix spec texts result =
     Answered (IsJudgedAgainstTexts c matrix spec texts) result

@@ -3,7 +3,7 @@ use Rattle.std.specs.Prelude.{◌≡◌, Option, Some, None, codes, ℕ, List, R
 use Rattle.lu_text.specs.declared.fault.Fault.{Fault}
 use Rattle.lu_text.specs.declared.fault.Fault.TheVariants.{At, Memory}
 use Rattle.lu_text.specs.Faults.{meaning_of}
-use Rattle.lu_component.specs.Component.{Declarations}
+use Rattle.lu_component.specs.Component.{Component}
 use Rattle.lu_lang.specs.Kinds.{code_of}
 use Rattle.lu_lang.specs.Grammar.{component_grammar}
 use Rattle.lu_test.specs.declared.schedule.Move.{Move}
@@ -13,7 +13,7 @@ use Rattle.lu_test.specs.MatrixText.{matrix_grammar}
 use Rattle.lu_test.specs.Matrix.{Matrix}
 use Rattle.lu_machine.specs.Starts.{IsUnsettledAt, Settles}
 use Rattle.lu_history.specs.declared.serial.SerialOp.{SerialOp}
-use Rattle.lu_report.specs.Parts.{Parts}
+use Rattle.lu_report.specs.Parts.{Report}
 use Rattle.lu_report.specs.declared.fault.ReportFaultKind.{ReportFaultKind}
 use Rattle.lu_report.specs.Codes.{report_code_of}
 use Rattle.lu_report.specs.Forms.{IsFault, Spells}
@@ -54,9 +54,9 @@ ToSchedule (Ok u) IsAnswer answer = IsAnswer u answer
 ToSchedule (Err fault) IsAnswer answer = answer ≡ refused (schedule_code_of fault)
 
 -- the answer to the text of a report: the fault with its line, or what is answered to the report
-abbrev pub ToReport : List ℕ → (Parts → Answer → Type 0) → Answer → Type 0
+abbrev pub ToReport : List ℕ → (Report → Answer → Type 0) → Answer → Type 0
 ToReport text IsAnswer answer =
-    ((r : Parts) × Spells text r × IsAnswer r answer)
+    ((r : Report) × Spells text r × IsAnswer r answer)
     ⊎ ((kind : ReportFaultKind) × (n : ℕ) × IsFault text (At kind n)
     × (answer ≡ refused_on_line (report_code_of kind) n))
 
@@ -87,29 +87,29 @@ ToRecorded m texts IsAnswer answer =
 -- ---- texts of components and matrices
 
 -- the answer to a matrix text of the component
-abbrev pub ToMatrix : Declarations → List ℕ → (Matrix → Answer → Type 0) → Answer → Type 0
+abbrev pub ToMatrix : Component → List ℕ → (Matrix → Answer → Type 0) → Answer → Type 0
 ToMatrix c matrix IsAnswer = ToValue matrix_code_of (meaning_of (matrix_grammar c) matrix) IsAnswer
 
 -- the answer where the setup settles; else the number of its first call that does not end
-abbrev pub ToSettled : Declarations → Matrix → (Answer → Type 0) → Answer → Type 0
+abbrev pub ToSettled : Component → Matrix → (Answer → Type 0) → Answer → Type 0
 ToSettled c matrix IsAnswer answer =
     (Settles c matrix × IsAnswer answer)
     ⊎ ((k : ℕ) × IsUnsettledAt c matrix k × (answer ≡ unsettled k))
 
 -- the component is read first, and then the matrix, whose setup is run
-abbrev pub ToTexts : List ℕ → List ℕ → (Declarations → Matrix → Answer → Type 0) → Answer → Type 0
+abbrev pub ToTexts : List ℕ → List ℕ → (Component → Matrix → Answer → Type 0) → Answer → Type 0
 ToTexts component matrix IsAnswer =
     ToValue code_of (meaning_of component_grammar component)
     (λ c. ToMatrix c matrix (λ m. ToSettled c m (IsAnswer c m)))
 
 -- A component, or a source, whose component is taken, is read first, and then the matrix, whose
 -- setup is run. What a source does is told in its own words.
-abbrev pub ToComponent : List ℕ → (Declarations → Answer → Type 0) → Answer → Type 0
+abbrev pub ToComponent : List ℕ → (Component → Answer → Type 0) → Answer → Type 0
 ToComponent text IsAnswer answer =
     MatchBool (is_source text) (ToValue source_code_of (component_meant text) IsAnswer answer)
     (ToValue code_of (meaning_of component_grammar text) IsAnswer answer)
 
-abbrev pub ToTold : List ℕ → List ℕ → (Wording → Declarations → Matrix → Answer → Type 0) → Answer
+abbrev pub ToTold : List ℕ → List ℕ → (Wording → Component → Matrix → Answer → Type 0) → Answer
     → Type 0
 ToTold text matrix IsAnswer =
     ToComponent text (λ c. ToMatrix c matrix (λ m. ToSettled c m (λ answer.

@@ -25,7 +25,7 @@ use Rattle.lu_cli.specs.declared.refusal.Refusal.{Refusal}
 use Rattle.lu_cli.specs.declared.refusal.Refusal.TheVariants as refusal
 use Rattle.lu_cli.specs.Outcomes.{Answer, refused, refused_on_line, no_worker, unsettled}
 
--- a fault by line; nothing is written for want of memory here
+-- a fault by line; nothing is written for refused memory here
 abbrev pub line_answer : {Kind : Type 0} → (Kind → List ℕ) → Fault Kind → Option Answer
 line_answer code (At kind n) = Some (refused_on_line (code kind) n)
 line_answer code Memory = None
@@ -62,7 +62,7 @@ abbrev pub history_answer : ℕ → Fault RecordedFaultKind → Option Answer
 history_answer i (At kind n) = Some (refused_in_history (recorded_code_of kind) i n)
 history_answer i Memory = None
 
--- the line of a refusal, and its status; none for want of memory, of which the program tells in one
+-- the line of a refusal, and its status; none for refused memory, of which the program tells in one
 -- place
 abbrev pub refusal_answer : Refusal → Option Answer
 refusal_answer refusal.Parts = Some (refused (codes "B1"))

@@ -1,11 +1,11 @@
 -- What `refute` answers.
 use Rattle.std.specs.Prelude.{◌≡◌, ◌⊎◌, ℕ, List, Result, codes}
 use Rattle.lu_text.specs.Words.{exactly_four}
-use Rattle.lu_component.specs.Component.{Declarations}
+use Rattle.lu_component.specs.Component.{Component}
 use Rattle.lu_test.specs.declared.schedule.Move.{Move}
 use Rattle.lu_test.specs.Matrix.{Matrix}
 use Rattle.lu_history.specs.declared.serial.SerialOp.{SerialOp}
-use Rattle.lu_report.specs.Parts.{Parts}
+use Rattle.lu_report.specs.Parts.{Report}
 use Rattle.lu_refute.specs.Answers.{IsAnswer as IsRefutation, IsConfirmedFailure}
 use Rattle.lu_cli.specs.Shows.{with_schedule}
 use Rattle.lu_cli.specs.Outcomes.{Answer, refused}
@@ -15,7 +15,7 @@ use Rattle.lu_cli.specs.Reading.{ToReport, ToSpec, ToParts, ToTexts}
 
 -- a schedule that the specification does not explain; or F2, where no run confirms that the report
 -- is a failure or nondeterministic
-abbrev pub IsRefuted : Declarations → Matrix → Parts → List (List SerialOp) → Answer → Type 0
+abbrev pub IsRefuted : Component → Matrix → Report → List (List SerialOp) → Answer → Type 0
 IsRefuted c matrix r members answer =
     (IsConfirmedFailure c matrix r
     × ((example : Matrix × List Move) × IsRefutation c matrix r members example
@@ -23,11 +23,11 @@ IsRefuted c matrix r members answer =
     ⊎ ((IsConfirmedFailure c matrix r → ⊥) × (answer ≡ refused (codes "F2")))
 
 -- the report is read first, and then the specification
-abbrev pub IsRefutedTexts : Declarations → Matrix → List ℕ → List ℕ → Answer → Type 0
+abbrev pub IsRefutedTexts : Component → Matrix → List ℕ → List ℕ → Answer → Type 0
 IsRefutedTexts c matrix report spec = ToReport report (λ r. ToSpec matrix spec (IsRefuted c matrix r))
 
 -- that is answered, or a refusal that is
-abbrev pub RefutesTexts : Declarations → Matrix → List ℕ → List ℕ → Result Answer Refusal → Type 0
+abbrev pub RefutesTexts : Component → Matrix → List ℕ → List ℕ → Result Answer Refusal → Type 0
 RefutesTexts c matrix report spec result = Answered (IsRefutedTexts c matrix report spec) result
 
 abbrev pub IsAnswerToRefute : List (List ℕ) → Answer → Type 0

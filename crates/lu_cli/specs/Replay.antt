@@ -1,7 +1,7 @@
 -- What `replay` answers.
 use Rattle.std.specs.Prelude.{◌≡◌, ◌⊎◌, ℕ, List}
 use Rattle.lu_text.specs.Words.{exactly_three}
-use Rattle.lu_component.specs.Component.{Declarations}
+use Rattle.lu_component.specs.Component.{Component}
 use Rattle.lu_test.specs.declared.schedule.Move.{Move}
 use Rattle.lu_test.specs.ScheduleText.{schedule_of}
 use Rattle.lu_test.specs.Matrix.{Matrix}
@@ -13,7 +13,7 @@ use Rattle.lu_cli.specs.Outcomes.{Answer, infeasible}
 use Rattle.lu_cli.specs.Reading.{ToParts, ToSchedule, ToTexts}
 
 -- what the schedule shows, or where it is infeasible
-abbrev pub IsReplayed : Declarations → Matrix → List Move → Answer → Type 0
+abbrev pub IsReplayed : Component → Matrix → List Move → Answer → Type 0
 IsReplayed c matrix u answer =
     ((history : List Event) × (status : Status) × PlaysToStatus c matrix u history status
     × (answer ≡ record { text = replay_text history status; status = 0 }))

@@ -1,11 +1,11 @@
 -- What `trace` and `draw` answer.
 use Rattle.std.specs.Prelude.{ℕ, List, Bool, ◌||◌, codes, Option, Some, None, if◌then◌else◌, [], ◌∷◌, ◌≡◌, Result, Ok, ◌⊎◌, IfOk}
-use Rattle.lu_component.specs.Component.{Declarations}
+use Rattle.lu_component.specs.Component.{Component}
 use Rattle.lu_test.specs.declared.schedule.Move.{Move}
 use Rattle.lu_test.specs.declared.schedule_fault.ScheduleFault.{ScheduleFault}
 use Rattle.lu_test.specs.ScheduleText.{schedule_of, IsScheduleUnlessMemory}
 use Rattle.lu_test.specs.Matrix.{Matrix}
-use Rattle.lu_report.specs.Parts.{Parts, shown_schedule}
+use Rattle.lu_report.specs.Parts.{Report, shown_schedule}
 use Rattle.lu_report.specs.Forms.{Spells}
 use Rattle.lu_trace.specs.declared.wording.Wording.{Wording}
 use denote.Ref.{Bor}
@@ -35,18 +35,18 @@ is_verdict text =
     || bytes_eq text (codes "differs concurrently\n"))))
 
 -- these three, where the part before them is such a line
-abbrev pub behind_verdict : List ℕ → List ℕ × List ℕ × List ℕ → Option (List ℕ × List ℕ × List ℕ)
-behind_verdict verdict parts = if is_verdict verdict then Some parts else None
+abbrev pub after_verdict : List ℕ → List ℕ × List ℕ × List ℕ → Option (List ℕ × List ℕ × List ℕ)
+after_verdict verdict parts = if is_verdict verdict then Some parts else None
 
 -- A component, a matrix, and a schedule or a report. Matrix and report may stand as a certificate
--- has them, behind its verdict, and that behind the matrix of which it is.
+-- has them, after its verdict, and that after the matrix of which it is.
 abbrev pub shown_parts : List (List ℕ) → Option (List ℕ × List ℕ × List ℕ)
 shown_parts [] = None
 shown_parts (c ∷ []) = None
 shown_parts (c ∷ m ∷ []) = None
 shown_parts (c ∷ m ∷ r ∷ []) = Some (c, m, r)
-shown_parts (c ∷ verdict ∷ m ∷ r ∷ []) = behind_verdict verdict (c, m, r)
-shown_parts (c ∷ whole ∷ verdict ∷ m ∷ r ∷ []) = behind_verdict verdict (c, m, r)
+shown_parts (c ∷ verdict ∷ m ∷ r ∷ []) = after_verdict verdict (c, m, r)
+shown_parts (c ∷ whole ∷ verdict ∷ m ∷ r ∷ []) = after_verdict verdict (c, m, r)
 shown_parts (a ∷ b ∷ c ∷ d ∷ e ∷ f ∷ parts) = None
 
 -- so it is of what is lent
@@ -60,8 +60,8 @@ AreShownParts parts lent =
 -- the schedule that the report which the text spells shows; none where it spells none with a
 -- schedule
 abbrev pub IsOfReport : List ℕ → Option (List Move) → Type 0
-IsOfReport text None = (r : Parts) → Spells text r → shown_schedule r.finding ≡ None
-IsOfReport text (Some u) = (r : Parts) × Spells text r × (shown_schedule r.finding ≡ Some u)
+IsOfReport text None = (r : Report) → Spells text r → shown_schedule r.finding ≡ None
+IsOfReport text (Some u) = (r : Report) × Spells text r × (shown_schedule r.finding ≡ Some u)
 
 -- that schedule, and else what the text says as a schedule
 abbrev pub or_schedule : Option (List Move) → List ℕ → Result (List Move) ScheduleFault
@@ -90,25 +90,25 @@ IsShownRefusal text refused =
 -- ---- its run
 
 -- the run of the schedule, shown so
-abbrev pub IsRunShown : RunView → Wording → Declarations → Matrix → List Move → Answer → Type 0
+abbrev pub IsRunShown : RunView → Wording → Component → Matrix → List Move → Answer → Type 0
 IsRunShown (run.Trace start) = IsTraced start
 IsRunShown run.Picture = IsDrawn
 
-abbrev pub IsTextShown : RunView → Wording → Declarations → Matrix → List ℕ → Answer → Type 0
+abbrev pub IsTextShown : RunView → Wording → Component → Matrix → List ℕ → Answer → Type 0
 IsTextShown view how c m text = ToShown text (IsRunShown view how c m)
 
 -- the results are so
-abbrev pub ShowsRunOf : {E : Type 0} → RunView → Wording → Declarations → Matrix → List Move
+abbrev pub ShowsRunOf : {E : Type 0} → RunView → Wording → Component → Matrix → List Move
     → Result Answer E → Type 0
 ShowsRunOf view how c m u result = IfOk result (IsRunShown view how c m u)
 
-abbrev pub ShowsText : RunView → Wording → Declarations → Matrix → List ℕ → Result Answer Refusal
+abbrev pub ShowsText : RunView → Wording → Component → Matrix → List ℕ → Result Answer Refusal
     → Type 0
 ShowsText view how c m text = Answered (IsTextShown view how c m text)
 
-abbrev pub IsShownBehind : RunView → List (List ℕ) → Answer → Type 0
-IsShownBehind view parts =
+abbrev pub IsShownAfter : RunView → List (List ℕ) → Answer → Type 0
+IsShownAfter view parts =
     ToParts (shown_parts parts) (λ p. ToTold p.0 p.1 (λ how c m. IsTextShown view how c m p.2))
 
 abbrev pub IsAnswerToTraceOrDraw : RunView → List (List ℕ) → Answer → Type 0
-IsAnswerToTraceOrDraw view = AloneOr (view_of_failure view) (IsShownBehind view)
+IsAnswerToTraceOrDraw view = AloneOr (view_of_failure view) (IsShownAfter view)

@@ -1,13 +1,13 @@
 -- What reports, matrices, schedules, specifications and certificates are shown as.
 use Rattle.std.specs.Prelude.{ℕ, List, ◌≡◌, ◌++◌, codes}
-use Rattle.lu_component.specs.Component.{Declarations}
+use Rattle.lu_component.specs.Component.{Component}
 use Rattle.lu_test.specs.declared.schedule.Move.{Move}
 use Rattle.lu_test.specs.MatrixText.{matrix_text}
 use Rattle.lu_test.specs.ScheduleText.{schedule_text}
 use Rattle.lu_test.specs.Matrix.{Matrix}
 use Rattle.lu_history.specs.declared.serial.SerialOp.{SerialOp}
 use Rattle.lu_report.specs.declared.report.Finding.{Finding}
-use Rattle.lu_report.specs.Parts.{Parts}
+use Rattle.lu_report.specs.Parts.{Report}
 use Rattle.lu_spec.specs.Listed.{IsListing}
 use Rattle.lu_spec.specs.SpecText.{spec_text}
 use Rattle.lu_certify.specs.declared.certificate.Certificate.{Certificate}
@@ -24,7 +24,7 @@ status_of (Fail u why) = 1
 status_of (Nondeterministic u before earlier) = 1
 status_of (SerialCut u) = 3
 
-abbrev pub reported : Parts → Answer
+abbrev pub reported : Report → Answer
 reported r = record { text = report_text r; status = status_of r.finding }
 
 -- ---- specifications
@@ -40,15 +40,15 @@ IsListed members answer =
 
 -- ---- a matrix, with its report or a schedule
 
-abbrev pub two_texts : Declarations → Matrix → Parts → List ℕ
+abbrev pub two_texts : Component → Matrix → Report → List ℕ
 two_texts c matrix r = matrix_text c matrix ++ codes "---\n" ++ report_text r
 
 -- both, and the report's status
-abbrev pub with_matrix : Declarations → Matrix → Parts → Answer
+abbrev pub with_matrix : Component → Matrix → Report → Answer
 with_matrix c matrix r = record { text = two_texts c matrix r; status = status_of r.finding }
 
 -- a matrix, and a schedule of it
-abbrev pub with_schedule : Declarations → Matrix × List Move → Answer
+abbrev pub with_schedule : Component → Matrix × List Move → Answer
 with_schedule c example = record {
   text = matrix_text c example.0 ++ codes "---\n" ++ schedule_text example.1;
   status = 1;
@@ -61,7 +61,7 @@ abbrev pub verdict : List ℕ → List ℕ → ℕ → Answer
 verdict words text status = record { text = words ++ codes "\n---\n" ++ text; status = status }
 
 -- what a certificate is shown as: its set as a specification; or the cut, and its report
-abbrev pub ShowsCertificate : Declarations → Certificate → Answer → Type 0
+abbrev pub ShowsCertificate : Component → Certificate → Answer → Type 0
 ShowsCertificate c (Linearizable members) answer =
     (listed : List (List SerialOp)) × IsListing members listed
     × (answer ≡ verdict (codes "linearizable") (spec_text listed) 0)

@@ -3,7 +3,7 @@ use Rattle.std.specs.Prelude.{◌≡◌, ◌⊎◌, ℕ, true, false, List, Matc
 use Rattle.lu_text.specs.declared.fault.Fault.{Fault}
 use Rattle.lu_text.specs.Faults.{IsUnlessMemory}
 use Rattle.lu_text.specs.Lines.{lines_of, texts}
-use Rattle.lu_component.specs.Component.{Declarations}
+use Rattle.lu_component.specs.Component.{Component as AComponent}
 use Rattle.lu_lang.specs.Labels.{labels_of}
 use Rattle.lu_source_text.specs.declared.fault.SourceFaultKind.{SourceFaultKind}
 use Rattle.lu_source_text.specs.Begins.{is_source}
@@ -84,7 +84,7 @@ IsToldOf text matrix told = IsComponentOf text matrix told × AreTextWords text 
 abbrev pub IsToldRefusalOfSource : List ℕ → List ℕ → Refusal → Type 0
 IsToldRefusalOfSource source matrix refused =
     (refused ≡ Memory) ⊎ (IsSourceRefusal source refused
-    ⊎ ((c : Declarations) × (fault : TextsFault) × (component_meant source ≡ Ok c)
+    ⊎ ((c : AComponent) × (fault : TextsFault) × (component_meant source ≡ Ok c)
     × IsFaultOfMatrix c matrix fault × (refused ≡ Texts fault)))
 
 -- the refusal of the texts of a component and a matrix

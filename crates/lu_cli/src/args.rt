@@ -92,7 +92,7 @@ fn with_command<'a>(
     program.subcommand(command_of(alloc, row, options)?)
 }
 
-/// The program without its commands. It takes the words behind its name, and its `help` is a
+/// The program without its commands. It takes the words after its name, and its `help` is a
 /// command of its own.
 fn bare_program<'a>(alloc: Global) -> Command<'a>
     ensures { IsApp spec.program result }
@@ -482,7 +482,7 @@ fn request_in(matches: &ArgMatches<'_>) -> Option<Request>
     request_by(name, given)
 }
 
-/// What the words behind the program's name ask for. The definitions of the command line are those
+/// What the words after the program's name ask for. The definitions of the command line are those
 /// of `clap`.
 pub fn read_request<'a, S: AsStr>(alloc: Global, words: &'a [S]) -> Result<Request, ArgsFault>
     ensures found { IfOk result (λ request. request_said S.text words.entry.now ≡ Some request) }

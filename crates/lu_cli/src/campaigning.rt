@@ -82,7 +82,7 @@ fn show_certified(
     })
 }
 
-/// The first matrix of a kind, with its certificate, behind the text.
+/// The first matrix of a kind, with its certificate, after the text.
 fn push_first(
     alloc: Global,
     component: &Component,
@@ -116,7 +116,7 @@ fn survey_status(survey: &Survey) -> u8
     }
 }
 
-/// How many matrices have a certificate of a kind, on a line behind the text.
+/// How many matrices have a certificate of a kind, on a line after the text.
 fn push_tally(text: &mut String, kind: &str, count: u64) -> Result<(), AllocError>
     ensures { Writes result text.old text.new (tally_line kind.now count) }
 {

@@ -32,7 +32,7 @@ pub fn strings_of<'a>(alloc: Global, parts: &[&'a [u8]]) -> Result<Option<Vec<&'
     Ok(Some(strings))
 }
 
-/// Puts a part behind the text, with the line before it.
+/// Puts a part after the text, with the line before it.
 fn push_part(text: &mut String, part: &str) -> Result<(), AllocError>
     ensures { Writes result text.old text.new (spec.part_text part.now) }
 {
@@ -40,9 +40,9 @@ fn push_part(text: &mut String, part: &str) -> Result<(), AllocError>
     text.push_str(part)
 }
 
-/// Puts these parts behind the text.
+/// Puts these parts after the text.
 fn push_parts(text: &mut String, parts: &[&str]) -> Result<(), AllocError>
-    ensures { Writes result text.old text.new (spec.lent_behind parts.now) }
+    ensures { Writes result text.old text.new (spec.lent_after parts.now) }
 {
     for part in parts {
         push_part(text, part)?;
@@ -50,7 +50,7 @@ fn push_parts(text: &mut String, parts: &[&str]) -> Result<(), AllocError>
     Ok(())
 }
 
-/// The text of the component, and these parts behind it.
+/// The text of the component, and these parts after it.
 fn write_bundle(alloc: Global, component: &Component, parts: &[&str]) -> Result<Answer, AllocError>
     ensures { Builds result (spec.compiled_bundle component.now (texts parts.now)) }
 {
@@ -59,7 +59,7 @@ fn write_bundle(alloc: Global, component: &Component, parts: &[&str]) -> Result<
     Ok(Answer { text, status: 0 })
 }
 
-/// The text of the component, and these parts behind it; or that one of them is no UTF-8.
+/// The text of the component, and these parts after it; or that one of them is no UTF-8.
 fn show_bundle(alloc: Global, component: &Component, parts: &[&[u8]]) -> Result<Answer, AllocError>
     ensures { IfOk result (IsCompiledBundle component.now (texts parts.now)) }
 {
@@ -80,7 +80,7 @@ pub(crate) fn read_source(alloc: Global, text: &[u8]) -> Result<Component, Refus
     }
 }
 
-/// What is answered to a source, and the parts behind it.
+/// What is answered to a source, and the parts after it.
 fn compile_parts(alloc: Global, source: &[u8], parts: &[&[u8]]) -> Result<Answer, Refusal>
     ensures { Answered (IsCompiledWith source.now (texts parts.now)) result }
 {

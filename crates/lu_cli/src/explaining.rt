@@ -5,7 +5,7 @@ ghost use Rattle.lu_text.specs.Lines.{texts};
 ghost use Rattle.lu_machine.specs.Starts.{CanRun};
 ghost use Rattle.lu_cli.specs.Refusals.{Answered};
 ghost use Rattle.lu_cli.specs.Explaining as spec;
-ghost use Rattle.lu_cli.specs.Explaining.{ExplainsAgainst, ExplainsText, IsAnswerToExplainAgainst, IsExplainBehind, IsAnswerToExplain, IsTarget, IsTargetRefusal, view_of as spec_of_view};
+ghost use Rattle.lu_cli.specs.Explaining.{ExplainsAgainst, ExplainsText, IsAnswerToExplainAgainst, IsExplainAfter, IsAnswerToExplain, IsTarget, IsTargetRefusal, view_of as spec_of_view};
 
 use crate::answer::Answer;
 use crate::explanation::{Presentation, Presenting, Target, explain, explain_serially};
@@ -62,18 +62,18 @@ pub(crate) fn answer_explain(
 {
     match exactly_two(parts) {
         Some((component, matrix)) => answer_failing(alloc, component, matrix, view_of(by)),
-        None => explain_behind(alloc, bounds, parts, by),
+        None => explain_after(alloc, bounds, parts, by),
     }
 }
 
 /// Component, matrix, and a schedule or a report.
-fn explain_behind(
+fn explain_after(
     alloc: Global,
     bounds: Bounds,
     parts: &[&[u8]],
     by: Presentation,
 ) -> Result<Answer, Refusal>
-    ensures { Answered (IsExplainBehind by bounds (texts parts.now)) result }
+    ensures { Answered (IsExplainAfter by bounds (texts parts.now)) result }
 {
     let (component, matrix, target) = shown_parts(parts).ok_or(Refusal::Parts)?;
     let told = read_told(alloc, component, matrix)?;

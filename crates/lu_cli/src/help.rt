@@ -39,7 +39,7 @@ fn push_blanks(text: &mut String, count: usize) -> Result<(), AllocError>
     Ok(())
 }
 
-/// Adds a word, and blanks behind it up to this width.
+/// Adds a word, and blanks after it up to this width.
 fn push_padded(text: &mut String, word: &str, width: usize) -> Result<(), AllocError>
     ensures { Writes result text.old text.new (spec.padded width word.now) }
 {
@@ -92,7 +92,7 @@ fn written(alloc: Global, option: &OptionRow) -> Result<String, AllocError>
     }
 }
 
-/// Adds these names, each behind a comma.
+/// Adds these names, each after a comma.
 fn push_others(text: &mut String, names: &[&str]) -> Result<(), AllocError>
     ensures { Writes result text.old text.new (spec.lent_others names.now) }
 {

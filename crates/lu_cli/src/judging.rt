@@ -101,7 +101,7 @@ fn judge_serially(
     }
 }
 
-/// The first two parts, and those behind them, where there are some.
+/// The first two parts, and those after them, where there are some.
 #[tactic(auto, using(crate::proofs::Judged::are_three, crate::proofs::Judged::are_not_three))]
 pub(crate) fn three_parts<'a, 'b>(
     parts: &'b [&'a [u8]],
@@ -158,7 +158,7 @@ fn judge_texts_against(
     Ok(judge_by(alloc, component, matrix, &specification.tree(), &all)?)
 }
 
-/// The first three parts, and those behind them, where there are some.
+/// The first three parts, and those after them, where there are some.
 #[tactic(auto, using(crate::proofs::Judged::are_four, crate::proofs::Judged::are_not_four))]
 fn four_parts<'a, 'b>(
     parts: &'b [&'a [u8]],

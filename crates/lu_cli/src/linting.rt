@@ -7,9 +7,9 @@ ghost use Rattle.lu_text.specs.Writing.{Writes};
 ghost use Rattle.lu_text.specs.Results.{HasItems};
 ghost use Rattle.lu_lint.specs.Messages as messages;
 ghost use Rattle.lu_lint.specs.Said.{is_fault};
-ghost use Rattle.lu_cli.specs.Compiling.{lent_behind};
+ghost use Rattle.lu_cli.specs.Compiling.{lent_after};
 ghost use Rattle.lu_cli.specs.Linting as spec;
-ghost use Rattle.lu_cli.specs.Linting.{AddsMessage, AreRemarksBehind, IsFaulted, IsLint, IsLinted, IsLintedBehind, IsSourceLinted, WritesMessages};
+ghost use Rattle.lu_cli.specs.Linting.{AddsMessage, AreRemarksAfter, IsFaulted, IsLint, IsLinted, IsLintedAfter, IsSourceLinted, WritesMessages};
 
 use crate::answer::Answer;
 use lu_component::Component;
@@ -32,7 +32,7 @@ fn write_mark(text: &mut String, what: What) -> Result<(), AllocError>
     }
 }
 
-/// Adds what stands behind the words.
+/// Adds what stands after the words.
 fn write_tail(text: &mut String, what: What) -> Result<(), AllocError>
     ensures { Writes result text.old text.new (spec.tail_of what) }
 {
@@ -95,7 +95,7 @@ fn answer_faults(alloc: Global, source: &[u8]) -> Result<Answer, AllocError>
 /// Adds these parts, each with the line before it.
 fn push_parts(bundle: &mut Vec<u8>, parts: &[&[u8]]) -> Result<(), AllocError>
     ensures { OnOk result
-        (bundle.new.items ≡ bundle.old.items ++ lent_behind parts.now) }
+        (bundle.new.items ≡ bundle.old.items ++ lent_after parts.now) }
 {
     for part in parts {
         bundle.extend_from_slice(b"---\n")?;
@@ -104,7 +104,7 @@ fn push_parts(bundle: &mut Vec<u8>, parts: &[&[u8]]) -> Result<(), AllocError>
     Ok(())
 }
 
-/// The remark, where it is of a line behind the first `above`: on the line that it has where `now`
+/// The remark, where it is of a line after the first `above`: on the line that it has where `now`
 /// lines stand in their place.
 fn moved(remark: Remark, above: usize, now: usize) -> Option<Remark>
     ensures { result ≡ spec.moved above now remark }
@@ -121,7 +121,7 @@ fn moved(remark: Remark, above: usize, now: usize) -> Option<Remark>
     })
 }
 
-/// What is said of lines behind the first `above`, where `now` lines stand in their place.
+/// What is said of lines after the first `above`, where `now` lines stand in their place.
 fn remarks_below(
     alloc: Global,
     remarks: Vec<Remark>,
@@ -158,7 +158,7 @@ fn write_fault_tail(text: &mut String, kind: FaultKind, line: usize) -> Result<(
     write!(text, " ({code}, line {line} of the {part})\n")
 }
 
-/// Adds what stands behind the words of a remark.
+/// Adds what stands after the words of a remark.
 fn write_remark_tail(text: &mut String, cause: &Cause) -> Result<(), AllocError>
     ensures { Writes result text.old text.new (messages.remark_tail cause.now) }
 {
@@ -194,7 +194,7 @@ fn write_remarks(text: &mut String, remarks: &[Remark]) -> Result<(), AllocError
     Ok(())
 }
 
-/// The component, with these parts behind it.
+/// The component, with these parts after it.
 fn bundle_of(alloc: Global, component: &Component, parts: &[&[u8]]) -> Result<Vec<u8>, AllocError>
     ensures { HasItems result (spec.bundle_of component.now (texts parts.now)) }
 {
@@ -203,15 +203,15 @@ fn bundle_of(alloc: Global, component: &Component, parts: &[&[u8]]) -> Result<Ve
     Ok(bundle)
 }
 
-/// What there is to say of the parts behind the source, whose component is this, on their lines.
-fn remarks_behind(
+/// What there is to say of the parts after the source, whose component is this, on their lines.
+fn remarks_after(
     alloc: Global,
     bounds: Bounds,
     component: &Component,
     source_lines: usize,
     parts: &[&[u8]],
 ) -> Result<Vec<Remark>, AllocError>
-    ensures { IfOk result (AreRemarksBehind bounds component.now source_lines (texts parts.now)) }
+    ensures { IfOk result (AreRemarksAfter bounds component.now source_lines (texts parts.now)) }
 {
     let text = write_component(alloc, component)?;
     let lines = lines_of(alloc, text.as_bytes())?.len();
@@ -221,8 +221,8 @@ fn remarks_behind(
 }
 
 /// What is odd in a source without faults, whose component is this, and what there is to say of
-/// the parts behind it.
-fn lint_behind(
+/// the parts after it.
+fn lint_after(
     alloc: Global,
     bounds: Bounds,
     source: &[u8],
@@ -230,11 +230,11 @@ fn lint_behind(
     parts: &[&[u8]],
 ) -> Result<Answer, AllocError>
     ensures { IfOk result
-        (IsLintedBehind bounds source.now (texts parts.now) component.now) }
+        (IsLintedAfter bounds source.now (texts parts.now) component.now) }
 {
     let lines = lines_of(alloc, source)?;
     let warnings = warnings_of(alloc, source)?;
-    let remarks = remarks_behind(alloc, bounds, component, lines.len(), parts)?;
+    let remarks = remarks_after(alloc, bounds, component, lines.len(), parts)?;
     let mut text = String::new(alloc);
     write_messages(alloc, &mut text, &warnings, &lines)?;
     write_remarks(&mut text, &remarks)?;
@@ -244,7 +244,7 @@ fn lint_behind(
     })
 }
 
-/// What there is to say of a source, and of the parts behind it.
+/// What there is to say of a source, and of the parts after it.
 fn lint_source(
     alloc: Global,
     bounds: Bounds,
@@ -254,7 +254,7 @@ fn lint_source(
     ensures { IfOk result (IsSourceLinted bounds source.now (texts parts.now)) }
 {
     match compile_text(alloc, source) {
-        Ok(component) => lint_behind(alloc, bounds, source, &component, parts),
+        Ok(component) => lint_after(alloc, bounds, source, &component, parts),
         Err(Fault::At(_, _)) => answer_faults(alloc, source),
         Err(Fault::Memory) => Err(AllocError),
     }

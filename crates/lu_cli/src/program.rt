@@ -131,7 +131,7 @@ fn refuse_command(alloc: Global) -> Result<Answer, AllocError>
     refused(alloc, "command line")
 }
 
-/// Runs the program on the words behind its name, and returns its exit status: 0 where all is well,
+/// Runs the program on the words after its name, and returns its exit status: 0 where all is well,
 /// 1 for a failure, for nondeterminism, for what is not linearizable and for an infeasible
 /// schedule, 2 for a refusal, 3 for a serial cut and where the bounds do not decide, and 4 where
 /// memory, the start of a worker's thread or a device failed. No call of the reader or the writer
@@ -218,7 +218,7 @@ pub fn answer_request(alloc: Global, request: Request, bundle: &[u8]) -> Result<
     }
 }
 
-/// What the program answers to the words behind its name and to a bundle. All is done on the
+/// What the program answers to the words after its name and to a bundle. All is done on the
 /// calling thread, however many workers the words ask for; the answer is the same for any number of
 /// them.
 ///

@@ -55,7 +55,7 @@ fn is_verdict(text: &[u8]) -> bool
 }
 
 /// The component, the matrix, and the schedule or the report. Matrix and report may stand as a
-/// certificate has them, behind its verdict, and that behind the matrix of which it is.
+/// certificate has them, after its verdict, and that after the matrix of which it is.
 pub(crate) fn shown_parts<'a>(parts: &[&'a [u8]]) -> Option<(&'a [u8], &'a [u8], &'a [u8])>
     ensures { AreShownParts (texts parts.now) result }
 {
@@ -106,8 +106,8 @@ fn show_text(
 }
 
 /// Component, matrix, and a schedule or a report.
-fn show_behind(alloc: Global, parts: &[&[u8]], view: RunView) -> Result<Answer, Refusal>
-    ensures { Answered (spec.IsShownBehind view (texts parts.now)) result }
+fn show_after(alloc: Global, parts: &[&[u8]], view: RunView) -> Result<Answer, Refusal>
+    ensures { Answered (spec.IsShownAfter view (texts parts.now)) result }
 {
     let (component, matrix, shown) = shown_parts(parts).ok_or(Refusal::Parts)?;
     let told = read_told(alloc, component, matrix)?;
@@ -128,6 +128,6 @@ pub(crate) fn answer_shown(alloc: Global, parts: &[&[u8]], view: RunView) -> Res
 {
     match exactly_two(parts) {
         Some((component, matrix)) => answer_failing(alloc, component, matrix, view.of_failure()),
-        None => show_behind(alloc, parts, view),
+        None => show_after(alloc, parts, view),
     }
 }

@@ -100,7 +100,7 @@ pub struct Case {
     pub matrix: Matrix,
 }
 
-/// The number of the first call of the setup that does not end, if there is one. Want of memory is
+/// The number of the first call of the setup that does not end, if there is one. Memory was refused is
 /// one of the matrix.
 fn find_unsettled(
     alloc: Global,

@@ -11,7 +11,7 @@ use Rattle.lu_component.specs.declared.component.Array.{Array}
 use Rattle.lu_component.specs.declared.component.Op.{Op}
 
 -- what the text of a component declares, each kind in its order
-pub record Declarations : Type 0 where
+pub record Component : Type 0 where
   pub name : List ℕ
   -- how many local instructions run with one move at most
   pub local : ℕ
@@ -19,7 +19,7 @@ pub record Declarations : Type 0 where
   pub locks : List (List ℕ)
   pub operations : List Op
 
-abbrev pub declarations : List ℕ → ℕ → List Array → List (List ℕ) → List Op → Declarations
+abbrev pub declarations : List ℕ → ℕ → List Array → List (List ℕ) → List Op → Component
 declarations name local arrays locks operations = record {
   name = name;
   local = local;
@@ -29,8 +29,8 @@ declarations name local arrays locks operations = record {
 }
 
 -- the number of the operation of this name
-abbrev pub operation_place : List Op → List ℕ → Option ℕ
-operation_place operations name = position (λ o. bytes_eq o.name name) operations
+abbrev pub operation_number : List Op → List ℕ → Option ℕ
+operation_number operations name = position (λ o. bytes_eq o.name name) operations
 
 abbrev pub IsRegister : ℕ → Type 0
 IsRegister r = r < 8
@@ -56,7 +56,7 @@ IsInstr arrays locks places (Jump target) = target < places
 IsInstr arrays locks places (JumpIfZero v target) = IsOperand v × (target < places)
 IsInstr arrays locks places (Return v) = IsOperand v
 
--- an instruction that code may end with: behind it nothing is next
+-- an instruction that code may end with: after it nothing is next
 abbrev pub IsLast : Instr → Type 0
 IsLast (Jump target) = Unit {0}
 IsLast (Return v) = Unit {0}
@@ -88,7 +88,7 @@ abbrev pub AreDistinct : List (List ℕ) → Type 0
 AreDistinct names = IsDistinct bytes_eq names
 
 -- the limits hold, names are distinct within their kind, and what an instruction names is there
-pub record IsComponent (c : Declarations) : Type 0 where
+pub record IsComponent (c : Component) : Type 0 where
   pub name : IsName c.name
   pub local_few : c.local ≤ 16
   pub arrays_few : length c.arrays ≤ 16

@@ -86,8 +86,8 @@ pub struct Op {
 }
 
 /// The place of the operation of this name, from 0, where there is one.
-pub fn operation_place(operations: &[Op], name: &[u8]) -> Option<usize>
-    ensures { result ≡ spec.operation_place operations.now name.now }
+pub fn operation_number(operations: &[Op], name: &[u8]) -> Option<usize>
+    ensures { result ≡ spec.operation_number operations.now name.now }
 {
     operations.iter().position(|op| op.name.is(name))
 }
@@ -106,9 +106,9 @@ pub struct Component {
 }
 
 impl Model for Component {
-    ghost use Rattle.lu_component.specs.Component.{Declarations, IsComponent, declarations};
+    ghost use Rattle.lu_component.specs.Component.{Component as AComponent, IsComponent, declarations};
 
-    ghost Value = { Declarations };
+    ghost Value = { AComponent };
 
     ghost view = { λ c.
         declarations c.name c.local c.arrays.items c.locks.items c.operations.items };
@@ -141,7 +141,7 @@ impl Component {
         }
     }
 
-    /// The name behind `component`.
+    /// The name after `component`.
     pub fn name(&self) -> &Name
         ensures { result.now ≡ self.now.name }
     {
@@ -189,9 +189,9 @@ impl Component {
     }
 
     /// The number of the operation of this name, from 0, where there is one.
-    pub fn operation_place(&self, name: &[u8]) -> Option<u8>
-        ensures { result ≡ spec.operation_place self.now.operations name.now }
+    pub fn operation_number(&self, name: &[u8]) -> Option<u8>
+        ensures { result ≡ spec.operation_number self.now.operations name.now }
     {
-        Some(operation_place(self.operations(), name)? as u8)
+        Some(operation_number(self.operations(), name)? as u8)
     }
 }

@@ -7,6 +7,6 @@ mod instr;
 
 pub use component::{
     Array, Code, Component, MOST_ARGUMENTS, MOST_ARRAYS, MOST_CELLS, MOST_INSTRS, MOST_LOCAL,
-    MOST_LOCKS, MOST_OPS, Op, operation_place,
+    MOST_LOCKS, MOST_OPS, Op, operation_number,
 };
 pub use instr::{Arithmetic, Instr, MOST_PICKS, Operand};

@@ -50,7 +50,7 @@ in_either (z ∷ xs) ys (suc i) x h =
       | inr new ↦ inr (omega (arith, new.0), new.1, new.2)
     ]
 
--- what stands behind a list begins what follows it
+-- what stands after a list begins what follows it
 front_of : {A : Type 0} (ys : List A) (x : A) → slice_get ys 0 ≡ Some x → (left : List A) × (ys ≡ x ∷ left)
 front_of [] x h = absurd (cc)
 front_of (y ∷ ys) x h = (ys, ap (λ z. z ∷ ys) (same_Some y x h))

@@ -51,7 +51,7 @@ module _ (s : State) where
       pub whole : recorded.history ≡ history ++ rest
       pub seen : entry.0.seen ≡ length history
 
-    -- All stages are reached, behind ever more moves; those before this place have all to which their moves lead that follow the history, behind no more than one move more, and don't show it.
+    -- All stages are reached, after ever more moves; those before this place have all to which their moves lead that follow the history, after no more than one move more, and don't show it.
     pub record Explored (list : List Entry) (place : ℕ) : Type 0 where
       pub start : KeepsWithin list (stage_of s 0) 0
       pub reached : All IsReached list

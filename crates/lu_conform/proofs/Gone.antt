@@ -3,7 +3,7 @@ use Rattle.std.proofs.Common.{arith, ◌≡◌, ℕ, zero, suc, ◌+◌, ◌<◌
 use Rattle.std.specs.List.{AllZip}
 use Rattle.std.proofs.lemmas.List.{take_more}
 use Rattle.std.proofs.lemmas.Option.{get_or_from_slice_get, same_Some, slice_get_within}
-use Rattle.lu_component.specs.Component.{Declarations}
+use Rattle.lu_component.specs.Component.{Component}
 use Rattle.lu_test.specs.declared.schedule.Move.{Move}
 use Rattle.lu_test.specs.Matrix.{Matrix}
 use Rattle.lu_recorded.specs.declared.recorded.Recorded.{Recorded}
@@ -30,7 +30,7 @@ at_taken (w ∷ xs) zero k x lt at = absurd (omega arith)
 at_taken (w ∷ xs) (suc n) zero x lt at = at
 at_taken (w ∷ xs) (suc n) (suc k) x lt at = at_taken xs n k x (omega arith) at
 
-module _ (c : Declarations) (matrix : Matrix) (all : List Recorded) (ways : List (List Move)) (n : ℕ) (shown : AllZip (IsShortest c matrix) (take n all) ways) (recorded : Recorded) (at : slice_get all n ≡ Some recorded) where
+module _ (c : Component) (matrix : Matrix) (all : List Recorded) (ways : List (List Move)) (n : ℕ) (shown : AllZip (IsShortest c matrix) (take n all) ways) (recorded : Recorded) (at : slice_get all n ≡ Some recorded) where
   pub first_such : (Such : Recorded → Type 0) → Such recorded → IsFirstSuch Such c matrix all n
   first_such Such is = record {
     is = (recorded, at, is);

@@ -3,7 +3,7 @@ use Rattle.std.proofs.Common.{arith, ◌≡◌, ℕ, ◌+◌, ◌<◌, ◌≤◌
 use Rattle.std.proofs.lemmas.Bool.{cases_lt}
 use Rattle.std.proofs.lemmas.List.{append-nil}
 use Rattle.std.proofs.lemmas.List.Elements.{All-append, All-nil, All-weaker}
-use Rattle.lu_component.specs.Component.{Declarations}
+use Rattle.lu_component.specs.Component.{Component}
 use Rattle.lu_test.specs.declared.schedule.Move.{Move}
 use Rattle.lu_test.specs.Matrix.{Matrix}
 use Rattle.lu_machine.specs.declared.event.Event.{Event}
@@ -18,7 +18,7 @@ use Rattle.lu_conform.specs.Growing.{AddsFollowing, AddsNext, AddsStage, Entry, 
 use Rattle.lu_conform.specs.Stages.{Follows, Stage, stage_of}
 use Rattle.lu_conform.proofs.Among.{at_left}
 
-pub keeps_more : (c : Declarations) (matrix : Matrix) (old more new : List Entry) (stage : Stage) → new ≡ old ++ more → Keeps c matrix old stage → Keeps c matrix new stage
+pub keeps_more : (c : Component) (matrix : Matrix) (old more new : List Entry) (stage : Stage) → new ≡ old ++ more → Keeps c matrix old stage → Keeps c matrix new stage
 keeps_more c matrix old more new stage is k =
     (k.0, k.1, subst (λ (x : List Entry). slice_get x k.0 ≡ Some k.1) (sym is) (at_left old more k.0 k.1 k.2), k.3)
 

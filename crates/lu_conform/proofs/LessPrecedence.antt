@@ -17,8 +17,8 @@ use Rattle.lu_conform.specs.Stretching.{HasLessPrecedence, IsStretchedBy, IsStre
 IsStretched : List Event → List Event → Type 0
 IsStretched h k = (n : ℕ) × IsStretchedBy n h k
 
-once_behind : (z : Event) (h k : List Event) → IsStretchedOnce h k → IsStretchedOnce (z ∷ h) (z ∷ k)
-once_behind z h k once = record {
+once_after : (z : Event) (h k : List Event) → IsStretchedOnce h k → IsStretchedOnce (z ∷ h) (z ∷ k)
+once_after z h k once = record {
   front = z ∷ once.front;
   back = once.back;
   first = once.first;
@@ -30,7 +30,7 @@ once_behind z h k once = record {
 
 behind : (z : Event) (n : ℕ) (h k : List Event) → IsStretchedBy n h k → IsStretchedBy n (z ∷ h) (z ∷ k)
 behind z zero h k is = ap (λ l. z ∷ l) is
-behind z (suc n) h k (g, once, more) = (z ∷ g, once_behind z h g once, behind z n g k more)
+behind z (suc n) h k (g, once, more) = (z ∷ g, once_after z h g once, behind z n g k more)
 
 then_by : (n m : ℕ) (h g k : List Event) → IsStretchedBy n h g → IsStretchedBy m g k → (r : ℕ) × IsStretchedBy r h k
 then_by zero m h g k is more = (m, subst (λ l. IsStretchedBy m l k) (sym is) more)
@@ -113,7 +113,7 @@ IsOnce h = (x : Event) → Before h x x → ⊥
 -- e does not stand before what stands in front of it
 crossing : (front : List Event) (e : Event) (back : List Event) (f : Event) → ((x : Event) → Before (front ++ e ∷ back) x x → ⊥) → Occurs front f → Before (front ++ e ∷ back) e f → ⊥
 crossing [] e back f once o b = o
-crossing (z ∷ front) e back f once o (inl (is, behind_it)) = once e (inl (is, middle front e back))
+crossing (z ∷ front) e back f once o (inl (is, after_it)) = once e (inl (is, middle front e back))
 crossing (z ∷ front) e back f once (inl is) (inr b) = once f (inl (is, before_second (front ++ e ∷ back) e f b))
 crossing (z ∷ front) e back f once (inr o) (inr b) = crossing front e back f (λ x twice. once x (inr twice)) o b
 

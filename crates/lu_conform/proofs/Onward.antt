@@ -10,7 +10,7 @@ use Rattle.lu_conform.specs.Laws.{AllAreAmong}
 use Rattle.lu_conform.specs.Stages.{Follows, IsAmong, Stage, stage_of}
 use Rattle.lu_conform.proofs.Among.{at_between, at_front}
 
--- Has says of a stage that it has been met behind so many moves. Where each move that follows h goes on from one such stage to another, up to so many moves, a schedule that follows h leads to one.
+-- Has says of a stage that it has been met after so many moves. Where each move that follows h goes on from one such stage to another, up to so many moves, a schedule that follows h leads to one.
 module _ (h : List Event) (limit : ℕ) (Has : Stage → ℕ → Type 0) (goes : (stage : Stage) (n : ℕ) (m : Move) (next : State) (event : Option Event) (after : ℕ) → n < limit → Has stage n → Step stage.state m next event → Follows h stage.seen event after → Has (stage_of next after) (n + 1)) where
   module _ (s next : State) (n : ℕ) (m : Move) (before rest later : List Event) (short : n < limit) (is : Has (stage_of s (length before)) n) where
     -- by one move: what is seen then, and what is left of h

@@ -1,7 +1,7 @@
 -- A call may be made earlier, and a return later: no other thread sees either.
 use Rattle.std.proofs.Common.{arith, ◌≡◌, ℕ, zero, suc, ◌+◌, false, List, [], ◌∷◌, ◌++◌, length, Option, Some, None, slice_get, slice_set, refl, sym, ◌∙◌, ap, subst}
 use Rattle.std.proofs.lemmas.Bool.{ne_eqb}
-use Rattle.lu_component.specs.Component.{Declarations}
+use Rattle.lu_component.specs.Component.{Component}
 use Rattle.lu_test.specs.declared.schedule.Move.{Move}
 use Rattle.lu_test.specs.Matrix.{Matrix}
 use Rattle.lu_machine.specs.declared.event.Event.{Event}
@@ -44,7 +44,7 @@ set_both (z ∷ xs) (suc i) (suc j) x y h = ap (λ l. z ∷ l) (set_both xs i j 
 -- of a state's component and matrix, with the rest of another
 by_parts : (s new : State) → new.component ≡ s.component → new.matrix ≡ s.matrix → (threads : List Thread) → elsewhere s new.cells new.locks threads ≡ among new threads
 by_parts s new c m threads =
-    let make : Declarations → Matrix → State = λ d x. record { component = d; matrix = x; cells = new.cells; locks = new.locks; threads = threads } in
+    let make : Component → Matrix → State = λ d x. record { component = d; matrix = x; cells = new.cells; locks = new.locks; threads = threads } in
     ap (λ d. make d s.matrix) (sym c) ∙ ap (λ x. make new.component x) (sym m)
 
 -- two moves in the other order
@@ -136,9 +136,9 @@ idle_none : (s : State) (t done : ℕ) (a : Activity) (now : Thread) → a ≡ I
 idle_none s t done Idle now is h = let wrong = h.4 in cc
 idle_none s t done (Open f) now is h = cc
 
-idle_behind : (s : State) (t done : ℕ) (a : Activity) (now : Thread) (u k : ℕ) (o : Outcome) → Turns s t done a now (Some (Return u k o)) → now.activity ≡ Idle
-idle_behind s t done Idle now u k o h = absurd (let wrong = h.4 in cc)
-idle_behind s t done (Open f) now u k o h = by h.0 h.1 h.2
+idle_after : (s : State) (t done : ℕ) (a : Activity) (now : Thread) (u k : ℕ) (o : Outcome) → Turns s t done a now (Some (Return u k o)) → now.activity ≡ Idle
+idle_after s t done Idle now u k o h = absurd (let wrong = h.4 in cc)
+idle_after s t done (Open f) now u k o h = by h.0 h.1 h.2
   where
     by : (effect : Effect) → now ≡ thread_after done effect → Some (Return u k o) ≡ event_after t done effect → now.activity ≡ Idle
     by (GoesOn g) p q = absurd (cc)
@@ -152,7 +152,7 @@ then_stands s s1 a b e f s2 one two same =
     let both : Some two.standing ≡ Some one.now = sym here ∙ there in
     cc
 
--- a move without an event and a call behind it are of different threads
+-- a move without an event and a call after it are of different threads
 call_apart : (s s1 s2 : State) (a b : Move) (t k : ℕ) → Step s a s1 None → Step s1 b s2 (Some (Call t k)) → a.thread ≡ b.thread → ⊥
 call_apart s s1 s2 a b t k one two same =
     let first = step_moved s a s1 None one in
@@ -161,12 +161,12 @@ call_apart s s1 s2 a b t k one two same =
     open_behind s a.thread first.standing.done first.standing.activity first.now first.turns
     (sym (ap (λ (x : Thread). x.activity) (then_stands s s1 a b None (Some (Call t k)) s2 first second same)) ∙ idle)
 
--- and so are a return and a move without an event behind it
+-- and so are a return and a move without an event after it
 return_apart : (s s1 s2 : State) (a b : Move) (t k : ℕ) (o : Outcome) → Step s a s1 (Some (Return t k o)) → Step s1 b s2 None → a.thread ≡ b.thread → ⊥
 return_apart s s1 s2 a b t k o one two same =
     let first = step_moved s a s1 (Some (Return t k o)) one in
     let second = step_moved s1 b s2 None two in
-    let idle = idle_behind s a.thread first.standing.done first.standing.activity first.now t k o first.turns in
+    let idle = idle_after s a.thread first.standing.done first.standing.activity first.now t k o first.turns in
     idle_none s1 b.thread second.standing.done second.standing.activity second.now
     (ap (λ (x : Thread). x.activity) (then_stands s s1 a b (Some (Return t k o)) None s2 first second same) ∙ idle) second.turns
 
@@ -216,7 +216,7 @@ module _ (t k : ℕ) (back : List Event) (end : State) where
           }
 
 module _ (t k : ℕ) (o : Outcome) (second : Event) (back : List Event) (end : State) (apart : t ≡ thread_of second → ⊥) where
-  -- a return is made behind the next event
+  -- a return is made after the next event
   return_last : (u : List Move) (s : State) (m : Move) (s1 : State) → Step s m s1 (Some (Return t k o)) → Leads s1 u end (second ∷ back) → LeadsBy s (length (m ∷ u)) end (second ∷ Return t k o ∷ back)
   return_last [] s m s1 step leads = absurd (let wrong = leads.1 in cc)
   return_last (b ∷ u) s m s1 step leads = by (λ mid. return_last u mid m leads.0) leads.1 leads.3 leads.5
@@ -322,7 +322,7 @@ pending_by : (n : ℕ) (h k : List Event) → IsStretchedBy n h k → HasPending
 pending_by zero h k is some = subst HasPendingCall (sym is) some
 pending_by (suc n) h k (g, once, more) some = pending_once h g once (pending_by n g k more some)
 
-pub stretched_is_shown : (c : Declarations) (matrix : Matrix) (recorded : Recorded) (u : List Move) (k : List Event) (n : ℕ) → IsShownBy c matrix recorded u → IsStretchedBy n recorded.history k → (v : List Move) × (length v ≡ length u) × IsShownBy c matrix (record recorded { history = k }) v
+pub stretched_is_shown : (c : Component) (matrix : Matrix) (recorded : Recorded) (u : List Move) (k : List Event) (n : ℕ) → IsShownBy c matrix recorded u → IsStretchedBy n recorded.history k → (v : List Move) × (length v ≡ length u) × IsShownBy c matrix (record recorded { history = k }) v
 stretched_is_shown c matrix recorded u k n (end, plays, stuck) stretched =
     let v = stretched_is_played c matrix u end recorded.history k n plays stretched in
     (v.0, v.1, (end, v.2, (λ is some. stuck is (pending_by n recorded.history k stretched some))))

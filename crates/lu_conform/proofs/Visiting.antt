@@ -4,7 +4,7 @@ use Rattle.std.specs.Prelude.{All}
 use Rattle.std.specs.List.{IsDistinct}
 use Rattle.std.specs.Map.{keys_of}
 use Rattle.std.proofs.lemmas.List.Elements.{All-nil, All-cons}
-use Rattle.lu_component.specs.Component.{Declarations, IsComponent}
+use Rattle.lu_component.specs.Component.{Component, IsComponent}
 use Rattle.lu_test.specs.declared.schedule.Move.{Move}
 use Rattle.lu_test.specs.Matrix.{Matrix, IsMatrix}
 use Rattle.lu_test.specs.Schedule.{IsMove}
@@ -39,10 +39,10 @@ all_moves (m ∷ u) s end h is few leads =
     All-cons IsMove m u (feasible_is_move s is few m (step_feasible s m leads.0 leads.1 step)) rest
 
 -- from each start
-abbrev pub KnownTo : Declarations → Matrix → Recorded → List Entry → ℕ → Type 0
+abbrev pub KnownTo : Component → Matrix → Recorded → List Entry → ℕ → Type 0
 KnownTo c matrix recorded list place = (s : State) → IsStart c matrix s → Explored s recorded list place
 
-module _ (c : Declarations) (matrix : Matrix) (settles : Settles c matrix) (recorded : Recorded) where
+module _ (c : Component) (matrix : Matrix) (settles : Settles c matrix) (recorded : Recorded) where
   pub known_none : (s : State) → IsStart c matrix s → (old list : List Entry) → old ≡ [] → (moves : List Move) → moves ≡ [] → AddsStage s.component s.matrix (stage_of s 0) moves old list → KnownTo c matrix recorded list 0
   known_none s at old list none moves empty adds r is =
       let same = start_same c matrix s r at is in
@@ -73,7 +73,7 @@ module _ (c : Declarations) (matrix : Matrix) (settles : Settles c matrix) (reco
       -- where the machine stands then
       here : (s : State) → IsStart c matrix s → at_position m entry.0.position ≡ (its s entry.0).state
       here s is =
-          let make : Declarations → Matrix → State = λ d x. record { component = d; matrix = x; cells = entry.0.position.cells.items; locks = entry.0.position.locks.items; threads = entry.0.position.threads.items } in
+          let make : Component → Matrix → State = λ d x. record { component = d; matrix = x; cells = entry.0.position.cells.items; locks = entry.0.position.locks.items; threads = entry.0.position.threads.items } in
           ap (λ d. make d m.matrix) (component ∙ sym (start_component c matrix s is)) ∙ ap (λ x. make s.component x) (matrix_is ∙ sym (start_matrix c matrix s is))
 
       reached : (s : State) (is : IsStart c matrix s) → IsReached s recorded entry

@@ -1,7 +1,7 @@
 -- How the list of stages that are kept grows.
 use Rattle.std.specs.Prelude.{◌≡◌, ℕ, List, [], ◌∷◌, ◌++◌, All, Option, Some, slice_get}
 use Rattle.indexmap.specs.IndexMap.{IndexMap}
-use Rattle.lu_component.specs.Component.{Declarations}
+use Rattle.lu_component.specs.Component.{Component}
 use Rattle.lu_test.specs.declared.schedule.Move.{Move}
 use Rattle.lu_test.specs.Matrix.{Matrix}
 use Rattle.lu_machine.specs.declared.event.Event.{Event}
@@ -18,7 +18,7 @@ abbrev pub Entry : Type 0
 Entry = Kept × Way
 
 -- the stage for which it stands, of a run of the component and the matrix
-abbrev pub stands_for : Declarations → Matrix → Kept → Stage
+abbrev pub stands_for : Component → Matrix → Kept → Stage
 stands_for c matrix kept = record {
   state = record {
     component = c;
@@ -31,35 +31,35 @@ stands_for c matrix kept = record {
 }
 
 -- a machine can stand there, it stands for this stage, and its way has these moves
-pub record IsKeptAs (c : Declarations) (matrix : Matrix) (stage : Stage) (moves : List Move)
+pub record IsKeptAs (c : Component) (matrix : Matrix) (stage : Stage) (moves : List Move)
     (entry : Entry) : Type 0 where
   pub stands : CanStandAt c matrix entry.0.position
   pub stage_is : stands_for c matrix entry.0 ≡ stage
   pub way_is : entry.1.moves.items ≡ moves
 
 -- one of the list stands for the stage
-abbrev pub Keeps : Declarations → Matrix → List Entry → Stage → Type 0
+abbrev pub Keeps : Component → Matrix → List Entry → Stage → Type 0
 Keeps c matrix list stage =
     (i : ℕ) × (entry : Entry) × (slice_get list i ≡ Some entry)
     × (stands_for c matrix entry.0 ≡ stage)
 
--- new is old, and behind it only such
+-- new is old, and after it only such
 abbrev pub GrowsBy : (Entry → Type 0) → List Entry → List Entry → Type 0
 GrowsBy Such old new = (more : List Entry) × (new ≡ old ++ more) × All Such more
 
 -- the stage is there, and no other is added; if it is added, with these moves
-pub record AddsStage (c : Declarations) (matrix : Matrix) (stage : Stage) (moves : List Move)
+pub record AddsStage (c : Component) (matrix : Matrix) (stage : Stage) (moves : List Move)
     (old new : List Entry) : Type 0 where
   pub there : Keeps c matrix new stage
   pub grows : GrowsBy (IsKeptAs c matrix stage moves) old new
 
--- it stands for s behind this event, or none, which follows h
+-- it stands for s after this event, or none, which follows h
 abbrev pub IsFollowing : State → List Event → ℕ → Option Event → List Move → Entry → Type 0
 IsFollowing s h seen event moves entry =
     (after : ℕ) × Follows h seen event after
     × IsKeptAs s.component s.matrix (stage_of s after) moves entry
 
--- s is there behind this event, or none, where that follows h, and no other is added
+-- s is there after this event, or none, where that follows h, and no other is added
 pub record AddsFollowing (s : State) (h : List Event) (seen : ℕ) (event : Option Event)
     (moves : List Move) (old new : List Entry) : Type 0 where
   pub there : (after : ℕ) → Follows h seen event after
@@ -88,10 +88,10 @@ abbrev pub AddsHere : {S : Type 0} → State → ℕ → Way → IndexMap Kept W
 AddsHere s seen way old new =
     AddsStage s.component s.matrix (stage_of s seen) way.moves.items old.entries new.entries
 
--- s is there behind the move m with this event, or none, where that follows
-abbrev pub AddsBehind : {S : Type 0} → State → Behind → Move → Option Event
+-- s is there after the move m with this event, or none, where that follows
+abbrev pub AddsAfter : {S : Type 0} → State → Behind → Move → Option Event
     → IndexMap Kept Way S → IndexMap Kept Way S → Type 0
-AddsBehind s behind m event old new =
+AddsAfter s behind m event old new =
     AddsFollowing s behind.events.now behind.seen event (behind.moves.now ++ m ∷ [])
     old.entries new.entries
 

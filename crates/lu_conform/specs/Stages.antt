@@ -1,4 +1,4 @@
--- Stages: states, with how many events of a history are behind them. Sets of them that no move
+-- Stages: states, with how many events of a history are after them. Sets of them that no move
 -- leaves which follows the history.
 use Rattle.std.specs.Prelude.{◌≡◌, ℕ, ◌+◌, ◌≤◌, List, length, Option, Some, None, MatchOption, slice_get}
 use Rattle.lu_test.specs.declared.schedule.Move.{Move}
@@ -19,7 +19,7 @@ abbrev pub Follows : List Event → ℕ → Option Event → ℕ → Type 0
 Follows h seen None after = after ≡ seen
 Follows h seen (Some event) after = (slice_get h seen ≡ Some event) × (after ≡ seen + 1)
 
--- how many are seen behind the move, or that it does not follow
+-- how many are seen after the move, or that it does not follow
 abbrev pub TellsFollowing : List Event → ℕ → Option Event → Option ℕ → Type 0
 TellsFollowing h seen event told =
     MatchOption told ((after : ℕ) → Follows h seen event after → ⊥) (Follows h seen event)

@@ -1,6 +1,6 @@
 -- Histories with less precedence.
 use Rattle.std.specs.Prelude.{◌≡◌, ◌≢◌, ◌==◌, ℕ, zero, suc, List, ◌∷◌, ◌++◌, filter, length}
-use Rattle.lu_component.specs.Component.{Declarations}
+use Rattle.lu_component.specs.Component.{Component}
 use Rattle.lu_test.specs.declared.schedule.Move.{Move}
 use Rattle.lu_test.specs.Matrix.{Matrix}
 use Rattle.lu_machine.specs.declared.event.Event.{Event}
@@ -12,7 +12,7 @@ use Rattle.lu_history.specs.Histories.{IsWellFormed, Precedes, thread_of}
 use Rattle.lu_recorded.specs.declared.recorded.Recorded.{Recorded}
 use Rattle.lu_conform.specs.Showing.{IsShownBy}
 
--- Two events of different threads, of which the first is no call with a return behind it: in the
+-- Two events of different threads, of which the first is no call with a return after it: in the
 -- other order nothing precedes that did not before (Herlihy and Wing, 1990).
 abbrev pub MayStretch : Event → Event → Type 0
 MayStretch (Call t k) (Call u l) = t ≢ u
@@ -39,7 +39,7 @@ IsStretchedBy (suc n) h k = (g : List Event) × IsStretchedOnce h g × IsStretch
 -- history that is stretched from it.
 abbrev pub StretchedIsPlayed : Type 0
 StretchedIsPlayed =
-    (c : Declarations) (matrix : Matrix) (u : List Move) (end : State) (h k : List Event) (n : ℕ) →
+    (c : Component) (matrix : Matrix) (u : List Move) (end : State) (h k : List Event) (n : ℕ) →
     Plays c matrix u end h → IsStretchedBy n h k
     → (v : List Move) × (length v ≡ length u) × Plays c matrix v end k
 
@@ -62,7 +62,7 @@ LessIsStretched =
 -- precedence.
 abbrev pub LessIsShown : Type 0
 LessIsShown =
-    (c : Declarations) (matrix : Matrix) (recorded : Recorded) (u : List Move) (k : List Event)
+    (c : Component) (matrix : Matrix) (recorded : Recorded) (u : List Move) (k : List Event)
     → IsShownBy c matrix recorded u → IsWellFormed recorded.history → IsWellFormed k
     → HasLessPrecedence recorded.history k
     → (v : List Move) × (length v ≡ length u)

@@ -15,9 +15,9 @@ fn comes_next(events: &[Event], seen: usize, event: Event) -> bool
     }
 }
 
-/// How many events of the history are seen behind a move with this event, or none, where so many
+/// How many events of the history are seen after a move with this event, or none, where so many
 /// were seen before it; `None` where another event comes next.
-pub(crate) fn seen_behind(events: &[Event], seen: usize, event: Option<Event>) -> Option<usize>
+pub(crate) fn seen_after(events: &[Event], seen: usize, event: Option<Event>) -> Option<usize>
     ensures { TellsFollowing events.now seen event result }
 {
     match event {

@@ -1,15 +1,15 @@
 //! How the stages that are kept grow.
 
 ghost use Rattle.std.specs.Prelude.{◌≡◌, [], ◌∷◌, ◌++◌, IfOk, OnOk};
-ghost use Rattle.lu_conform.specs.Growing.{AddsAhead, AddsBehind, AddsHere};
+ghost use Rattle.lu_conform.specs.Growing.{AddsAhead, AddsAfter, AddsHere};
 
-use crate::following::seen_behind;
+use crate::following::seen_after;
 use crate::kept::{Kept, Stages, Way};
 use lu_machine::{Event, Machine};
 use lu_test::Move;
 use std::alloc::{AllocError, Global};
 
-/// What is behind the stage from which moves are made: so many of the events of the history were
+/// What is after the stage from which moves are made: so many of the events of the history were
 /// seen, and these moves led there.
 #[derive(Clone, Copy)]
 pub(crate) struct Behind<'a> {
@@ -18,7 +18,7 @@ pub(crate) struct Behind<'a> {
     pub(crate) moves: &'a [Move],
 }
 
-/// Adds the stage at which the machine stands, behind so many events, unless it is there. This way
+/// Adds the stage at which the machine stands, after so many events, unless it is there. This way
 /// leads to it.
 pub(crate) fn add(
     alloc: Global,
@@ -50,9 +50,9 @@ fn longer(alloc: Global, moves: &[Move], next: Move) -> Result<Way, AllocError>
     Ok(Way { moves: longer })
 }
 
-/// Adds the stage at which the machine stands behind this move, which had this event, or none,
+/// Adds the stage at which the machine stands after this move, which had this event, or none,
 /// where it follows the history.
-fn add_behind(
+fn add_after(
     alloc: Global,
     machine: &Machine<'_>,
     behind: Behind<'_>,
@@ -60,9 +60,9 @@ fn add_behind(
     event: Option<Event>,
     stages: &mut Stages,
 ) -> Result<(), AllocError>
-    ensures { OnOk result (AddsBehind machine.now behind.entry next event stages.old stages.new) }
+    ensures { OnOk result (AddsAfter machine.now behind.entry next event stages.old stages.new) }
 {
-    match seen_behind(behind.events, behind.seen, event) {
+    match seen_after(behind.events, behind.seen, event) {
         None => Ok(()),
         Some(after) => add(
             alloc,
@@ -88,7 +88,7 @@ pub(crate) fn add_next(
         for pick in 0..machine.picks(thread) {
             let next = Move { thread, pick };
             let undo = machine.apply(next);
-            add_behind(alloc, machine, behind, next, undo.event(), stages)?;
+            add_after(alloc, machine, behind, next, undo.event(), stages)?;
             machine.undo(undo);
         }
     }

@@ -4,7 +4,7 @@ use indexmap::IndexMap;
 use lu_machine::Position;
 use lu_test::Move;
 
-/// Where a machine stands, and how many events of the recorded history are behind it.
+/// Where a machine stands, and how many events of the recorded history are after it.
 #[derive(PartialEq, Eq, Hash, Drop)]
 pub(crate) struct Kept {
     pub(crate) position: Position,

@@ -2,7 +2,7 @@
 //!
 //! It is led by the history: from each stage it makes the moves without an event, and those whose
 //! event comes next. What was met once is not looked at again. Breadth first, the first stage that
-//! shows the history is met behind as few moves as can be.
+//! shows the history is met after as few moves as can be.
 
 ghost use Rattle.std.specs.Prelude.{◌≡◌, ◌≤◌, ◌<◌, All, length, IfOk};
 ghost use Rattle.lu_test.specs.Schedule.{IsMove};
@@ -40,7 +40,7 @@ fn by_way(moves: Vec<Move>) -> Shown
 /// a state with that history, which is stuck where the recorded run was stuck with a call pending.
 /// Or that none does, of any length; or that it is not decided, since there are more than 262,144
 /// stages, or since the shortest has more than 4,112 moves. A stage is a state with the number of
-/// events that are behind it. Asks for a matrix of the component, whose setup settles.
+/// events that are after it. Asks for a matrix of the component, whose setup settles.
 ///
 /// A state in which a thread spins is not stuck: where real code hung in such a loop, a text that
 /// spins there does not show it, and one that waits (`await`, `lock`) does.

@@ -28,9 +28,9 @@ use Rattle.lu_witness.proofs.Beginnings.{begun_push, begun_witness}
 use Rattle.lu_witness.proofs.Entries.{entries-append, entries_own}
 use Rattle.lu_explain.specs.declared.explanation.Reason.{Reason}
 use Rattle.lu_explain.specs.declared.explanation.Reason.TheVariants.{After, Outcome, Nothing}
-use Rattle.lu_explain.specs.Explanations.{Begins, Behind, Explained, IsBlocker, IsExplanation, IsFirstLongest, IsIn, IsLeastOutcome, IsPartialWitness, IsReasonNotNext, IsReasonOrDone, next, reason_of}
+use Rattle.lu_explain.specs.Explanations.{Begins, Behind, Explanation, IsBlocker, IsExplanation, IsFirstLongest, IsIn, IsLeastOutcome, IsPartialWitness, IsReasonNotNext, IsReasonOrDone, next, reason_of}
 use Rattle.lu_explain.specs.Search.{GoesOnBy, IsLongestFrom, TellsStandings}
-use Rattle.lu_explain.specs.Laws.{AllIsWitness, ClosedHasEnds, FullHasEnds, NoneGoesOn, NothingLeft, OneExplanation, OneOutcomeBehind, OtherOutcome, StuckHasEnds, Taken}
+use Rattle.lu_explain.specs.Laws.{AllIsWitness, ClosedHasEnds, FullHasEnds, NoneGoesOn, NothingLeft, OneExplanation, OneOutcomeAfter, OtherOutcome, StuckHasEnds, Taken}
 use Rattle.lu_explain.proofs.Partial.{begins_few, begun_parts, free_tells, in_counts, partial_from, partial_is}
 use Rattle.lu_explain.proofs.Longest.{same_kind}
 use Rattle.lu_explain.proofs.Reasons.{same_standing, same_thread}
@@ -38,10 +38,10 @@ use Rattle.lu_explain.proofs.Counting.{AreOfFirst, total, total_is, total_tight}
 
 -- ---- what the search finds
 
-abbrev pub explained : Bool → List SerialOp → List (Option Reason) → Explained
+abbrev pub explained : Bool → List SerialOp → List (Option Reason) → Explanation
 explained witnessed order left = record { witnessed = witnessed; order = order; left = left }
 
-pub same_parts : (e : Explained) (witnessed : Bool) (order : List SerialOp) (left : List (Option Reason)) → e.witnessed ≡ witnessed → e.order ≡ order → e.left ≡ left → e ≡ explained witnessed order left
+pub same_parts : (e : Explanation) (witnessed : Bool) (order : List SerialOp) (left : List (Option Reason)) → e.witnessed ≡ witnessed → e.order ≡ order → e.left ≡ left → e ≡ explained witnessed order left
 same_parts e witnessed order left a b c = ap (λ w. explained w e.order e.left) a ∙ ap (λ o. explained witnessed o e.left) b ∙ ap (explained witnessed order) c
 
 module _ (h : List Event) (well : IsWellFormed h) where
@@ -196,9 +196,9 @@ pub closed_has_ends : ClosedHasEnds
 closed_has_ends test h empty closed p (inl e) parts = subst (Taken test) (sym e) empty
 closed_has_ends test h empty closed p (inr goes) parts = closed p goes.0 goes.1
 
-behind_none : (p q : List SerialOp) → p ++ q ≡ [] → q ≡ []
-behind_none [] q e = e
-behind_none (x ∷ p) q e = cc
+after_none : (p q : List SerialOp) → p ++ q ≡ [] → q ≡ []
+after_none [] q e = e
+after_none (x ∷ p) q e = cc
 
 -- an outcome in front, and more: the outcome is the last one, or the last one is further on
 front_or_more : (o : SerialOutcome) (rest xs : List SerialOutcome) → o ∷ rest ≡ xs ++ Stuck ∷ [] → (o ≡ Stuck) ⊎ ((ys : List SerialOutcome) × (rest ≡ ys ++ Stuck ∷ []))
@@ -211,7 +211,7 @@ stuck_last t [] q [] e serial = cc
 stuck_last t [] q (x ∷ xs) e serial = cc
 stuck_last t (op ∷ p) q xs e serial = elim (eqb_tells op.thread t) as (λ _. q ≡ []) [
   | inl own ↦ elim (front_or_more op.outcome (entries t p) xs (sym (ap (λ b. if b then op.outcome ∷ entries t p else entries t p) own.0) ∙ e)) as (λ _. q ≡ []) [
-    | inl last ↦ behind_none p q (serial.0 last)
+    | inl last ↦ after_none p q (serial.0 last)
     | inr more ↦ stuck_last t p q more.0 more.1 serial.1
   ]
   | inr other ↦ stuck_last t p q xs (sym (ap (λ b. if b then op.outcome ∷ entries t p else entries t p) other.0) ∙ e) serial.1
@@ -263,7 +263,7 @@ module _ (p : List SerialOp) (t : ℕ) (o x : SerialOutcome) (q r : List SerialO
     differ = differ;
   }
 
-pub one_outcome : OneOutcomeBehind
+pub one_outcome : OneOutcomeAfter
 one_outcome members p t o x det has also =
     let same_or : x ≢ o → ⊥ = λ differ. det (p ++ entry t o ∷ has.0) (p ++ entry t x ∷ also.0) (length p) x has.1 also.1 (conflict p t o x has.0 also.0 differ) in
     let go : (c : Ordering) → op_cmp (entry t o) (entry t x) ≡ c → o ≡ x = elim [

@@ -161,7 +161,7 @@ module _ (members : List (List SerialOp)) (is : IsBranching members) (h : List E
                 ]
               ]
 
-  -- behind the last kid
+  -- after the last kid
   pub none_all : (n : ℕ) → n ≡ length (branches_of members) → NotHere members h taken → NoneTo members h taken n → (q : List SerialOp) → Completes members h taken q → ⊥
   none_all n all not_here none [] done = not_here done
   none_all n all not_here none (op ∷ q) done =

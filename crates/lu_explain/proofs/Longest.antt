@@ -170,7 +170,7 @@ module _ (members : List (List SerialOp)) (is : IsBranching members) (h : List E
       let kid = member_branch members is op (q ++ goes.0) goes.1 in
       (inr (record { place = kid.place; branch = kid.branch; rest = q; below = kid.within; at = kid.at; shape = ap (λ x. x ∷ q) (sym kid.label); begun = inr (goes.0, kid.member) }), on)
 
-  -- behind the last kid
+  -- after the last kid
   pub longest_all : (n : ℕ) (order : List SerialOp) (taken : List ℕ) (after : List (List SerialOp)) → n ≡ length (branches_of members) → IsLongestTo n members h p order taken after → IsLongestFrom members h p order taken after
   longest_all n order taken after all is_to = record {
     first = same_kind (GoesOnTo n members h p) (GoesOnBy members h p) order (to_members n) (λ q on. subst (λ i. GoesOnTo i members h p q) (sym all) (from_members q on)) is_to.first;

@@ -33,7 +33,7 @@ module _ (Kind : Event → Bool) where
   number_none (x ∷ h) (n ∷ numbers) (suc i) (inl le) = number_none h numbers i (inl (omega arith))
   number_none (x ∷ h) (n ∷ numbers) (suc i) (inr le) = number_none h numbers i (inr (omega arith))
 
-  -- behind the shorter of both lists
+  -- after the shorter of both lists
   pub number_past : (h : List Event) (numbers : List ℕ) (i n : ℕ) → n ≡ min (length h) (length numbers) → n ≤ i → number_of Kind (drop i h) (drop i numbers) ≡ 0
   number_past h numbers i n least le = number_none h numbers i (elim (cases_lt i (length h)) as (λ _. (length h ≤ i) ⊎ (length numbers ≤ i)) [
     | inl lt ↦ inr (omega (arith, le, least))

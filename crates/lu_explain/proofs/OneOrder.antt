@@ -19,7 +19,7 @@ use Rattle.lu_witness.specs.Witnesses.{IsEntryAt, IsWitness, entries}
 use Rattle.lu_witness.proofs.Entries.{counted_entry, entry_before, entry_of}
 use Rattle.lu_explain.specs.declared.orders.Precedence.{Precedence}
 use Rattle.lu_explain.specs.Explanations.{IsBlocker}
-use Rattle.lu_explain.specs.AnyOrders.{HasOutcomes, IsAnyOrder, IsFirstBroken, IsInOrder, IsLeast, Ordered, TellsAnyOrder}
+use Rattle.lu_explain.specs.AnyOrders.{HasOutcomes, IsAnyOrder, IsFirstBroken, IsInOrder, IsLeast, AnyOrder, TellsAnyOrder}
 use Rattle.lu_explain.specs.Laws.{OneAnyOrder, Taken, UnbrokenIsWitness}
 use Rattle.lu_explain.proofs.Partial.{in_counts}
 use Rattle.lu_explain.proofs.Explained.{blocker_out, one_blocker}
@@ -84,10 +84,10 @@ module _ (h : List Event) (q : List SerialOp) where
   same_broken (Some x) None is also = absurd (not_in_order x is (length q) (place_within x is) also)
   same_broken (Some x) (Some y) is also = ap Some (one_broken x y is also)
 
-abbrev ordered : List SerialOp → Option Precedence → Ordered
+abbrev ordered : List SerialOp → Option Precedence → AnyOrder
 ordered order broken = record { order = order; broken = broken }
 
-one_order : (Set : List SerialOp → Type 0) (h : List Event) (d e : Ordered) → IsAnyOrder Set h d → IsAnyOrder Set h e → d ≡ e
+one_order : (Set : List SerialOp → Type 0) (h : List Event) (d e : AnyOrder) → IsAnyOrder Set h d → IsAnyOrder Set h e → d ≡ e
 one_order Set h d e is also =
     let order : d.order ≡ e.order = one_least (HasOutcomes Set h) d.order e.order is.least also.least in
     let broken : d.broken ≡ e.broken = same_broken h e.order d.broken e.broken (subst (λ q. Breaks h q d.broken) order is.broken) also.broken in
@@ -96,7 +96,7 @@ one_order Set h d e is also =
 pub one_any_order : OneAnyOrder
 one_any_order test h d e well is also = same d e is also
   where
-    same : (d e : Option Ordered) → TellsAnyOrder (Taken test) h d → TellsAnyOrder (Taken test) h e → d ≡ e
+    same : (d e : Option AnyOrder) → TellsAnyOrder (Taken test) h d → TellsAnyOrder (Taken test) h e → d ≡ e
     same None None is also = refl
     same None (Some e) is also = absurd (is e.order also.least.is)
     same (Some d) None is also = absurd (also d.order is.least.is)

@@ -45,17 +45,17 @@ abbrev pub TellsFirstBroken : List Event → List SerialOp → Option Precedence
 TellsFirstBroken h q found = MatchOption found (IsInOrder h q (length q)) (IsFirstBroken h q)
 
 -- an order, as contracts see it, and the first precedence that it breaks
-pub record Ordered : Type 0 where
+pub record AnyOrder : Type 0 where
   pub order : List SerialOp
   pub broken : Option Precedence
 
 -- the least of the serial histories that have the outcomes of h, and the first precedence of h that
 -- it breaks, or none
-pub record IsAnyOrder (Set : List SerialOp → Type 0) (h : List Event) (o : Ordered) : Type 0 where
+pub record IsAnyOrder (Set : List SerialOp → Type 0) (h : List Event) (o : AnyOrder) : Type 0 where
   pub least : IsLeast (HasOutcomes Set h) o.order
   pub broken : TellsFirstBroken h o.order o.broken
 
 -- that, or no serial history has the outcomes of h
-abbrev pub TellsAnyOrder : (List SerialOp → Type 0) → List Event → Option Ordered → Type 0
+abbrev pub TellsAnyOrder : (List SerialOp → Type 0) → List Event → Option AnyOrder → Type 0
 TellsAnyOrder Set h found =
     MatchOption found ((q : List SerialOp) → HasOutcomes Set h q → ⊥) (IsAnyOrder Set h)

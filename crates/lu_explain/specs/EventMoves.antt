@@ -1,6 +1,6 @@
 -- Which moves of a schedule have events.
 use Rattle.std.specs.Prelude.{◌≡◌, ℕ, suc, List, [], ◌∷◌, Option, Some, None, Result, IfOk, Vec}
-use Rattle.lu_component.specs.Component.{Declarations}
+use Rattle.lu_component.specs.Component.{Component}
 use Rattle.lu_test.specs.declared.schedule.Move.{Move}
 use Rattle.lu_test.specs.Matrix.{Matrix}
 use Rattle.lu_machine.specs.declared.event.Event.{Event}
@@ -23,11 +23,11 @@ LeadsNumbered s n (m ∷ u) end numbers =
     × (numbers ≡ with_number event n rest)
 
 -- from the start these moves of the schedule, numbered from 0, have events
-abbrev pub AreEventMoves : Declarations → Matrix → List Move → List ℕ → Type 0
+abbrev pub AreEventMoves : Component → Matrix → List Move → List ℕ → Type 0
 AreEventMoves c matrix u numbers =
     (start : State) × (end : State) × IsStart c matrix start × LeadsNumbered start 0 u end numbers
 
 -- these moves are told, unless memory ran out
-abbrev pub TellsEventMoves : {Z E : Type 0} → Declarations → Matrix → List Move
+abbrev pub TellsEventMoves : {Z E : Type 0} → Component → Matrix → List Move
     → Result (Vec ℕ Z) E → Type 0
 TellsEventMoves c matrix u result = IfOk result (λ numbers. AreEventMoves c matrix u numbers.items)

@@ -2,14 +2,14 @@
 use Rattle.std.specs.Prelude.{ℕ, Bool, false, ◌++◌, ◌==◌, ◌&&◌, if◌then◌else◌, List, [], ◌∷◌, codes, Option, Some, None}
 use Rattle.std.specs.Option.{option_map_or}
 use Rattle.std.specs.Fmt.{decimal}
-use Rattle.lu_component.specs.Component.{Declarations}
+use Rattle.lu_component.specs.Component.{Component}
 use Rattle.lu_test.specs.Matrix.{Matrix}
 use Rattle.lu_machine.specs.declared.event.Event.{Event}
 use Rattle.lu_machine.specs.declared.event.Event.TheVariants.{Call, Return}
 use Rattle.lu_history.specs.declared.operation.OpId.{OpId}
 use Rattle.lu_history.specs.Parts.{is_return}
 use Rattle.lu_explain.specs.declared.orders.Precedence.{Precedence}
-use Rattle.lu_explain.specs.AnyOrders.{Ordered}
+use Rattle.lu_explain.specs.AnyOrders.{AnyOrder}
 use Rattle.lu_explain.specs.Lines.{operation_words, order_text}
 use Rattle.lu_explain.specs.Runs.{Run}
 
@@ -25,7 +25,7 @@ number_of Kind (e ∷ h) [] = 0
 number_of Kind (e ∷ h) (n ∷ numbers) = if Kind e then n else number_of Kind h numbers
 
 -- `T1 pop stands before T0 push 5`
-abbrev pub stands_words : Declarations → Matrix → Precedence → List ℕ
+abbrev pub stands_words : Component → Matrix → Precedence → List ℕ
 stands_words c matrix broken =
     operation_words c matrix broken.second.t broken.second.k ++ codes " stands before "
     ++ operation_words c matrix broken.first.t broken.first.k
@@ -48,7 +48,7 @@ broken_line run broken =
     ++ called_words run.events run.moves broken.second ++ codes "\n"
 
 -- the order, and the first precedence that it breaks, where there is such an order
-abbrev pub any_order_text : Run → Option Ordered → List ℕ
+abbrev pub any_order_text : Run → Option AnyOrder → List ℕ
 any_order_text run None = codes "no order of the calls has these outcomes\n"
 any_order_text run (Some o) =
     codes "any order\n" ++ order_text run.component run.matrix o.order

@@ -83,7 +83,7 @@ abbrev pub TellsOutcome : (List SerialOp → Type 0) → ℕ → Option SerialOu
 TellsOutcome Set t found =
     MatchOption found ((o : SerialOutcome) → HasFirst Set t o → ⊥) (IsLeastOutcome Set t)
 
--- how thread t stands behind a beginning of which so many operations are taken
+-- how thread t stands after a beginning of which so many operations are taken
 abbrev pub TellsStanding : (List SerialOp → Type 0) → List ℕ → List Event → ℕ → Option Reason
     → Type 0
 TellsStanding Rest taken h t found =

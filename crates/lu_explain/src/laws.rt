@@ -1,15 +1,15 @@
 //! Laws of explanations.
 
-ghost use Rattle.lu_explain.specs.Laws.{AllIsWitness, ClosedHasEnds, FullHasEnds, NoneGoesOn, NothingLeft, OneAnyOrder, OneExplanation, OneOutcomeBehind, OtherOutcome, StuckHasEnds, UnbrokenIsWitness};
+ghost use Rattle.lu_explain.specs.Laws.{AllIsWitness, ClosedHasEnds, FullHasEnds, NoneGoesOn, NothingLeft, OneAnyOrder, OneExplanation, OneOutcomeAfter, OtherOutcome, StuckHasEnds, UnbrokenIsWitness};
 
 /// A history has one explanation over a set, whatever test tells its members, and nothing can come
-/// behind its order. An outcome that a reason names is not the one in the history, and in a set
+/// after its order. An outcome that a reason names is not the one in the history, and in a set
 /// without conflicts it is the only one. The function does nothing.
 pub fn explanation_laws()
     ensures one { OneExplanation }
     ensures none { NoneGoesOn }
     ensures other { OtherOutcome }
-    ensures outcome { OneOutcomeBehind }
+    ensures outcome { OneOutcomeAfter }
 {}
 
 /// Where a history has a witness nothing is left; and where nothing is left the order is a witness,

@@ -9,7 +9,7 @@ ghost use Rattle.lu_history.specs.Histories.{IsWellFormed};
 ghost use Rattle.lu_explain.specs.AnyOrders.{TellsLeast};
 ghost use Rattle.lu_explain.specs.Search.{AreFewTaken, Completes, HasRestOfParts, IsNextOutcome, number};
 
-use crate::order::Order;
+use crate::operations::Order;
 use crate::search::one_more;
 use lu_history::{History, OpId, SerialOp};
 use lu_test::MOST_THREADS;

@@ -1,7 +1,7 @@
 //! Why a history has no serial witness.
 //!
 //! A partial witness of a history is a beginning of a serial history in which each thread has the
-//! outcomes with which its part of the history begins, and an operation comes only behind all that
+//! outcomes with which its part of the history begins, and an operation comes only after all that
 //! precede it. [`explain`] finds the longest one, and says of each thread that has operations left
 //! why the next of them can't come next. Where there is a witness, that is one. [`any_order`] asks
 //! whether any order of the calls has the history's outcomes, precedence aside.
@@ -23,13 +23,13 @@ mod explaining;
 mod explanation;
 mod laws;
 mod least_order;
+mod left_calls;
 mod moves;
-mod order;
+mod operations;
 mod order_writing;
 mod orders;
-mod runs;
 mod search;
-mod standing;
+mod subject;
 mod writing;
 
 pub use blocks::write_explanations;

@@ -6,7 +6,7 @@ ghost use Rattle.lu_history.specs.Parts.{is_return};
 ghost use Rattle.lu_explain.specs.OrderLines as spec;
 
 use crate::orders::{AnyOrder, Precedence};
-use crate::runs::Run;
+use crate::subject::Run;
 use crate::writing::{write_operation, write_order};
 use lu_component::Component;
 use lu_history::OpId;

@@ -6,9 +6,9 @@ ghost use Rattle.lu_witness.specs.Witnesses.{IsMember};
 ghost use Rattle.lu_explain.specs.AnyOrders.{HasEachPart, TellsAnyOrder, TellsFirstBroken};
 
 use crate::least_order::least;
-use crate::order::Order;
+use crate::left_calls::blocker;
+use crate::operations::Order;
 use crate::search::one_more;
-use crate::standing::blocker;
 use lu_history::{History, OpId, SerialOp};
 use lu_test::MOST_THREADS;
 use lu_trie::SerialTree;
@@ -30,9 +30,9 @@ pub struct AnyOrder {
 }
 
 impl Model for AnyOrder {
-    ghost use Rattle.lu_explain.specs.AnyOrders.{Ordered};
+    ghost use Rattle.lu_explain.specs.AnyOrders.{AnyOrder as AnAnyOrder};
 
-    ghost Value = { Ordered };
+    ghost Value = { AnAnyOrder };
 
     ghost view = { λ a. record { order = a.order; broken = a.broken } };
 }

@@ -9,8 +9,8 @@ ghost use Rattle.lu_history.specs.Histories.{IsWellFormed};
 ghost use Rattle.lu_witness.specs.Search.{TakesOne, TellsNext};
 ghost use Rattle.lu_explain.specs.Search.{AreFewTaken, IsLongestWay, IsOneMoreTaken, number};
 
-use crate::order::Order;
-use crate::standing::blocker;
+use crate::left_calls::blocker;
+use crate::operations::Order;
 use lu_history::{History, OpId, SerialOp};
 use lu_test::MOST_THREADS;
 use lu_trie::SerialTree;

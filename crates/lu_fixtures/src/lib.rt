@@ -42,7 +42,7 @@ fn settled(rt: &impl AllocGlobal, component: &Component, matrix: &Matrix) -> Res
 ///
 /// # Errors
 ///
-/// A text that has a fault, a setup that does not settle, and want of memory.
+/// A text that has a fault, a setup that does not settle, and refused memory.
 pub fn fixture_of(rt: &impl AllocGlobal, component: &[u8], matrix: &[u8]) -> Result<Fixture, Fail>
     ensures texts { IfOk result (IsOfTexts component.now matrix.now) }
     ensures runs { IfOk result (λ fixture. CanRun fixture.component fixture.matrix) }
@@ -57,7 +57,7 @@ pub fn fixture_of(rt: &impl AllocGlobal, component: &[u8], matrix: &[u8]) -> Res
 ///
 /// # Errors
 ///
-/// An event that does not fit behind those before it, and want of memory.
+/// An event that does not fit after those before it, and refused memory.
 pub fn history_of(rt: &impl AllocGlobal, events: &[Event]) -> Result<History, Fail>
     ensures { Builds result events.now }
 {

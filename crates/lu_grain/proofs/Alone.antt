@@ -1,6 +1,6 @@
 -- With `local 0` each local instruction is a move of its own: a schedule becomes a longer one, with the same history to the same end.
 use Rattle.std.proofs.Common.{◌≡◌, ℕ, zero, suc, ◌+◌, ◌-◌, ◌*◌, ◌≤◌, ◌⊎◌, Bool, true, false, if◌then◌else◌, MatchBool, List, [], ◌∷◌, ◌++◌, length, length-append, Option, None, refl, sym, ◌∙◌, ap, subst, inl, arith}
-use Rattle.lu_component.specs.Component.{Declarations}
+use Rattle.lu_component.specs.Component.{Component}
 use Rattle.lu_test.specs.declared.schedule.Move.{Move}
 use Rattle.lu_machine.specs.declared.event.Event.{Event}
 use Rattle.lu_machine.specs.Runs.{with_event}
@@ -74,7 +74,7 @@ module _ (Guard : State → Move → Type 0)
       let first = step_alone s m p.0 p.1 p.3 p.6 in
       let rest = leads_alone u p.0 end p.2 p.4 in
       let kept : p.0.component ≡ s.component = (step_moved s m p.0 p.1 p.3).component in
-      let few : length rest.moves ≤ (s.component.local + 1) * length u = subst (λ (c : Declarations). length rest.moves ≤ (c.local + 1) * length u) kept rest.few in
+      let few : length rest.moves ≤ (s.component.local + 1) * length u = subst (λ (c : Component). length rest.moves ≤ (c.local + 1) * length u) kept rest.few in
       let both = leads_by_on Guard (grained s 0) first.moves rest.moves (grained p.0 0) (grained end 0) (with_event p.1 []) p.2 first.leads rest.leads in
       let whole : with_event p.1 [] ++ p.2 ≡ history = with_event-append p.1 [] p.2 ∙ sym p.5 in
       let short = first.few in

@@ -1,7 +1,7 @@
 -- What is known of good schedules, of linearizability and by certificates holds however many local instructions run with a move.
 use Rattle.std.proofs.Common.{◌≡◌, ◌≤◌, ◌+◌, ◌*◌, ℕ, List, length, IsTrue, Result, Ok, Err, sym, ap, subst, inl, inr}
 use Rattle.std.specs.Prelude.{IfOk}
-use Rattle.lu_component.specs.Component.{Declarations}
+use Rattle.lu_component.specs.Component.{Component}
 use Rattle.lu_test.specs.Matrix.{Matrix}
 use Rattle.lu_test.specs.declared.schedule.Move.{Move}
 use Rattle.lu_machine.specs.declared.event.Event.{Event}
@@ -52,7 +52,7 @@ module _ (Set : List SerialOp → Type 0) where
       let is_good : IsGoodAt Set end r.history = subst (λ h. IsGoodAt Set end h) same.1 (subst (λ x. IsGoodAt Set x there.history) same.0 there.holds) in
       record { end = r.end; history = r.history; leads = r.leads; holds = good_grained end r.end.component.local r.history is_good }
 
-  linear_too : (c : Declarations) (n : ℕ) (matrix : Matrix) → Settles c matrix → IsLinearizable c matrix Set → IsLinearizable (with_local c n) matrix Set
+  linear_too : (c : Component) (n : ℕ) (matrix : Matrix) → Settles c matrix → IsLinearizable c matrix Set → IsLinearizable (with_local c n) matrix Set
   linear_too c n matrix settles linear smaller r v is from ended =
       let setup : smaller.setup ≡ matrix.setup = ap (λ (x : Matrix). x.setup) is.2 in
       let there = start_there c smaller (settles_too c matrix smaller settles setup) in
@@ -94,7 +94,7 @@ passes_end c n matrix bound serial r settles is pass x from =
     let same : x ≡ grained s n = same_start c n matrix s x there.1 from in
     let full = full_at c matrix bound serial (r, is, pass) s there.1 in
     let none : (v : List Move) → IsCutAt s bound v → ⊥ = (λ v cut. none_of (λ y. Any y × IsCutAt s bound y) full.counts.cut full.good.numbers.cut full.uncut v (tt, cut)) in
-    let local : s.component.local ≡ c.local = ap (λ (d : Declarations). d.local) (start_component c matrix s there.1) in
+    let local : s.component.local ≡ c.local = ap (λ (d : Component). d.local) (start_component c matrix s there.1) in
     let bounded : (u : List Move) → IsSchedule (grained s n) u → length u ≤ (c.local + 1) * bound =
     (λ u is_one. subst (λ l. length u ≤ (l + 1) * bound) local (ends_too s n bound u none is_one)) in
     subst (λ y. (u : List Move) → IsSchedule y u → length u ≤ (c.local + 1) * bound) (sym same) bounded
@@ -106,7 +106,7 @@ failure_refutes_too c n matrix bound serial r spec settles other is fails determ
 
 -- ---- certificates
 
-loses_with : (c : Declarations) (n : ℕ) (matrix smaller : Matrix) (u : List Move) → Settles c matrix → LosesHopeOnCut c matrix smaller u → SomeLosesHope (with_local c n) matrix smaller
+loses_with : (c : Component) (n : ℕ) (matrix smaller : Matrix) (u : List Move) → Settles c matrix → LosesHopeOnCut c matrix smaller u → SomeLosesHope (with_local c n) matrix smaller
 loses_with c n matrix smaller u settles (is, lost) = (
   is,
   λ r from.
@@ -116,7 +116,7 @@ loses_with c n matrix smaller u settles (is, lost) = (
       subst (λ x. (v : List Move) × LosesHope x v) (sym same) (loses_hope_too there.0 n u (lost there.0 there.1))),
 )
 
-decides_with : (c : Declarations) (n : ℕ) (matrix : Matrix) → Settles c matrix → Settles (with_local c n) matrix → (certificate : Certificate) → Decides c matrix certificate → DecidesAlike (with_local c n) matrix certificate
+decides_with : (c : Component) (n : ℕ) (matrix : Matrix) → Settles c matrix → Settles (with_local c n) matrix → (certificate : Certificate) → Decides c matrix certificate → DecidesAlike (with_local c n) matrix certificate
 decides_with c n matrix settles other (Linearizable members) h = (h.0, linearizable_too c n matrix (contains members) settles h.1)
 decides_with c n matrix settles other (NotLinearizable smaller r) h =
     λ spec serves. h spec (serves.0, linearizable_too (with_local c n) c.local matrix spec other serves.1)
@@ -153,7 +153,7 @@ certificates_agree c n matrix limits within a b settles other x y = by_kind a b 
     by_kind (Undecided smaller r) b x y = tt
 
 -- what a certificate by longer moves decides, if there is one, it decides of the component as it is
-pub decides_back : {E : Type 0} (c d : Declarations) (n : ℕ) (matrix : Matrix) → d ≡ with_local c n → c.local ≤ n → CanRun c matrix → (result : Result Certificate E) → IfOk result (Decides d matrix) → IfOk result (DecidesAlike c matrix)
+pub decides_back : {E : Type 0} (c d : Component) (n : ℕ) (matrix : Matrix) → d ≡ with_local c n → c.local ≤ n → CanRun c matrix → (result : Result Certificate E) → IfOk result (Decides d matrix) → IfOk result (DecidesAlike c matrix)
 decides_back c d n matrix is more runs (Ok certificate) h =
     let there : Decides (with_local c n) matrix certificate = subst (λ x. Decides x matrix certificate) is h in
     decides_with (with_local c n) c.local matrix (settles_further c n matrix runs.settles more) runs.settles certificate there

@@ -1,6 +1,6 @@
 -- Laws of components that differ in `local` alone.
 use Rattle.std.specs.Prelude.{◌≡◌, ◌↔◌, ◌≤◌, ◌+◌, ◌*◌, ℕ, Bool, IsTrue, List, length}
-use Rattle.lu_component.specs.Component.{Declarations}
+use Rattle.lu_component.specs.Component.{Component}
 use Rattle.lu_test.specs.declared.schedule.Move.{Move}
 use Rattle.lu_test.specs.Matrix.{Matrix}
 use Rattle.lu_machine.specs.declared.event.Event.{Event}
@@ -72,13 +72,13 @@ EndsToo =
 -- Where both setups settle, both start alike.
 abbrev pub SameStart : Type 0
 SameStart =
-    (c : Declarations) (n : ℕ) (matrix : Matrix) (s other : State) →
+    (c : Component) (n : ℕ) (matrix : Matrix) (s other : State) →
     IsStart c matrix s → IsStart (with_local c n) matrix other → other ≡ grained s n
 
 -- A setup that settles does so with more local instructions to a move.
 abbrev pub SettlesFurther : Type 0
 SettlesFurther =
-    (c : Declarations) (n : ℕ) (matrix : Matrix) →
+    (c : Component) (n : ℕ) (matrix : Matrix) →
     Settles c matrix → c.local ≤ n → Settles (with_local c n) matrix
 
 -- ---- serial histories
@@ -123,14 +123,14 @@ GoodToo =
 -- Where the component is linearizable, it is with `local n`.
 abbrev pub LinearizableToo : Type 0
 LinearizableToo =
-    (c : Declarations) (n : ℕ) (matrix : Matrix) (spec : List SerialOp → Bool) →
+    (c : Component) (n : ℕ) (matrix : Matrix) (spec : List SerialOp → Bool) →
     Settles c matrix → IsLinearizable c matrix (λ q. IsTrue (spec q))
     → IsLinearizable (with_local c n) matrix (λ q. IsTrue (spec q))
 
 -- So where both setups settle, the one is linearizable exactly where the other is.
 abbrev pub LinearizableAlike : Type 0
 LinearizableAlike =
-    (c : Declarations) (n : ℕ) (matrix : Matrix) (spec : List SerialOp → Bool) →
+    (c : Component) (n : ℕ) (matrix : Matrix) (spec : List SerialOp → Bool) →
     Settles c matrix → Settles (with_local c n) matrix →
     IsLinearizable c matrix (λ q. IsTrue (spec q))
     ↔ IsLinearizable (with_local c n) matrix (λ q. IsTrue (spec q))
@@ -139,14 +139,14 @@ LinearizableAlike =
 -- among the serial histories.
 abbrev pub PassesToo : Type 0
 PassesToo =
-    (c : Declarations) (n : ℕ) (matrix : Matrix) (bound serial : ℕ) (r : Report) →
+    (c : Component) (n : ℕ) (matrix : Matrix) (bound serial : ℕ) (r : Report) →
     Settles c matrix → IsReport c matrix bound serial r → IsFullPass r.finding →
     FromEachStart (with_local c n) matrix (λ s. AllEndedGood s (IsSerialHistory s))
 
 -- And each schedule with `local n` comes to an end.
 abbrev pub PassesEnd : Type 0
 PassesEnd =
-    (c : Declarations) (n : ℕ) (matrix : Matrix) (bound serial : ℕ) (r : Report) →
+    (c : Component) (n : ℕ) (matrix : Matrix) (bound serial : ℕ) (r : Report) →
     Settles c matrix → IsReport c matrix bound serial r → IsFullPass r.finding →
     FromEachStart (with_local c n) matrix (λ s.
     (u : List Move) → IsSchedule s u → length u ≤ (c.local + 1) * bound)
@@ -155,7 +155,7 @@ PassesEnd =
 -- no deterministic set.
 abbrev pub FailureRefutesToo : Type 0
 FailureRefutesToo =
-    (c : Declarations) (n : ℕ) (matrix : Matrix) (bound serial : ℕ) (r : Report)
+    (c : Component) (n : ℕ) (matrix : Matrix) (bound serial : ℕ) (r : Report)
     (spec : List SerialOp → Bool) →
     Settles c matrix → Settles (with_local c n) matrix →
     IsReport c matrix bound serial r → IsFailure r.finding → IsDeterministicOf matrix spec
@@ -175,13 +175,13 @@ LosesHopeToo =
 -- ---- certificates
 
 -- smaller is a cut of the matrix, and on it some schedule leads to a state from which none ends
-abbrev pub SomeLosesHope : Declarations → Matrix → Matrix → Type 0
+abbrev pub SomeLosesHope : Component → Matrix → Matrix → Type 0
 SomeLosesHope c matrix smaller =
     IsCutOf matrix smaller × FromEachStart c smaller (λ s. (v : List Move) × LosesHope s v)
 
 -- What a certificate decides of the component, where it is one with another number of local
 -- instructions to a move: the same, but that a livelock has a schedule of its own.
-abbrev pub DecidesAlike : Declarations → Matrix → Certificate → Type 0
+abbrev pub DecidesAlike : Component → Matrix → Certificate → Type 0
 DecidesAlike c matrix (Linearizable members) = Decides c matrix (Linearizable members)
 DecidesAlike c matrix (NotLinearizable smaller r) = Decides c matrix (NotLinearizable smaller r)
 DecidesAlike c matrix (Livelock smaller u) = SomeLosesHope c matrix smaller
@@ -190,7 +190,7 @@ DecidesAlike c matrix (Undecided smaller r) = Unit {0}
 -- So a certificate decides of the component with `local n`.
 abbrev pub DecidesToo : Type 0
 DecidesToo =
-    (c : Declarations) (n : ℕ) (matrix : Matrix) (limits : Limits) (certificate : Certificate) →
+    (c : Component) (n : ℕ) (matrix : Matrix) (limits : Limits) (certificate : Certificate) →
     Settles c matrix → Settles (with_local c n) matrix →
     IsCertificate c matrix limits certificate
     → DecidesAlike (with_local c n) matrix certificate
@@ -213,7 +213,7 @@ Agree (Undecided smaller r) b = Unit {0}
 -- A certificate and one with `local n` never contradict, whatever their limits.
 abbrev pub CertificatesAgree : Type 0
 CertificatesAgree =
-    (c : Declarations) (n : ℕ) (matrix : Matrix) (limits others : Limits)
+    (c : Component) (n : ℕ) (matrix : Matrix) (limits others : Limits)
     (a b : Certificate) →
     Settles c matrix → Settles (with_local c n) matrix → IsCertificate c matrix limits a →
     IsCertificate (with_local c n) matrix others b → Agree a b

@@ -16,7 +16,7 @@ module _ {A : Type 0} where
   at_first (z ∷ xs) ys zero x lt h = h
   at_first (z ∷ xs) ys (suc i) x lt h = at_first xs ys i x (omega arith) h
 
-  -- what stands in both lists stands in the first, or behind its end in the second
+  -- what stands in both lists stands in the first, or after its end in the second
   pub at_either : (xs ys : List A) (i : ℕ) (x : A) → slice_get (xs ++ ys) i ≡ Some x → ((i < length xs) × (slice_get xs i ≡ Some x)) ⊎ ((k : ℕ) × (i ≡ length xs + k) × (slice_get ys k ≡ Some x))
   at_either [] ys i x h = inr (i, omega arith, h)
   at_either (z ∷ xs) ys zero x h = inl (omega arith, h)

@@ -5,7 +5,7 @@ use Rattle.std.specs.List.{IsDistinct}
 use Rattle.std.proofs.lemmas.Bool.{cases_lt}
 use Rattle.std.proofs.lemmas.List.{length-map, length_push}
 use Rattle.std.proofs.lemmas.Option.{same_Some, slice_get_within}
-use Rattle.lu_component.specs.Component.{Declarations}
+use Rattle.lu_component.specs.Component.{Component}
 use Rattle.lu_test.specs.declared.schedule.Move.{Move}
 use Rattle.lu_test.specs.Matrix.{Matrix}
 use Rattle.lu_machine.specs.declared.event.Event.{Event}
@@ -37,7 +37,7 @@ pub record Charts (s : State) (found : Discovered) (place : ℕ) (ended : List B
   pub marks : AreEnded s found.positions.keys place ended
 
 -- from each start
-abbrev pub ChartsFrom : Declarations → Matrix → Discovered → ℕ → List Bool → Type 0
+abbrev pub ChartsFrom : Component → Matrix → Discovered → ℕ → List Bool → Type 0
 ChartsFrom c matrix found place ended = (s : State) → IsStart c matrix s → Charts s found place ended
 
 abbrev stand_of : Entry → Position
@@ -98,7 +98,7 @@ module _ (s : State) (found : Discovered) (place : ℕ) (ended : List Bool) (kno
       let most = few.2 in
       omega (arith, less, most)
 
-module _ (c : Declarations) (matrix : Matrix) (settles : Settles c matrix) where
+module _ (c : Component) (matrix : Matrix) (settles : Settles c matrix) where
   pub charts_none : (s : State) → IsStart c matrix s → (found : Discovered) → HasOnly s found → (ended : List Bool) → ended ≡ [] → ChartsFrom c matrix found 0 ended
   charts_none s at found only ended none r is =
       let same = start_same c matrix s r at is in

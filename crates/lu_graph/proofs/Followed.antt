@@ -1,4 +1,4 @@
--- What is told of the members behind one event more.
+-- What is told of the members after one event more.
 use Rattle.std.proofs.Common.{arith, ◌≡◌, ℕ, Bool, false, get_or, List, [], ◌∷◌, ◌++◌, length, Option, Some, None, slice_get, sym, refl, ◌∙◌, ap, subst, inl, inr}
 use Rattle.std.specs.Global.{Vec}
 use Rattle.std.proofs.lemmas.List.{append-nil}

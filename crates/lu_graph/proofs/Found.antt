@@ -4,7 +4,7 @@ use Rattle.std.specs.Prelude.{All, IfOk, not, position}
 use Rattle.std.proofs.lemmas.List.{append-nil, drop_all, length-map, take_all}
 use Rattle.std.proofs.lemmas.List.Elements.{All-map, All-weaker}
 use Rattle.std.proofs.lemmas.Option.{slice_get_within}
-use Rattle.lu_component.specs.Component.{Declarations}
+use Rattle.lu_component.specs.Component.{Component}
 use Rattle.lu_test.specs.declared.schedule.Move.{Move}
 use Rattle.lu_test.specs.Matrix.{Matrix}
 use Rattle.lu_test.specs.Schedule.{IsMove}
@@ -27,7 +27,7 @@ written size now marks xs whole same is =
     let none : drop (length marks) xs ≡ [] = drop_all (length marks) xs (omega (arith, same)) in
     is ∙ (ap (λ (ys : List Bool). take size (marks ++ ys)) none ∙ (ap (take size) (append-nil marks) ∙ take_all size marks (omega (arith, whole, same))))
 
-module _ (c : Declarations) (matrix : Matrix) (settles : Settles c matrix) (most : ℕ) (graph : StateGraph) (told : (s : State) → IsStart c matrix s → IsExplored most s (Some graph)) where
+module _ (c : Component) (matrix : Matrix) (settles : Settles c matrix) (most : ℕ) (graph : StateGraph) (told : (s : State) → IsStart c matrix s → IsExplored most s (Some graph)) where
   pub edges_within : (edges : List Edge) (marks : List Bool) → edges ≡ graph.found.edges.items → marks ≡ graph.ended.items → All (IsWithin (length marks)) edges
   edges_within edges marks is same =
       let there = start_there c matrix settles in

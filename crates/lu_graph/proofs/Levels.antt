@@ -64,7 +64,7 @@ pub record IsReachedIn (s : State) (members : List (Vec SerialOp)) (moves : ℕ)
 
 -- The search has come to this place: those before it are good where they have ended, and are all to
 -- which schedules of fewer moves lead. From there to the end of the level schedules of so many
--- moves lead, and behind it schedules of one more.
+-- moves lead, and after it schedules of one more.
 pub record AreSearched (members : List (Vec SerialOp)) (s : State) (list : List Kept) (place moves end : ℕ) : Type 0 where
   pub good : AreGoodBefore s members list place
   pub past : LeadBefore s members list moves place
@@ -105,7 +105,7 @@ module _ (s : State) (members : List (Vec SerialOp)) (dead : DeadTable) (dead_kn
   module _ (list : List Kept) (place moves end : ℕ) (known : AreSearched members s list place moves end) where
     -- the level has ended at this place
     module _ (visited : AreVisited members s list place) (ended : end ≤ place) where
-      -- one move behind a node of the level
+      -- one move after a node of the level
       move_on : (i : ℕ) (one : Kept) → i < end → slice_get list i ≡ Some one → (mid last : State) (first : List Event) → IsFor s members mid first one → (m : Move) (event : Option Event) → GoesFirst mid m → Step mid m last event → IsKeptBefore s members list (length list) last (longer first event)
       move_on i one lt at mid last first is m event goes step =
           let other = step_of s members dead dead_known one mid first is m last event step in

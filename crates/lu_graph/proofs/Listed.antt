@@ -7,7 +7,7 @@ use Rattle.std.proofs.lemmas.List.{append-nil, map-append, take_all}
 use Rattle.std.proofs.lemmas.List.Elements.{All-cons, All-nil}
 use Rattle.std.proofs.lemmas.Option.{same_Some}
 use Rattle.lu_machine.specs.Positions.{CanStandAt}
-use Rattle.lu_component.specs.Component.{Declarations}
+use Rattle.lu_component.specs.Component.{Component}
 use Rattle.lu_test.specs.Matrix.{Matrix}
 use Rattle.lu_machine.specs.Starts.{FromEachStart}
 use Rattle.lu_machine.specs.States.{State}
@@ -29,14 +29,14 @@ use Rattle.lu_graph.specs.Listing.{histories}
 use Rattle.lu_graph.proofs.Followed.{follows_none}
 use Rattle.lu_graph.proofs.OtherSet.{ending_too}
 
--- behind a path
+-- after a path
 abbrev onto : List SerialOp → List (List SerialOp) → List (List SerialOp)
 onto path hs = map (λ q. path ++ q) hs
 
-onto_behind : (path : List SerialOp) (op : SerialOp) (hs : List (List SerialOp)) → onto (path ++ op ∷ []) hs ≡ onto path (behind op hs)
-onto_behind path op [] = refl
-onto_behind path op (h ∷ hs) =
-    ap (λ x. x ∷ onto (path ++ op ∷ []) hs) (append_assoc path (op ∷ []) h) ∙ ap (λ xs. (path ++ op ∷ h) ∷ xs) (onto_behind path op hs)
+onto_after : (path : List SerialOp) (op : SerialOp) (hs : List (List SerialOp)) → onto (path ++ op ∷ []) hs ≡ onto path (behind op hs)
+onto_after path op [] = refl
+onto_after path op (h ∷ hs) =
+    ap (λ x. x ∷ onto (path ++ op ∷ []) hs) (append_assoc path (op ∷ []) h) ∙ ap (λ xs. (path ++ op ∷ h) ∷ xs) (onto_after path op hs)
 
 joined_push : (bs : List Branch) (b : Branch) → joined (bs ++ b ∷ []) ≡ joined bs ++ behind b.0 b.1
 joined_push [] b = append-nil (behind b.0 b.1)
@@ -55,7 +55,7 @@ module _ (base : List (List SerialOp)) (path : List SerialOp) (first : List (Lis
       let more = behind op hs in
       let whole : front ++ more ≡ first ++ joined (take (i + 1) bs) = append_assoc first (joined (take i bs)) more ∙ ap (λ x. first ++ x) (sym (joined_more bs i (op, hs) at)) in
       grown ∙ (ap (λ x. x ++ onto (path ++ op ∷ []) hs) before ∙ (append_assoc base (onto path front) (onto (path ++ op ∷ []) hs)
-      ∙ ap (λ x. base ++ x) (ap (λ x. onto path front ++ x) (onto_behind path op hs) ∙ (sym (map-append (λ q. path ++ q) front more) ∙ ap (onto path) whole))))
+      ∙ ap (λ x. base ++ x) (ap (λ x. onto path front ++ x) (onto_after path op hs) ∙ (sym (map-append (λ q. path ++ q) front more) ∙ ap (onto path) whole))))
 
   pub listed_all : (found : List (List SerialOp)) (i : ℕ) (hs : List (List SerialOp)) → length bs ≤ i → hs ≡ first ++ joined bs → found ≡ base ++ map (λ q. path ++ q) (first ++ joined (take i bs)) → found ≡ base ++ map (λ q. path ++ q) hs
   listed_all found i hs past is before =
@@ -141,7 +141,7 @@ holds_start s members alive bits nodes same told (kept, hold, can, is, known) =
     )
 
 -- what is searched with the members of a tree is told of its set
-pub for_tree : {E : Type 0} (c : Declarations) (matrix : Matrix) (members : List (Vec SerialOp)) (set : List (List SerialOp)) (bound most : ℕ) (result : Result Ending E) → histories members ≡ set → FromEachStart c matrix (λ s. IfOk result (IsEnding (IsOneOf members) bound most s)) → FromEachStart c matrix (TellsEnding set bound most result)
+pub for_tree : {E : Type 0} (c : Component) (matrix : Matrix) (members : List (Vec SerialOp)) (set : List (List SerialOp)) (bound most : ℕ) (result : Result Ending E) → histories members ≡ set → FromEachStart c matrix (λ s. IfOk result (IsEnding (IsOneOf members) bound most s)) → FromEachStart c matrix (TellsEnding set bound most result)
 for_tree c matrix members set bound most result same all s is =
     IfOk-weaker result (IsEnding (IsOneOf members) bound most s) (IsEnding (IsMember set) bound most s)
     (ending_too (IsOneOf members) (IsMember set) (λ q x. subst (λ z. IsMember z q) same (one_member members q x)) (λ q x. member_one members q (subst (λ z. IsMember z q) (sym same) x)) bound most s)

@@ -143,7 +143,7 @@ module _ (members : List (Vec SerialOp)) where
               (All-push (IsLeftIn new) old.returns.entries (at_calls calls, n) (All-weaker (IsLeftIn old) (IsLeftIn new) (left_grown old new numbered.grows) old.returns.entries left) it);
         }
 
-  -- ---- behind events
+  -- ---- after events
 
   pub numbers_same : (s : State) (event : Option Event) (possible : Possibilities) (n : ℕ) → ((alive : List Bool) → Follows members s alive event alive) → NumbersAfter members s event n possible possible n
   numbers_same s event possible n follows alive knows left =

@@ -5,7 +5,7 @@ use Rattle.std.proofs.lemmas.Bool.{cases_lt}
 use Rattle.std.proofs.lemmas.List.{append-nil, length_push, map-append}
 use Rattle.std.proofs.lemmas.List.Elements.{All-append, All-cons, All-nil, All-push, All-weaker}
 use Rattle.std.proofs.lemmas.Option.{same_Some, slice_get_within}
-use Rattle.lu_component.specs.Component.{Declarations}
+use Rattle.lu_component.specs.Component.{Component}
 use Rattle.lu_test.specs.declared.schedule.Move.{Move}
 use Rattle.lu_test.specs.Matrix.{Matrix}
 use Rattle.lu_test.specs.Schedule.{IsMove}
@@ -32,7 +32,7 @@ use Rattle.lu_graph.proofs.Earlier.{earlier_last, earlier_push, earlier_trans}
 -- the same position in two runs of one component and matrix
 pub position_same : (a b : State) (p : Position) → a.component ≡ b.component → a.matrix ≡ b.matrix → at_position a p ≡ at_position b p
 position_same a b p c m =
-    let make : Declarations → Matrix → State = λ d x. record { component = d; matrix = x; cells = p.cells.items; locks = p.locks.items; threads = p.threads.items } in
+    let make : Component → Matrix → State = λ d x. record { component = d; matrix = x; cells = p.cells.items; locks = p.locks.items; threads = p.threads.items } in
     ap (λ d. make d a.matrix) c ∙ ap (λ x. make b.component x) m
 
 -- what was searched, with the entry at the place

@@ -42,8 +42,8 @@ called_idle s t thread at idle = let is = called_at s t thread at ∙ ap (λ a. 
 pub called_open : (s : State) (t : ℕ) (thread : Thread) (f : Frame) → Some thread ≡ slice_get s.threads t → thread.activity ≡ Open f → called s t ≡ thread.done + 1
 called_open s t thread f at busy = called_at s t thread at ∙ ap (λ a. thread.done + (if is_open a then 1 else 0)) busy
 
-pub called_behind : (s : State) (t : ℕ) → length s.threads ≤ t → called s t ≡ 0
-called_behind s t past = called_past s t (sym (slice_get_past s.threads t past))
+pub called_after : (s : State) (t : ℕ) → length s.threads ≤ t → called s t ≡ 0
+called_after s t past = called_past s t (sym (slice_get_past s.threads t past))
 
 -- ---- how many of the first threads are called
 
@@ -70,5 +70,5 @@ calls_more s done n calls now known few is set_so =
 pub calls_all : (s : State) (done : ℕ) (calls : List ℕ) → HaveCallsSoFar s done calls → length s.threads ≤ done → HaveCalls s calls
 calls_all s done calls known all u = elim (cases_lt u done) as (λ _. slice_index calls u ≡ called s u) [
   | inl less ↦ known.before u less
-  | inr ge ↦ known.behind u ge ∙ sym (called_behind s u (omega (arith, all, ge)))
+  | inr ge ↦ known.behind u ge ∙ sym (called_after s u (omega (arith, all, ge)))
 ]

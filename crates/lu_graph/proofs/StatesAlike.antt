@@ -2,7 +2,7 @@
 use Rattle.std.proofs.Common.{◌≡◌, ℕ, Bool, true, false, List, [], ◌∷◌, map, Option, Some, None, slice_get, refl, sym, ◌∙◌, ap, subst, inl, inr}
 use Rattle.std.proofs.lemmas.Option.{slice_get-map}
 use Rattle.std.specs.Option.{option_map}
-use Rattle.lu_component.specs.Component.{Declarations}
+use Rattle.lu_component.specs.Component.{Component}
 use Rattle.lu_test.specs.declared.schedule.Move.{Move}
 use Rattle.lu_machine.specs.declared.event.Event.{Event}
 use Rattle.lu_machine.specs.declared.thread.Activity.{Activity}
@@ -97,7 +97,7 @@ progress_alike s r h = same_list (progress r) (progress s) (λ t. progress_at (N
 
 -- ---- by the table
 
-module _ (c : Declarations) (table : DeadTable) (known : KnowsDead c table) where
+module _ (c : Component) (table : DeadTable) (known : KnowsDead c table) where
   counts : (op place r : ℕ) → NotDead c op place r → LiveBy table op place r
   counts op place r is = by_test (is_dead table op place r) refl
     where

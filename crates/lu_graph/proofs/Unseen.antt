@@ -3,7 +3,7 @@ use Rattle.std.proofs.Common.{arith, ◌≡◌, ℕ, zero, suc, ◌+◌, ◌<◌
 use Rattle.std.specs.Option.{option_map_or}
 use Rattle.std.proofs.lemmas.Bool.{cases_eq, cases_lt}
 use Rattle.std.proofs.lemmas.Option.{slice_get_past}
-use Rattle.lu_component.specs.Component.{Declarations}
+use Rattle.lu_component.specs.Component.{Component}
 use Rattle.lu_component.specs.declared.instr.Instr.{Instr}
 use Rattle.lu_component.specs.declared.instr.Instr.TheVariants.{Set, Compute, Load, Store, Cas, Lock, Unlock, Await, AwaitNot, Pick, Jump, JumpIfZero, Return}
 use Rattle.lu_test.specs.declared.schedule.Move.{Move}
@@ -25,12 +25,12 @@ use Rattle.lu_horizon.proofs.OwnLaws.{other_stands}
 use Rattle.lu_tree.specs.Accesses.{conflict, instr_access, next_access}
 use Rattle.lu_tree.specs.Reordered.{AreReordered, AreUnordered}
 use Rattle.lu_tree.proofs.Accessing.{AccessSame, IsLike, Within, access_at, does_move, like_behind, picks_at, step_event, step_opens, unordered_by, written, written_both}
-use Rattle.lu_tree.proofs.Reordering.{exchanged_once, reordered_behind, reordered_both, reordered_same}
+use Rattle.lu_tree.proofs.Reordering.{exchanged_once, reordered_after, reordered_both, reordered_same}
 use Rattle.lu_graph.specs.First.{AllGoFirst, FirstTellsAll, IsFirstUnseen, LeadsFirst}
 
 -- ---- a thread that no other sees
 
-unseen_access : (c : Declarations) (f : Frame) (instr : Instr) → is_unseen instr ≡ true → instr_access c f instr ≡ None
+unseen_access : (c : Component) (f : Frame) (instr : Instr) → is_unseen instr ≡ true → instr_access c f instr ≡ None
 unseen_access c f (Set to v) is = refl
 unseen_access c f (Compute by to x y) is = refl
 unseen_access c f (Load to w i) is = absurd (cc)
@@ -155,7 +155,7 @@ goes_aside s mid end x m other event unseen differ one two =
 -- the same event before both
 event_before : (e : Option Event) (h k : List Event) → AreReordered h k → AreReordered (with_event e h) (with_event e k)
 event_before None h k re = re
-event_before (Some e) h k re = reordered_behind e h k re
+event_before (Some e) h k re = reordered_after e h k re
 
 -- two events in the other order
 events_turned : (e f : Option Event) (k : List Event) → AreUnordered e f → AreReordered (with_event e (with_event f k)) (with_event f (with_event e k))
@@ -257,7 +257,7 @@ one_first s t u a b = elim (cases_lt t u) as (λ _. t ≡ u) [
   ]
 ]
 
--- one move that goes first, and the rest behind it
+-- one move that goes first, and the rest after it
 move_first : (s : State) (m : Move) (now : State) (event : Option Event) (n : ℕ) (end : State) (behind h : List Event) → ((t : ℕ) → IsFirstUnseen s t → m.thread ≡ t) → Step s m now event → LeadsFirst now n end behind → AreReordered (with_event event behind) h → LeadsFirst s (suc n) end h
 move_first s m now event n end behind h first step r re = record {
   schedule = m ∷ r.schedule;

@@ -4,7 +4,7 @@ use Rattle.std.specs.Prelude.{◌↔◌, IsTrue}
 use Rattle.std.specs.Global.{Vec}
 use Rattle.std.proofs.lemmas.Bool.{le-leb, leb-true}
 use Rattle.std.proofs.lemmas.Option.{slice_get_within}
-use Rattle.lu_component.specs.Component.{Declarations}
+use Rattle.lu_component.specs.Component.{Component}
 use Rattle.lu_test.specs.Matrix.{Matrix}
 use Rattle.lu_machine.specs.Positions.{CanStandAt, at_position}
 use Rattle.lu_machine.specs.Starts.{FromEachStart, IsStart, Settles}
@@ -32,14 +32,14 @@ use Rattle.lu_graph.proofs.Many.{no_more_apart}
 use Rattle.lu_graph.proofs.Same.{AreDifferent}
 
 -- so it is from each start
-abbrev pub AreSearchedFrom : List (Vec SerialOp) → Declarations → Matrix → List Kept → ℕ → ℕ → ℕ → Type 0
+abbrev pub AreSearchedFrom : List (Vec SerialOp) → Component → Matrix → List Kept → ℕ → ℕ → ℕ → Type 0
 AreSearchedFrom members c matrix list place moves end = (s : State) → IsStart c matrix s → AreSearched members s list place moves end
 
 -- what holds from each start, where component and matrix are known by equations
-pub from_same : (c d : Declarations) (m n : Matrix) → c ≡ d → m ≡ n → (P : State → Type 0) → FromEachStart d n P → FromEachStart c m P
+pub from_same : (c d : Component) (m n : Matrix) → c ≡ d → m ≡ n → (P : State → Type 0) → FromEachStart d n P → FromEachStart c m P
 from_same c d m n p q P all s is = all s (subst (λ x. IsStart d x s) q (subst (λ x. IsStart x m s) p is))
 
-module _ (members : List (Vec SerialOp)) (c : Declarations) (matrix : Matrix) (settles : Settles c matrix) (dead : DeadTable) (dead_known : KnowsDead c dead) where
+module _ (members : List (Vec SerialOp)) (c : Component) (matrix : Matrix) (settles : Settles c matrix) (dead : DeadTable) (dead_known : KnowsDead c dead) where
   -- the dead registers of the component of a start
   known_at : (s : State) → IsStart c matrix s → KnowsDead s.component dead
   known_at s is = subst (λ x. KnowsDead x dead) (sym (start_component c matrix s is)) dead_known
@@ -95,7 +95,7 @@ module _ (members : List (Vec SerialOp)) (c : Declarations) (matrix : Matrix) (s
       -- where the machine stands then
       here : (s : State) → IsStart c matrix s → at_position m kept.position ≡ its s kept
       here s is =
-          let make : Declarations → Matrix → State = λ d x. record { component = d; matrix = x; cells = kept.position.cells.items; locks = kept.position.locks.items; threads = kept.position.threads.items } in
+          let make : Component → Matrix → State = λ d x. record { component = d; matrix = x; cells = kept.position.cells.items; locks = kept.position.locks.items; threads = kept.position.threads.items } in
           ap (λ d. make d m.matrix) (component ∙ sym (start_component c matrix s is)) ∙ ap (λ x. make s.component x) (matrix_is ∙ sym (start_matrix c matrix s is))
 
       sound : (s : State) (is : IsStart c matrix s) → IsReachedAndSound s members kept

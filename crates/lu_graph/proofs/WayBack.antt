@@ -7,7 +7,7 @@ use Rattle.lu_graph.specs.declared.discovering.Discovery.{Discovery}
 use Rattle.lu_graph.specs.Exploring.{ArePaths}
 use Rattle.lu_graph.proofs.Many.{some_at}
 
--- the path to the place is that to an earlier one, and these moves behind it, the last one first
+-- the path to the place is that to an earlier one, and these moves after it, the last one first
 abbrev pub GoesBy : List Discovery → ℕ → ℕ → List Move → Type 0
 GoesBy ways place at moves =
     (paths : List (List Move)) → ArePaths ways paths → (v : List Move) × (slice_get paths at ≡ Some v) × (slice_get paths place ≡ Some (v ++ reverse moves))

@@ -30,7 +30,7 @@ abbrev pub AddsNone : Discovered → Discovered → Type 0
 AddsNone old new =
     (new.positions.keys ≡ old.positions.keys) × (new.discoveries.items ≡ old.discoveries.items)
 
--- the state s is added behind the others, as discovered so
+-- the state s is added after the others, as discovered so
 abbrev pub AddsOne : State → Discovery → Discovered → Discovered → Type 0
 AddsOne s way old new =
     (position : Position)
@@ -132,7 +132,7 @@ pub record IsSearched (s : State) (found : Discovered) (place : ℕ) (limit : Mo
   pub frontier : (i : ℕ) (entry here : Entry) → slice_get entries i ≡ Some entry
       → slice_get entries place ≡ Some here → IsEarlier entry.path (here.path ++ limit ∷ [])
 
--- the new list is the old one, and more behind it
+-- the new list is the old one, and more after it
 abbrev pub Extends : {A : Type 0} → List A → List A → Type 0
 Extends {A} old new = (more : List A) × (new ≡ old ++ more)
 

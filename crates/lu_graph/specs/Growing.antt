@@ -1,7 +1,7 @@
 -- How the list of nodes that are kept grows.
 use Rattle.std.specs.Prelude.{◌≡◌, ◌↔◌, ℕ, ◌<◌, ◌≤◌, List, [], ◌++◌, All, Bool, IfSome, Option, Some, None, slice_get}
 use Rattle.std.specs.Global.{Vec}
-use Rattle.lu_component.specs.Component.{Declarations}
+use Rattle.lu_component.specs.Component.{Component}
 use Rattle.lu_test.specs.declared.schedule.Move.{Move}
 use Rattle.lu_test.specs.Matrix.{Matrix}
 use Rattle.lu_machine.specs.declared.event.Event.{Event}
@@ -17,7 +17,7 @@ use Rattle.lu_graph.specs.Kept.{Kept}
 use Rattle.lu_graph.specs.Nodes.{AreStatesAlike}
 
 -- the state for which it stands, of a run of the component and the matrix
-abbrev pub state_of : Declarations → Matrix → Kept → State
+abbrev pub state_of : Component → Matrix → Kept → State
 state_of c matrix kept = record {
   component = c;
   matrix = matrix;
@@ -27,7 +27,7 @@ state_of c matrix kept = record {
 }
 
 -- it stands for the state s, to which this event led, or none, where these members were possible
-pub record ComesBy (c : Declarations) (matrix : Matrix) (members : List (Vec SerialOp)) (s : State)
+pub record ComesBy (c : Component) (matrix : Matrix) (members : List (Vec SerialOp)) (s : State)
     (alive : List Bool) (event : Option Event) (kept : Kept) : Type 0 where
   pub state : AreStatesAlike s (state_of c matrix kept)
   pub follows : Follows members s alive event kept.alive
@@ -36,14 +36,14 @@ pub record ComesBy (c : Declarations) (matrix : Matrix) (members : List (Vec Ser
 abbrev pub Keeps : (Kept → Type 0) → List Kept → Type 0
 Keeps Such list = (i : ℕ) × (kept : Kept) × (slice_get list i ≡ Some kept) × Such kept
 
--- new is old, and behind it only such, and a machine can stand there
-abbrev pub GrowsBy : Declarations → Matrix → (Kept → Type 0) → List Kept → List Kept → Type 0
+-- new is old, and after it only such, and a machine can stand there
+abbrev pub GrowsBy : Component → Matrix → (Kept → Type 0) → List Kept → List Kept → Type 0
 GrowsBy c matrix Such old new =
     (more : List Kept) × (new ≡ old ++ more)
     × All (λ kept. CanStandAt c matrix kept.position × Such kept) more
 
 -- one such is there, and no other is added
-pub record AddsOne (c : Declarations) (matrix : Matrix) (Such : Kept → Type 0)
+pub record AddsOne (c : Component) (matrix : Matrix) (Such : Kept → Type 0)
     (old new : List Kept) : Type 0 where
   pub there : Keeps Such new
   pub grows : GrowsBy c matrix Such old new

@@ -1,7 +1,7 @@
 -- The nodes that were found.
 use Rattle.std.specs.Prelude.{◌≡◌, ℕ, ◌≤◌, Bool, List, [], ◌∷◌, length, drop, map, IfOk, Option, Result, Some, slice_get}
 use Rattle.std.specs.Global.{Vec}
-use Rattle.lu_component.specs.Component.{Declarations}
+use Rattle.lu_component.specs.Component.{Component}
 use Rattle.lu_machine.specs.declared.event.Event.{Event}
 use Rattle.lu_machine.specs.Positions.{CanStandAt}
 use Rattle.lu_machine.specs.Starts.{FromEachStart}
@@ -61,7 +61,7 @@ pub record HoldMore (members : List (Vec SerialOp)) (Grown : List Kept → Type 
 
 -- so it is where the nodes were those of an old list, what was possible had this number, and the
 -- dead registers of the component were known
-abbrev pub HoldsMore : Declarations → List (Vec SerialOp)
+abbrev pub HoldsMore : Component → List (Vec SerialOp)
     → (List Bool → List Kept → List Kept → Type 0) → ℕ → Nodes → Nodes → Type 0
 HoldsMore c members Grows number old new =
     (list : List Kept) (place : ℕ) (alive : List Bool)

@@ -72,7 +72,7 @@ TellsStays s q a outcome was answer =
     (h : List Event) → ((u : ℕ) → calls u h ≡ called s u)
     → IsTrue answer ↔ (IsTrue was × Admits q h a outcome)
 
--- the thread's operation behind those that ended in s is stuck in q
+-- the thread's operation after those that ended in s is stuck in q
 abbrev pub IsStuckIn : State → List SerialOp → ℕ → Type 0
 IsStuckIn s q thread = slice_get (entries thread q) (ended s thread) ≡ Some Stuck
 
@@ -93,7 +93,7 @@ pub record StayTold (s : State) (members : List (Vec SerialOp)) (a : OpId) (outc
 abbrev pub StayToldIn : State → List (Vec SerialOp) → OpId → Outcome → List Bool → Vec Bool → Type 0
 StayToldIn s members a outcome old new = StayTold s members a outcome old new.items
 
--- what is told behind one event more, or none, of each history that leads to s with it
+-- what is told after one event more, or none, of each history that leads to s with it
 abbrev pub Follows : List (Vec SerialOp) → State → List Bool → Option Event → List Bool → Type 0
 Follows members s old event new =
     (h : List Event) → Agree (progress s) (longer h event) → AreTold members h old

@@ -7,7 +7,7 @@ use Rattle.lu_history.specs.declared.serial.SerialOp.{SerialOp}
 abbrev pub histories : List (Vec SerialOp) → List (List SerialOp)
 histories members = map (λ q. q.items) members
 
--- behind the old histories are these more, each behind the path
+-- after the old histories are these more, each after the path
 abbrev pub ListsMore : Vec (Vec SerialOp) → Vec SerialOp → List (List SerialOp)
     → Vec (Vec SerialOp) → Type 0
 ListsMore old path below new =

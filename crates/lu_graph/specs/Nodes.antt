@@ -1,6 +1,6 @@
 -- Nodes: states, with the histories of schedules that lead there; and how all schedules end.
 use Rattle.std.specs.Prelude.{◌≡◌, ◌↔◌, ℕ, ◌<◌, ◌≤◌, Bool, IfOk, IsTrue, MatchBool, Result, List, [], ◌++◌, length, Option, Some, slice_get}
-use Rattle.lu_component.specs.Component.{Declarations}
+use Rattle.lu_component.specs.Component.{Component}
 use Rattle.lu_test.specs.declared.schedule.Move.{Move}
 use Rattle.lu_test.specs.Matrix.{Matrix}
 use Rattle.lu_machine.specs.declared.event.Event.{Event}
@@ -27,7 +27,7 @@ pub record Node : Type 0 where
 abbrev pub node_of : State → List Event → Node
 node_of s h = record { state = s; history = h }
 
--- the history with this event behind it, or none
+-- the history with this event after it, or none
 abbrev pub longer : List Event → Option Event → List Event
 longer h event = h ++ with_event event []
 
@@ -36,7 +36,7 @@ abbrev pub IsAmong : {A : Type 0} → List A → A → Type 0
 IsAmong list x = (i : ℕ) × (slice_get list i ≡ Some x)
 
 -- a register that is not dead
-abbrev pub NotDead : Declarations → Liveness
+abbrev pub NotDead : Component → Liveness
 NotDead c op place r = IsDead c op place r → ⊥
 
 -- two states differ in dead registers alone
@@ -112,7 +112,7 @@ abbrev pub TellsEnding : {E : Type 0} → List (List SerialOp) → ℕ → ℕ �
 TellsEnding members bound most result s = IfOk result (IsEnding (IsMember members) bound most s)
 
 -- so it is from each start
-abbrev pub TellsEndings : {E : Type 0} → Declarations → Matrix → List (List SerialOp) → ℕ → ℕ
+abbrev pub TellsEndings : {E : Type 0} → Component → Matrix → List (List SerialOp) → ℕ → ℕ
     → Result Ending E → Type 0
 TellsEndings c matrix members bound most result =
     FromEachStart c matrix (TellsEnding members bound most result)

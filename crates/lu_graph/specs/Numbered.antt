@@ -8,7 +8,7 @@ use Rattle.lu_graph.specs.Discovering.{Extends}
 abbrev pub IsNumber : {A : Type 0} → (A → Bool) → List A → ℕ → Type 0
 IsNumber test table n = (place : ℕ) × (position test table ≡ Some place) × (n ≡ place + 1)
 
--- so it is of the table as it has become, the old one with more behind it or nothing
+-- so it is of the table as it has become, the old one with more after it or nothing
 pub record IsNumbered {A : Type 0} (test : A → Bool) (old new : List A) (n : ℕ) : Type 0 where
   pub number : IsNumber test new n
   pub grows : Extends old new

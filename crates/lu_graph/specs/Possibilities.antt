@@ -26,7 +26,7 @@ Gives possible n result = (alive : List Bool) → IsNumberOf possible alive n �
 abbrev pub HaveCalls : State → List ℕ → Type 0
 HaveCalls s calls = (u : ℕ) → slice_index calls u ≡ called s u
 
--- this is the number of what stays possible behind the return, wherever as many are called
+-- this is the number of what stays possible after the return, wherever as many are called
 pub record IsLeft (members : List (Vec SerialOp)) (possible : Possibilities) (at : ReturnAt)
     (n : ℕ) : Type 0 where
   pub old : List Bool
@@ -68,7 +68,7 @@ abbrev pub NumbersBehind : List (Vec SerialOp) → State → ReturnAt → Possib
 NumbersBehind members s at old new n =
     HaveCalls s at.calls → NumbersStay members s at.operation at.outcome at.alive old new n
 
--- the number of what is possible behind the event, if there is one, that led to s
+-- the number of what is possible after the event, if there is one, that led to s
 abbrev pub NumbersAfter : List (Vec SerialOp) → State → Option Event → ℕ → Possibilities
     → Possibilities → ℕ → Type 0
 NumbersAfter members s event = Numbers (λ alive. Follows members s alive event) members

@@ -2,7 +2,7 @@
 use Rattle.std.specs.Prelude.{◌≡◌, ℕ, Bool, List, length, nat_eq, Option, Some, None, slice_get}
 use Rattle.std.specs.List.{slice_index}
 use Rattle.std.specs.Option.{option_eq}
-use Rattle.lu_component.specs.Component.{Declarations}
+use Rattle.lu_component.specs.Component.{Component}
 use Rattle.lu_machine.specs.declared.thread.Thread.{Thread}
 use Rattle.lu_horizon.specs.contracts.live_thread.LiveThreadPartialEq as thread
 use Rattle.lu_horizon.specs.declared.live_thread.LiveThread.{LiveThread}
@@ -48,11 +48,11 @@ pub record IsSized (s : State) : Type 0 where
   pub locks : length s.locks ≡ length s.component.locks
 
 -- the table of dead registers is sound for the component, and says of each whether it is dead
-pub record KnowsDead (c : Declarations) (dead : DeadTable) : Type 0 where
+pub record KnowsDead (c : Component) (dead : DeadTable) : Type 0 where
   pub sound : IsDeadTable c dead
   pub tells : TellsDead c dead
 
--- more parts may have come behind the old ones
+-- more parts may have come after the old ones
 pub record Grow (old new : Parts) : Type 0 where
   pub dead : new.dead ≡ old.dead
   pub cells : Extends old.cells.keys new.cells.keys

@@ -1,7 +1,7 @@
 -- What is known of the nodes that are kept, as a breadth-first search goes through them.
 use Rattle.std.specs.Prelude.{◌≡◌, ℕ, ◌+◌, ◌<◌, ◌≤◌, ◌⊎◌, List, [], All, Option, Some, slice_get}
 use Rattle.std.specs.Global.{Vec}
-use Rattle.lu_component.specs.Component.{Declarations}
+use Rattle.lu_component.specs.Component.{Component}
 use Rattle.lu_test.specs.declared.schedule.Move.{Move}
 use Rattle.lu_test.specs.Matrix.{Matrix}
 use Rattle.lu_machine.specs.declared.event.Event.{Event}
@@ -24,7 +24,7 @@ use Rattle.lu_graph.specs.Nodes.{AreStatesAlike}
 abbrev pub its : State → Kept → State
 its s kept = state_of s.component s.matrix kept
 
--- it stands for the state `end` behind the history h, which may have led there
+-- it stands for the state `end` after the history h, which may have led there
 pub record IsFor (s : State) (members : List (Vec SerialOp)) (end : State) (h : List Event)
     (kept : Kept) : Type 0 where
   pub state : AreStatesAlike end (its s kept)
@@ -57,12 +57,12 @@ pub record AreVisited (members : List (Vec SerialOp)) (s : State) (list : List K
       → Keeps (IsNextBy members (its s kept) kept.alive next event) list
 
 -- so it is from each start
-abbrev pub AreVisitedFrom : List (Vec SerialOp) → Declarations → Matrix → List Kept → ℕ → Type 0
+abbrev pub AreVisitedFrom : List (Vec SerialOp) → Component → Matrix → List Kept → ℕ → Type 0
 AreVisitedFrom members c matrix list place =
     FromEachStart c matrix (λ s. AreVisited members s list place)
 
 -- the level of the node at this place: the old one, or, where that has ended, the next, which ends
--- behind all that are known
+-- after all that are known
 abbrev pub IsLevelAt : Level → ℕ → ℕ → Level → Type 0
 IsLevelAt old place known new =
     ((place < old.end) × (new.moves ≡ old.moves) × (new.end ≡ old.end))

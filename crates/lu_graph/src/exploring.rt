@@ -136,7 +136,7 @@ fn search_all(
 /// node is a state, with the history of a schedule that leads there; those of states that differ in
 /// dead registers alone, where the same members of the set can still become witnesses, are alike,
 /// and count as one. At most `most` are kept, each of some 50 bytes, with the parts that they share.
-/// Where a schedule of no more moves than the bound ends badly, the nodes behind it are not counted.
+/// Where a schedule of no more moves than the bound ends badly, the nodes after it are not counted.
 /// Asks for a matrix of the component, whose setup settles.
 ///
 /// # Errors

@@ -46,7 +46,7 @@ fn is_stuck_so(outcome: SerialOutcome) -> bool
     outcome == SerialOutcome::Stuck
 }
 
-/// Whether the thread's operation behind those that ended is stuck in the member.
+/// Whether the thread's operation after those that ended is stuck in the member.
 fn is_stuck(machine: &Machine<'_>, member: &[SerialOp], thread: u8) -> bool
     ensures { IsTrue result ↔ IsStuckIn machine.now member.now thread }
 {

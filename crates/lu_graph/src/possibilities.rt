@@ -11,7 +11,7 @@ use lu_history::{OpId, SerialOp};
 use lu_machine::{Event, Machine, Outcome};
 use std::alloc::{AllocError, Global};
 
-/// What tells which members stay possible behind a return: the number of the list of those that
+/// What tells which members stay possible after a return: the number of the list of those that
 /// were, how many operations of each thread are called, which operation returns, and how.
 #[derive(Clone, Copy, PartialEq, Eq, Hash)]
 pub(crate) struct ReturnAt {
@@ -22,7 +22,7 @@ pub(crate) struct ReturnAt {
 }
 
 /// The lists of members that were possible, each different one once, with its number; and the
-/// numbers of what stayed possible behind the returns that were met.
+/// numbers of what stayed possible after the returns that were met.
 #[derive(Drop)]
 pub(crate) struct Possibilities {
     pub(crate) lists: IndexSet<Vec<bool>>,
@@ -65,7 +65,7 @@ fn calls_of(machine: &Machine<'_>) -> [u16; 8]
     calls
 }
 
-/// The number of what stays possible behind the return, which has the calls of the machine. It is
+/// The number of what stays possible after the return, which has the calls of the machine. It is
 /// looked up, and remembered where it was not there.
 fn number_behind(
     alloc: Global,
@@ -86,7 +86,7 @@ fn number_behind(
     Ok(number)
 }
 
-/// The number of what is possible behind the event, if there is one, by which the machine came
+/// The number of what is possible after the event, if there is one, by which the machine came
 /// where it stands, where before it what has the number `was` was possible.
 pub(crate) fn number_after(
     alloc: Global,

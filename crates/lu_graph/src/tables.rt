@@ -8,7 +8,7 @@ use std::alloc::{AllocError, Global};
 use std::hash::Hash;
 
 /// The number of what stands at this place, from 1. More than 4,294,967,295 have no numbers: that
-/// is told as want of memory.
+/// is told as refused memory.
 fn number_at(place: usize) -> Result<u32, AllocError>
     ensures { IfOk result (λ n. n ≡ place + 1) }
 {

@@ -52,7 +52,7 @@ split_at [] x i is = cc
 split_at (y ∷ h) x zero is = let e : y ≡ x = cc in ap (λ z. z ∷ h) e
 split_at (y ∷ h) x (suc i) is = ap (λ z. y ∷ z) (split_at h x i is)
 
--- the entries before position i, in a list with more behind them
+-- the entries before position i, in a list with more after them
 pub take_within : {X : Type 0} (h g : List X) (x : X) (i : ℕ) → slice_get h i ≡ Some x → take i (h ++ g) ≡ take i h
 take_within h g x i is = let lt = slice_get_within h i x is in take-append-le i h g (omega arith)
 

@@ -2,7 +2,7 @@
 use Rattle.std.proofs.Common.{◌≡◌, ℕ, zero, suc, ◌<◌, false, List, [], ◌∷◌, ◌++◌, Option, Some, map, length, replicate, slice_set, get_or, refl, sym, subst, ◌∙◌, ap}
 use Rattle.std.proofs.lemmas.List.{append-nil, set-get_or}
 use Rattle.std.proofs.lemmas.Option.{none-some, same_Some}
-use Rattle.lu_component.specs.Component.{Declarations}
+use Rattle.lu_component.specs.Component.{Component}
 use Rattle.lu_test.specs.declared.schedule.Move.{Move}
 use Rattle.lu_test.specs.Matrix.{Matrix}
 use Rattle.lu_machine.specs.declared.event.Event.{Event}
@@ -21,7 +21,7 @@ use Rattle.lu_history.specs.Standing.{Standing, Agree}
 use Rattle.lu_history.proofs.Agreement.{agree_start, agree_call, agree_return, call_fits, return_fits}
 
 -- at the start nothing has happened
-pub start_agrees : (c : Declarations) (matrix : Matrix) (s : State) → IsStart c matrix s → Agree (progress s) []
+pub start_agrees : (c : Component) (matrix : Matrix) (s : State) → IsStart c matrix s → Agree (progress s) []
 start_agrees c matrix s is =
     let n = length matrix.threads in
     subst (λ (threads : List Thread). Agree (map progress_of threads) []) (sym (start_threads c matrix s is)) (rw (idle_progress n) (agree_start n))

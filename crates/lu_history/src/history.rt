@@ -170,7 +170,7 @@ impl History {
     ///
     /// # Errors
     ///
-    /// [`HistoryFault::Memory`]: want of memory. The history then stays as it was.
+    /// [`HistoryFault::Memory`]: refused memory. The history then stays as it was.
     pub fn push(&mut self, event: Event) -> Result<(), HistoryFault>
         requires { Fits self.old event }
         ensures ok { OnOk result (self.new ≡ self.old ++ event ∷ []) }
@@ -211,7 +211,7 @@ impl History {
     ///
     /// # Errors
     ///
-    /// [`HistoryFault::Memory`]: want of memory.
+    /// [`HistoryFault::Memory`]: refused memory.
     pub fn copy(&self) -> Result<History, HistoryFault>
         ensures { IfOk result (λ copy. copy ≡ self.now) }
     {
@@ -241,7 +241,7 @@ impl History {
     ///
     /// # Errors
     ///
-    /// [`HistoryFault::Memory`]: want of memory.
+    /// [`HistoryFault::Memory`]: refused memory.
     pub fn keep_pending(&self, t: u8) -> Result<History, HistoryFault>
         ensures kept { IfOk result (λ kept. kept ≡ keep_pending t self.now) }
 

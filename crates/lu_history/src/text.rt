@@ -24,7 +24,7 @@ fn write_event(text: &mut String, event: Event) -> Result<(), AllocError>
 ///
 /// # Errors
 ///
-/// Want of memory.
+/// Memory was refused.
 pub fn write_history(alloc: Global, history: &History) -> Result<String, AllocError>
     ensures { IfOk result (λ text. string_bytes text ≡ history_text history.now) }
 {

@@ -4,13 +4,13 @@ use Rattle.std.proofs.lemmas.Bool.{lt-ltb, le-ltb}
 use Rattle.std.proofs.lemmas.Option.{slice_get_within}
 use Rattle.lu_component.specs.declared.instr.Instr.{Instr}
 use Rattle.lu_component.specs.declared.instr.Instr.TheVariants.{Set, Compute, Load, Store, Cas, Lock, Unlock, Await, AwaitNot, Pick, Jump, JumpIfZero, Return}
-use Rattle.lu_component.specs.Component.{Declarations}
+use Rattle.lu_component.specs.Component.{Component}
 use Rattle.lu_test.specs.Matrix.{Matrix, calls_of}
 use Rattle.lu_machine.specs.declared.thread.Frame.{Frame}
 use Rattle.lu_machine.specs.States.{State}
 use Rattle.lu_machine.specs.Steps.{RunsOn, choices, is_blocked, more_local}
 use Rattle.lu_horizon.specs.declared.outlook.Outlook.{Outlook}
-use Rattle.lu_horizon.specs.Code.{ahead_at, ahead_of_call, is_certain_cell, more_behind, run_on, unless_there}
+use Rattle.lu_horizon.specs.Code.{ahead_at, ahead_of_call, is_certain_cell, more_after, run_on, unless_there}
 use Rattle.lu_horizon.specs.Own.{IsIdle, IsOpenAt}
 use Rattle.lu_horizon.specs.Outlooks.{IsWeaker, either, no_move, one_before}
 use Rattle.lu_horizon.specs.Sure.{HasOutlook}
@@ -20,7 +20,7 @@ use Rattle.lu_horizon.proofs.LocalLaws.{ahead_on, here, more_here}
 use Rattle.lu_horizon.proofs.SureLaws.{before, either_first, either_second, no_move_stays, nothing_ahead, outlook_less, within_itself}
 
 -- where none is left the thread is over
-pub idle_over : (c : Declarations) (matrix : Matrix) (t k : ℕ) → length (calls_of matrix t) ≤ k → (s : State) → IsIdle c matrix t k s → HasOutlook s t no_move
+pub idle_over : (c : Component) (matrix : Matrix) (t k : ℕ) → length (calls_of matrix t) ≤ k → (s : State) → IsIdle c matrix t k s → HasOutlook s t no_move
 idle_over c matrix t k all =
     no_move_stays t (IsIdle c matrix t k)
     (λ s i. rw (i.stands, i.own.matrix_is, le-ltb k (length (calls_of matrix t)) all) refl)
@@ -34,7 +34,7 @@ not_there_rest : (there : Bool) (a b : Outlook) → there ≡ false → IsWeaker
 not_there_rest true a b not = absurd (cc)
 not_there_rest false a b not = either_second a b
 
-module _ (c : Declarations) (matrix : Matrix) (t k : ℕ) (rest : Outlook) (code : List Instr) (known : ℕ → Outlook) (call : IsCall c matrix t k code rest) (next : (q : ℕ) (s : State) → IsOpenAt c matrix t k q s → HasOutlook s t (known q)) where
+module _ (c : Component) (matrix : Matrix) (t k : ℕ) (rest : Outlook) (code : List Instr) (known : ℕ → Outlook) (call : IsCall c matrix t k code rest) (next : (q : ℕ) (s : State) → IsOpenAt c matrix t k q s → HasOutlook s t (known q)) where
   -- before a call, one move more than where its own first steps may lead
   pub call_ahead : (s : State) → IsIdle c matrix t k s → HasOutlook s t (ahead_of_call c code known)
   call_ahead =
@@ -49,7 +49,7 @@ module _ (c : Declarations) (matrix : Matrix) (t k : ℕ) (rest : Outlook) (code
       ahead_on c matrix t k rest code call known next c.local 0 step.0 new (own_opens c matrix t k s m step.0 e step.1 i same) runs))
 
   module _ (place : ℕ) where
-    one_more : (instr : Instr) → slice_get code place ≡ Some instr → ((s : State) (f : Frame) → is_blocked s f instr ≡ false) → choices instr ≡ 1 → (o : Outlook) → ((q : ℕ) → MayGoTo instr place q → IsWeaker o (run_on code known (more_behind c instr) q)) → (MayEnd c instr → IsWeaker o rest) → (s : State) → IsOpenAt c matrix t k place s → HasOutlook s t (one_before o)
+    one_more : (instr : Instr) → slice_get code place ≡ Some instr → ((s : State) (f : Frame) → is_blocked s f instr ≡ false) → choices instr ≡ 1 → (o : Outlook) → ((q : ℕ) → MayGoTo instr place q → IsWeaker o (run_on code known (more_after c instr) q)) → (MayEnd c instr → IsWeaker o rest) → (s : State) → IsOpenAt c matrix t k place s → HasOutlook s t (one_before o)
     one_more instr stands free one o to end =
         before t o (IsOpenAt c matrix t k place)
         (λ s a. rw (a.stands, here c matrix t k rest code call place s a, stands, free s a.frame) one)
@@ -57,10 +57,10 @@ module _ (c : Declarations) (matrix : Matrix) (t k : ℕ) (rest : Outlook) (code
         (λ s m new e a same step.
         (let more = more_here c matrix t k rest code call place s a instr stands in
         let own : RunsOn (more_local s t) step.0 t new = subst (λ x. RunsOn (more_local s x) step.0 x new) same step.2 in
-        let runs : RunsOn (more_behind c instr) step.0 t new = subst (λ n. RunsOn n step.0 t new) more own in
+        let runs : RunsOn (more_after c instr) step.0 t new = subst (λ n. RunsOn n step.0 t new) more own in
         elim (own_goes c matrix t k s m step.0 e step.1 place a same instr (here c matrix t k rest code call place s a ∙ stands)) [
-          | inl goes ↦ outlook_less new t o (run_on code known (more_behind c instr) goes.0) (to goes.0 goes.1) (ahead_on c matrix t k rest code call known next (more_behind c instr) goes.0 step.0 new goes.2 runs)
-          | inr ends ↦ outlook_less new t o rest (end ends.0) (call.after new (rw (idle_stays (more_behind c instr) step.0 t (k + 1) new ends.1.stands runs) ends.1))
+          | inl goes ↦ outlook_less new t o (run_on code known (more_after c instr) goes.0) (to goes.0 goes.1) (ahead_on c matrix t k rest code call known next (more_after c instr) goes.0 step.0 new goes.2 runs)
+          | inr ends ↦ outlook_less new t o rest (end ends.0) (call.after new (rw (idle_stays (more_after c instr) step.0 t (k + 1) new ends.1.stands runs) ends.1))
         ]))
 
     to_place : (on : ℕ → Outlook) (o : Outlook) (p : ℕ) → IsWeaker o (on p) → (q : ℕ) → q ≡ p → IsWeaker o (on q)
@@ -69,36 +69,36 @@ module _ (c : Declarations) (matrix : Matrix) (t k : ℕ) (rest : Outlook) (code
     -- the outlook at an instruction holds
     pub ahead_here : (instr : Instr) → slice_get code place ≡ Some instr → (s : State) → IsOpenAt c matrix t k place s → HasOutlook s t (ahead_at c code known rest place instr)
     ahead_here (Set to v) stands =
-        let on = run_on code known (more_behind c (Set to v)) in
+        let on = run_on code known (more_after c (Set to v)) in
         one_more (Set to v) stands (λ s f. refl) refl (on (place + 1)) (to_place on (on (place + 1)) (place + 1) (within_itself (on (place + 1)))) (λ e. absurd e)
     ahead_here (Compute by to a b) stands =
-        let on = run_on code known (more_behind c (Compute by to a b)) in
+        let on = run_on code known (more_after c (Compute by to a b)) in
         one_more (Compute by to a b) stands (λ s f. refl) refl (on (place + 1)) (to_place on (on (place + 1)) (place + 1) (within_itself (on (place + 1)))) (λ e. absurd e)
     ahead_here (Load to w i) stands =
-        let on = run_on code known (more_behind c (Load to w i)) in
+        let on = run_on code known (more_after c (Load to w i)) in
         let o = unless_there (is_certain_cell c w i) (on (place + 1)) rest in
         one_more (Load to w i) stands (λ s f. refl) refl o (to_place on o (place + 1) (there_next (is_certain_cell c w i) (on (place + 1)) rest)) (not_there_rest (is_certain_cell c w i) (on (place + 1)) rest)
     ahead_here (Store w i v) stands =
-        let on = run_on code known (more_behind c (Store w i v)) in
+        let on = run_on code known (more_after c (Store w i v)) in
         let o = unless_there (is_certain_cell c w i) (on (place + 1)) rest in
         one_more (Store w i v) stands (λ s f. refl) refl o (to_place on o (place + 1) (there_next (is_certain_cell c w i) (on (place + 1)) rest)) (not_there_rest (is_certain_cell c w i) (on (place + 1)) rest)
     ahead_here (Cas to w i x y) stands =
-        let on = run_on code known (more_behind c (Cas to w i x y)) in
+        let on = run_on code known (more_after c (Cas to w i x y)) in
         let o = unless_there (is_certain_cell c w i) (on (place + 1)) rest in
         one_more (Cas to w i x y) stands (λ s f. refl) refl o (to_place on o (place + 1) (there_next (is_certain_cell c w i) (on (place + 1)) rest)) (not_there_rest (is_certain_cell c w i) (on (place + 1)) rest)
     ahead_here (Lock l) stands = λ s a. nothing_ahead s t
     ahead_here (Unlock l) stands =
-        let on = run_on code known (more_behind c (Unlock l)) in
+        let on = run_on code known (more_after c (Unlock l)) in
         let o = either (on (place + 1)) rest in
         one_more (Unlock l) stands (λ s f. refl) refl o (to_place on o (place + 1) (either_first (on (place + 1)) rest)) (λ e. either_second (on (place + 1)) rest)
     ahead_here (Await w i v) stands = λ s a. nothing_ahead s t
     ahead_here (AwaitNot w i v) stands = λ s a. nothing_ahead s t
     ahead_here (Pick to count) stands = λ s a. nothing_ahead s t
     ahead_here (Jump target) stands =
-        let on = run_on code known (more_behind c (Jump target)) in
+        let on = run_on code known (more_after c (Jump target)) in
         one_more (Jump target) stands (λ s f. refl) refl (on target) (to_place on (on target) target (within_itself (on target))) (λ e. absurd e)
     ahead_here (JumpIfZero v target) stands =
-        let on = run_on code known (more_behind c (JumpIfZero v target)) in
+        let on = run_on code known (more_after c (JumpIfZero v target)) in
         let o = either (on target) (on (place + 1)) in
         one_more (JumpIfZero v target) stands (λ s f. refl) refl o (λ q is. elim is [
           | inl e ↦ to_place on o target (either_first (on target) (on (place + 1))) q e

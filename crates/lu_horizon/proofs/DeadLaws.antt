@@ -1,6 +1,6 @@
 -- What is said to be dead is so.
 use Rattle.std.proofs.Common.{◌≡◌, ℕ, zero, suc, ◌⊎◌, inl, inr, Bool, true, List, [], ◌∷◌, ◌++◌, Some, get_or, length, slice_get, refl, sym, ◌∙◌, ap, subst}
-use Rattle.lu_component.specs.Component.{Declarations}
+use Rattle.lu_component.specs.Component.{Component}
 use Rattle.lu_component.specs.declared.instr.Instr.{Instr}
 use Rattle.lu_machine.specs.States.{instr_at}
 use Rattle.lu_horizon.specs.Dead.{AreDead, IsDeadTable, dead_at, dead_before}
@@ -16,7 +16,7 @@ get_push (x ∷ table) places (suc op) =
       | inr new ↦ inr (ap suc new.0, new.1)
     ]
 
-pub dead_push : (c : Declarations) (table : List (List (List Bool))) (op : ℕ) (code : List Instr) (places : List (List Bool)) → op ≡ length table → ((place : ℕ) → instr_at c op place ≡ slice_get code place) → AreDead code places → IsDeadTable c table → IsDeadTable c (table ++ places ∷ [])
+pub dead_push : (c : Component) (table : List (List (List Bool))) (op : ℕ) (code : List Instr) (places : List (List Bool)) → op ≡ length table → ((place : ℕ) → instr_at c op place ≡ slice_get code place) → AreDead code places → IsDeadTable c table → IsDeadTable c (table ++ places ∷ [])
 dead_push c table op code places many of dead old = λ o place instr r at is.
     elim (get_push table places o) [
       | inl same ↦
@@ -28,5 +28,5 @@ dead_push c table op code places many of dead old = λ o place instr r at is.
           subst (λ x. dead_before (dead_at x) place instr r ≡ true) (sym new.1) (dead place instr r there now))
     ]
 
-pub dead_none : (c : Declarations) → IsDeadTable c []
+pub dead_none : (c : Component) → IsDeadTable c []
 dead_none c = λ op place instr r at is. absurd (cc)

@@ -4,7 +4,7 @@ use Rattle.std.proofs.lemmas.Option.{same_Some}
 use Rattle.lu_component.specs.declared.instr.Instr.{Instr}
 use Rattle.lu_component.specs.declared.instr.Instr.TheVariants.{JumpIfZero}
 use Rattle.lu_component.specs.declared.instr.Operand.{Operand}
-use Rattle.lu_component.specs.Component.{Declarations}
+use Rattle.lu_component.specs.Component.{Component}
 use Rattle.lu_test.specs.declared.schedule.Move.{Move}
 use Rattle.lu_test.specs.Matrix.{Matrix}
 use Rattle.lu_machine.specs.declared.event.Event.{Event}
@@ -24,7 +24,7 @@ use Rattle.lu_horizon.specs.Sure.{HasOutlook}
 use Rattle.lu_horizon.proofs.OwnLaws.{itself_stands, one_step_by, other_stands, step_keeps_own}
 use Rattle.lu_horizon.proofs.SureLaws.{before}
 
-module _ (c : Declarations) (none : c.local ≡ 0) (matrix : Matrix) (t k : ℕ) (f : Frame) (v : Operand) (target : ℕ) (jumps : instr_at c f.op f.place ≡ Some (JumpIfZero v target)) where
+module _ (c : Component) (none : c.local ≡ 0) (matrix : Matrix) (t k : ℕ) (f : Frame) (v : Operand) (target : ℕ) (jumps : instr_at c f.op f.place ≡ Some (JumpIfZero v target)) where
   -- thread t has its call number k open, with these registers
   abbrev Holds : State → Type 0
   Holds s = IsOwn c matrix s × (slice_get s.threads t ≡ Some (at_work k f))
@@ -37,7 +37,7 @@ module _ (c : Declarations) (none : c.local ≡ 0) (matrix : Matrix) (t k : ℕ)
 
   goes : (s : State) (m : Move) (new : State) (event : Option Event) → Holds s → m.thread ≡ t → Step s m new event → IsOpenAt c matrix t k (if value_of f v == 0 then target else f.place + 1) new
   goes s m new event holds same step =
-      let short : s.component.local ≡ 0 = ap (λ (x : Declarations). x.local) holds.0.component ∙ none in
+      let short : s.component.local ≡ 0 = ap (λ (x : Component). x.local) holds.0.component ∙ none in
       let one : OneStep s m new event = (one_without_local s m new event short).0 step in
       let stands : slice_get s.threads m.thread ≡ Some (at_work k f) = rw same holds.1 in
       let h : ByActivity s m k (Open f) new event = one_step_by s m new event (at_work k f) stands one in

@@ -4,14 +4,14 @@ use Rattle.std.specs.Option.{option_map_or}
 use Rattle.std.proofs.lemmas.Option.{same_Some}
 use Rattle.lu_component.specs.declared.instr.Instr.{Instr}
 use Rattle.lu_component.specs.declared.instr.Instr.TheVariants.{Set, Compute, Load, Store, Cas, Lock, Unlock, Await, AwaitNot, Pick, Jump, JumpIfZero, Return}
-use Rattle.lu_component.specs.Component.{Declarations}
+use Rattle.lu_component.specs.Component.{Component}
 use Rattle.lu_test.specs.declared.matrix.Call.{Call}
 use Rattle.lu_test.specs.declared.schedule.Move.{Move}
 use Rattle.lu_test.specs.Matrix.{Matrix}
 use Rattle.lu_machine.specs.States.{State, instr_at}
 use Rattle.lu_machine.specs.Steps.{OneStep, RunsOn, is_at_local, is_local, more_local}
 use Rattle.lu_horizon.specs.declared.outlook.Outlook.{Outlook}
-use Rattle.lu_horizon.specs.Code.{behind_local, more_behind, run_on}
+use Rattle.lu_horizon.specs.Code.{behind_local, more_after, run_on}
 use Rattle.lu_horizon.specs.Own.{IsOpenAt}
 use Rattle.lu_horizon.specs.Outlooks.{IsWeaker}
 use Rattle.lu_horizon.specs.Sure.{HasOutlook}
@@ -20,7 +20,7 @@ use Rattle.lu_horizon.proofs.OwnLaws.{MayEnd, MayGoTo, own_goes}
 use Rattle.lu_horizon.proofs.SureLaws.{either_first, either_second, outlook_less, within_itself}
 
 -- no local instruction ends its operation
-local_ends : (c : Declarations) (instr : Instr) → is_local instr ≡ true → MayEnd c instr → ⊥
+local_ends : (c : Component) (instr : Instr) → is_local instr ≡ true → MayEnd c instr → ⊥
 local_ends c (Set to v) is ends = ends
 local_ends c (Compute by to a b) is ends = ends
 local_ends c (Load to w i) is ends = cc
@@ -35,7 +35,7 @@ local_ends c (Jump target) is ends = ends
 local_ends c (JumpIfZero v target) is ends = ends
 local_ends c (Return v) is ends = cc
 
--- what is behind it says no more than what is at each place to which it may go
+-- what is after it says no more than what is at each place to which it may go
 local_within : (on : ℕ → Outlook) (place : ℕ) (instr : Instr) → is_local instr ≡ true → (q : ℕ) → MayGoTo instr place q → IsWeaker (behind_local on place instr) (on q)
 local_within on place (Set to v) is q goes = rw goes (within_itself (on (place + 1)))
 local_within on place (Compute by to a b) is q goes = rw goes (within_itself (on (place + 1)))
@@ -55,7 +55,7 @@ local_within on place (JumpIfZero v target) is q goes =
     ]
 local_within on place (Return v) is q goes = absurd (cc)
 
-module _ (c : Declarations) (matrix : Matrix) (t k : ℕ) (rest : Outlook) (code : List Instr) (call : IsCall c matrix t k code rest) where
+module _ (c : Component) (matrix : Matrix) (t k : ℕ) (rest : Outlook) (code : List Instr) (call : IsCall c matrix t k code rest) where
   -- the instruction at a place is that of the code
   pub here : (place : ℕ) (s : State) (a : IsOpenAt c matrix t k place s) → instr_at s.component a.frame.op a.frame.place ≡ slice_get code place
   here place s a =
@@ -69,7 +69,7 @@ module _ (c : Declarations) (matrix : Matrix) (t k : ℕ) (rest : Outlook) (code
   at_local place s a = rw (a.stands, here place s a) refl
 
   -- so many local instructions may follow the one at this place
-  pub more_here : (place : ℕ) (s : State) (a : IsOpenAt c matrix t k place s) (instr : Instr) → slice_get code place ≡ Some instr → more_local s t ≡ more_behind c instr
+  pub more_here : (place : ℕ) (s : State) (a : IsOpenAt c matrix t k place s) (instr : Instr) → slice_get code place ≡ Some instr → more_local s t ≡ more_after c instr
   more_here place s a instr stands =
       let is : is_at_local s t ≡ is_local instr = rw stands at (at_local place s a) in
       rw (is, a.own.component) refl

@@ -6,7 +6,7 @@ use Rattle.lu_component.specs.declared.instr.Instr.{Instr}
 use Rattle.lu_component.specs.declared.instr.Instr.TheVariants.{Set, Compute, Load, Store, Cas, Lock, Unlock, Await, AwaitNot, Pick, Jump, JumpIfZero, Return}
 use Rattle.lu_component.specs.declared.instr.Operand.{Operand}
 use Rattle.lu_component.specs.declared.instr.Operand.TheVariants.{Reg, Num}
-use Rattle.lu_component.specs.Component.{Declarations}
+use Rattle.lu_component.specs.Component.{Component}
 use Rattle.lu_test.specs.declared.matrix.Call.{Call}
 use Rattle.lu_test.specs.declared.schedule.Move.{Move}
 use Rattle.lu_test.specs.Matrix.{Matrix, calls_of, thread_count}
@@ -26,7 +26,7 @@ use Rattle.lu_machine.specs.Steps.{Carries, ByActivity, OneStep, RunsOn, Step, i
 use Rattle.lu_machine.proofs.Keeping.{carries_alike, step_moved}
 use Rattle.lu_horizon.specs.Code.{is_certain_cell}
 use Rattle.lu_horizon.specs.Own.{IsOwn, IsIdle, IsOpenAt}
-use Rattle.lu_horizon.specs.Tables.{IsTable, Outlooks, Serves}
+use Rattle.lu_horizon.specs.Tables.{IsTable, ThreadOutlooks, Serves}
 
 pub get_set_same : {A : Type 0} (xs : List A) (i : ℕ) (y : A) → i < length xs → slice_get (slice_set xs i y) i ≡ Some y
 get_set_same [] i y h = absurd (omega arith)
@@ -48,7 +48,7 @@ MayGoTo (Return v) place next = ⊥
 MayGoTo _ place next = next ≡ place + 1
 
 -- whether it may end
-abbrev pub MayEnd : Declarations → Instr → Type 0
+abbrev pub MayEnd : Component → Instr → Type 0
 MayEnd c (Load to w i) = is_certain_cell c w i ≡ false
 MayEnd c (Store w i v) = is_certain_cell c w i ≡ false
 MayEnd c (Cas to w i expected desired) = is_certain_cell c w i ≡ false
@@ -58,7 +58,7 @@ MayEnd c (AwaitNot w i v) = Unit {0}
 MayEnd c (Return v) = Unit {0}
 MayEnd c _ = ⊥
 
-abbrev pub Follows : Declarations → Frame → Instr → Effect → Type 0
+abbrev pub Follows : Component → Frame → Instr → Effect → Type 0
 Follows c f instr (GoesOn g) = (g.op ≡ f.op) × MayGoTo instr f.place g.place
 Follows c f instr (Ends outcome) = MayEnd c instr
 
@@ -94,7 +94,7 @@ await_not_follows : (s : State) (f : Frame) (w : ℕ) (i v : Operand) (P : ℕ �
 await_not_follows s f w i v P None e h = rw h tt
 await_not_follows s f w i v P (Some p) e h = rw h.1 (refl, refl)
 
-jump_follows : (c : Declarations) (f : Frame) (v : Operand) (target : ℕ) (b : Bool) → Follows c f (JumpIfZero v target) (if b then onward_at f target else onward f)
+jump_follows : (c : Component) (f : Frame) (v : Operand) (target : ℕ) (b : Bool) → Follows c f (JumpIfZero v target) (if b then onward_at f target else onward f)
 jump_follows c f v target true = (refl, inl refl)
 jump_follows c f v target false = (refl, inr refl)
 
@@ -194,7 +194,7 @@ open_moves s m k f new event stands one =
     let g = open_goes s m k f new event (one_step_by s m new event was stands one) in
     (g, itself_stands s new m.thread was (thread_after k g.effect) stands g.threads)
 
-stays_open : (c : Declarations) (f g : Frame) (instr : Instr) (k j : ℕ) (e : Effect) → Follows c f instr e → thread_after k e ≡ record { done = j; activity = Open g } → (k ≡ j) × (g.op ≡ f.op)
+stays_open : (c : Component) (f g : Frame) (instr : Instr) (k j : ℕ) (e : Effect) → Follows c f instr e → thread_after k e ≡ record { done = j; activity = Open g } → (k ≡ j) × (g.op ≡ f.op)
 stays_open c f g instr k j (GoesOn x) follows same =
     let open_ : Open x ≡ Open g = ap (λ (y : Thread). y.activity) same in
     let is : x ≡ g = cc in
@@ -203,7 +203,7 @@ stays_open c f g instr k j (Ends outcome) follows same =
     let idle : Idle ≡ Open g = ap (λ (y : Thread). y.activity) same in
     absurd (cc)
 
-module _ (c : Declarations) (matrix : Matrix) (s : State) (m : Move) (new : State) (event : Option Event) (o : IsOwn c matrix s) (one : OneStep s m new event) where
+module _ (c : Component) (matrix : Matrix) (s : State) (m : Move) (new : State) (event : Option Event) (o : IsOwn c matrix s) (one : OneStep s m new event) where
   own_itself : (k : ℕ) (activity : Activity) → slice_get s.threads m.thread ≡ Some (record { done = k; activity = activity }) → (j : ℕ) (g : Frame) → slice_get new.threads m.thread ≡ Some (record { done = j; activity = Open g }) → (call : Call) × (slice_get (calls_of matrix m.thread) j ≡ Some call) × (g.op ≡ call.op)
   own_itself k Idle stands j g at =
       let opens = idle_opens s m k new event stands one in
@@ -239,7 +239,7 @@ module _ (c : Declarations) (matrix : Matrix) (s : State) (m : Move) (new : Stat
       }
 
 -- so do local instructions that follow
-runs_keep_own : (c : Declarations) (matrix : Matrix) (n : ℕ) (s : State) (t : ℕ) (end : State) → RunsOn n s t end → IsOwn c matrix s → IsOwn c matrix end
+runs_keep_own : (c : Component) (matrix : Matrix) (n : ℕ) (s : State) (t : ℕ) (end : State) → RunsOn n s t end → IsOwn c matrix s → IsOwn c matrix end
 runs_keep_own c matrix zero s t end runs own = rw runs own
 runs_keep_own c matrix (suc n) s t end runs own = by_test (λ x. runs_keep_own c matrix n x t end) (is_at_local s t) runs
   where
@@ -248,7 +248,7 @@ runs_keep_own c matrix (suc n) s t end runs own = by_test (λ x. runs_keep_own c
     by_test go false h = rw h own
 
 -- a move keeps the states of a run
-pub step_keeps_own : (c : Declarations) (matrix : Matrix) (s : State) (m : Move) (new : State) (event : Option Event) → IsOwn c matrix s → Step s m new event → IsOwn c matrix new
+pub step_keeps_own : (c : Component) (matrix : Matrix) (s : State) (m : Move) (new : State) (event : Option Event) → IsOwn c matrix s → Step s m new event → IsOwn c matrix new
 step_keeps_own c matrix s m new event o step =
     runs_keep_own c matrix (more_local s m.thread) step.0 m.thread new step.2 (one_keeps_own c matrix s m step.0 event o step.1)
 
@@ -257,10 +257,10 @@ pub idle_stays : (n : ℕ) (s : State) (t k : ℕ) (end : State) → slice_get s
 idle_stays zero s t k end stands runs = runs
 idle_stays (suc n) s t k end stands runs = rw stands at runs
 
-follows_same : (a b : Declarations) (f : Frame) (i j : Instr) (e : Effect) → a ≡ b → i ≡ j → Follows a f i e → Follows b f j e
+follows_same : (a b : Component) (f : Frame) (i j : Instr) (e : Effect) → a ≡ b → i ≡ j → Follows a f i e → Follows b f j e
 follows_same a b f i j e same is h = subst (λ x. Follows b f x e) is (subst (λ x. Follows x f i e) same h)
 
-module _ (c : Declarations) (matrix : Matrix) (t k : ℕ) (s : State) (m : Move) (new : State) (event : Option Event) (step : Step s m new event) where
+module _ (c : Component) (matrix : Matrix) (t k : ℕ) (s : State) (m : Move) (new : State) (event : Option Event) (step : Step s m new event) where
   -- another thread's move leaves a thread where it is
   pub other_idle : IsIdle c matrix t k s → (m.thread ≡ t → ⊥) → IsIdle c matrix t k new
   other_idle i other = record {
@@ -276,7 +276,7 @@ module _ (c : Declarations) (matrix : Matrix) (t k : ℕ) (s : State) (m : Move)
     place_is = a.place_is;
   }
 
-module _ (c : Declarations) (matrix : Matrix) (t k : ℕ) (s : State) (m : Move) (new : State) (event : Option Event) (one : OneStep s m new event) where
+module _ (c : Component) (matrix : Matrix) (t k : ℕ) (s : State) (m : Move) (new : State) (event : Option Event) (one : OneStep s m new event) where
   -- the first step of its own opens its next call
   pub own_opens : IsIdle c matrix t k s → m.thread ≡ t → IsOpenAt c matrix t k 0 new
   own_opens i same =
@@ -304,13 +304,13 @@ module _ (c : Declarations) (matrix : Matrix) (t k : ℕ) (s : State) (m : Move)
       by_effect (Ends outcome) follows now =
           inr (follows, record { own = one_keeps_own c matrix s m new event a.own one; stands = now })
 
-pub leads_keeps_own : (c : Declarations) (matrix : Matrix) (s : State) (u : List Move) (end : State) (h : List Event) → Leads s u end h → IsOwn c matrix s → IsOwn c matrix end
+pub leads_keeps_own : (c : Component) (matrix : Matrix) (s : State) (u : List Move) (end : State) (h : List Event) → Leads s u end h → IsOwn c matrix s → IsOwn c matrix end
 leads_keeps_own c matrix s [] end h leads own = rw leads.0 own
 leads_keeps_own c matrix s (m ∷ u) end h leads own =
     leads_keeps_own c matrix leads.0 u end leads.2 leads.4 (step_keeps_own c matrix s m leads.0 leads.1 own leads.3)
 
 -- the table of a run serves all its states
-pub serves_next : (table : List Outlooks) (s : State) (m : Move) (new : State) (event : Option Event) → Serves table s → Step s m new event → Serves table new
+pub serves_next : (table : List ThreadOutlooks) (s : State) (m : Move) (new : State) (event : Option Event) → Serves table s → Step s m new event → Serves table new
 serves_next table s m new event serves step =
     let own = step_keeps_own s.component s.matrix s m new event serves.own step in
     record {
@@ -324,7 +324,7 @@ leads_component s [] end h leads = ap (λ (x : State). x.component) leads.0
 leads_component s (m ∷ u) end h leads =
     leads_component leads.0 u end leads.2 leads.4 ∙ (step_moved s m leads.0 leads.1 leads.3).component
 
-pub serves_end : (table : List Outlooks) (s : State) (u : List Move) (end : State) (h : List Event) → Leads s u end h → Serves table s → Serves table end
+pub serves_end : (table : List ThreadOutlooks) (s : State) (u : List Move) (end : State) (h : List Event) → Leads s u end h → Serves table s → Serves table end
 serves_end table s [] end h leads serves = rw leads.0 serves
 serves_end table s (m ∷ u) end h leads serves = serves_end table leads.0 u end leads.2 leads.4 (serves_next table s m leads.0 leads.1 serves leads.3)
 
@@ -336,7 +336,7 @@ idle_threads (suc n) zero k f at =
 idle_threads (suc n) (suc t) k f at = idle_threads n t k f at
 
 -- at the start nothing is open
-pub start_own : (c : Declarations) (matrix : Matrix) (s : State) → IsStart c matrix s → IsOwn s.component s.matrix s
+pub start_own : (c : Component) (matrix : Matrix) (s : State) → IsStart c matrix s → IsOwn s.component s.matrix s
 start_own c matrix s is = rw is.is (record {
   component = refl;
   matrix_is = refl;

@@ -5,13 +5,13 @@ use Rattle.std.proofs.lemmas.Bool.{and_cases, and_parts, cases_Bool, cases_eq, c
 use Rattle.std.proofs.lemmas.List.{get_or_append_left, get_or_past, get_or_push, get_or-replicate, length-replicate, get_or-set_other, get_or-set_same}
 use Rattle.std.proofs.lemmas.List.Sums.{sum_by-set}
 use Rattle.std.proofs.lemmas.Option.{get_or_from_slice_get, slice_get_within, slice_get-get_or}
-use Rattle.lu_component.specs.Component.{Declarations, EndsWell, IsCode, IsComponent, IsInstr, IsLast, IsOp}
+use Rattle.lu_component.specs.Component.{Component, EndsWell, IsCode, IsComponent, IsInstr, IsLast, IsOp}
 use Rattle.lu_component.specs.declared.component.Op.{Op}
 use Rattle.lu_component.specs.declared.instr.Instr.{Instr}
 use Rattle.lu_component.specs.declared.instr.Instr.TheVariants.{Set, Compute, Load, Store, Cas, Lock, Unlock, Await, AwaitNot, Pick, Jump, JumpIfZero, Return}
 use Rattle.lu_machine.specs.States.{instr_at}
 use Rattle.lu_machine.proofs.Moves.{all_at}
-use Rattle.lu_horizon.specs.Dead.{AreDeadAt, GoesTo, IsLive, TellsDead, dead_at, dead_before, dead_behind, reads, writes, IsDeadTable, is_dead, IsReadAlong}
+use Rattle.lu_horizon.specs.Dead.{AreDeadAt, GoesTo, IsLive, TellsDead, dead_at, dead_before, dead_after, reads, writes, IsDeadTable, is_dead, IsReadAlong}
 use Rattle.lu_horizon.specs.Rounds.{AreLive, AreLiveIn, AreWithin, IsRound, IsSettledAt, dead_count, with_live}
 
 -- ---- cells
@@ -53,7 +53,7 @@ fewer_with_live places place r is =
 
 -- ---- where an operation may go
 
--- behind an instruction that code can't end with there is one
+-- after an instruction that code can't end with there is one
 onward_within : (arrays locks : ℕ) (code : List Instr) (place : ℕ) (instr : Instr) → IsCode arrays locks code → slice_get code place ≡ Some instr → (IsLast instr → ⊥) → place + 1 < length code
 onward_within arrays locks code place instr is at not_last =
     let within = slice_get_within code place instr at in
@@ -85,7 +85,7 @@ next_within arrays locks code place next (JumpIfZero v target) is at names goes 
     ]
 next_within arrays locks code place next (Return v) is at names goes = absurd goes
 
-next_by_op : (c : Declarations) (op : ℕ) (o : Option Op) → IsComponent c → slice_get c.operations op ≡ o → (place next : ℕ) (instr : Instr) → instr_at c op place ≡ Some instr → GoesTo place instr next → (i : Instr) × (instr_at c op next ≡ Some i)
+next_by_op : (c : Component) (op : ℕ) (o : Option Op) → IsComponent c → slice_get c.operations op ≡ o → (place next : ℕ) (instr : Instr) → instr_at c op place ≡ Some instr → GoesTo place instr next → (i : Instr) × (instr_at c op next ≡ Some i)
 unfolding instr_at
 next_by_op c op None is none place next instr at goes = (let at' = rw none at at in absurd (cc))
 next_by_op c op (Some o) is some place next instr at goes =
@@ -96,44 +96,44 @@ next_by_op c op (Some o) is some place next instr at goes =
     (get_or o.code next instr, rw some (slice_get-get_or o.code next instr within))
 
 -- where an operation may go there is an instruction
-next_there : (c : Declarations) (op place next : ℕ) (instr : Instr) → IsComponent c → instr_at c op place ≡ Some instr → GoesTo place instr next → (i : Instr) × (instr_at c op next ≡ Some i)
+next_there : (c : Component) (op place next : ℕ) (instr : Instr) → IsComponent c → instr_at c op place ≡ Some instr → GoesTo place instr next → (i : Instr) × (instr_at c op next ≡ Some i)
 next_there c op place next instr is at goes = next_by_op c op (slice_get c.operations op) is refl place next instr at goes
 
 -- ---- live
 
--- what is not dead behind an instruction is not dead at some place to which the operation may go
-lives_behind : (dead : ℕ → ℕ → Bool) (place : ℕ) (instr : Instr) (r : ℕ) → dead_behind dead place instr r ≡ false → (next : ℕ) × GoesTo place instr next × (dead next r ≡ false)
-lives_behind dead place (Set to v) r is = (place + 1, refl, is)
-lives_behind dead place (Compute by to a b) r is = (place + 1, refl, is)
-lives_behind dead place (Load to w i) r is = (place + 1, refl, is)
-lives_behind dead place (Store w i v) r is = (place + 1, refl, is)
-lives_behind dead place (Cas to w i old new) r is = (place + 1, refl, is)
-lives_behind dead place (Lock l) r is = (place + 1, refl, is)
-lives_behind dead place (Unlock l) r is = (place + 1, refl, is)
-lives_behind dead place (Await w i v) r is = (place + 1, refl, is)
-lives_behind dead place (AwaitNot w i v) r is = (place + 1, refl, is)
-lives_behind dead place (Pick to count) r is = (place + 1, refl, is)
-lives_behind dead place (Jump target) r is = (target, refl, is)
-lives_behind dead place (JumpIfZero v target) r is =
+-- what is not dead after an instruction is not dead at some place to which the operation may go
+lives_after : (dead : ℕ → ℕ → Bool) (place : ℕ) (instr : Instr) (r : ℕ) → dead_after dead place instr r ≡ false → (next : ℕ) × GoesTo place instr next × (dead next r ≡ false)
+lives_after dead place (Set to v) r is = (place + 1, refl, is)
+lives_after dead place (Compute by to a b) r is = (place + 1, refl, is)
+lives_after dead place (Load to w i) r is = (place + 1, refl, is)
+lives_after dead place (Store w i v) r is = (place + 1, refl, is)
+lives_after dead place (Cas to w i old new) r is = (place + 1, refl, is)
+lives_after dead place (Lock l) r is = (place + 1, refl, is)
+lives_after dead place (Unlock l) r is = (place + 1, refl, is)
+lives_after dead place (Await w i v) r is = (place + 1, refl, is)
+lives_after dead place (AwaitNot w i v) r is = (place + 1, refl, is)
+lives_after dead place (Pick to count) r is = (place + 1, refl, is)
+lives_after dead place (Jump target) r is = (target, refl, is)
+lives_after dead place (JumpIfZero v target) r is =
     elim (and_cases (dead target r) (dead (place + 1) r) is) as (λ _. (next : ℕ) × GoesTo place (JumpIfZero v target) next × (dead next r ≡ false)) [
       | inl jumps ↦ (target, inl refl, jumps)
       | inr on ↦ (place + 1, inr refl, on)
     ]
-lives_behind dead place (Return v) r is = absurd (true≢false is)
+lives_after dead place (Return v) r is = absurd (true≢false is)
 
 or_false : (x y : Bool) → (x || y) ≡ false → (x ≡ false) × (y ≡ false)
 or_false false y is = (refl, is)
 or_false true y is = absurd (true≢false is)
 
--- what is read, or neither written nor dead behind, is live
-live_at : (c : Declarations) (op place r : ℕ) (instr : Instr) (places : List (List Bool)) → IsComponent c → AreLive c op places → instr_at c op place ≡ Some instr → r < 8 → dead_before (dead_at places) place instr r ≡ false → IsLive c op place r
+-- what is read, or neither written nor dead after, is live
+live_at : (c : Component) (op place r : ℕ) (instr : Instr) (places : List (List Bool)) → IsComponent c → AreLive c op places → instr_at c op place ≡ Some instr → r < 8 → dead_before (dead_at places) place instr r ≡ false → IsLive c op place r
 live_at c op place r instr places is live at few said =
     elim (cases_Bool (reads instr r)) as (λ _. IsLive c op place r) [
       | inl read ↦ ([], (instr, at, read))
       | inr unread ↦
-          (let kept : (writes instr r || dead_behind (dead_at places) place instr r) ≡ false = rw unread at said in
-          let parts = or_false (writes instr r) (dead_behind (dead_at places) place instr r) kept in
-          let behind = lives_behind (dead_at places) place instr r parts.1 in
+          (let kept : (writes instr r || dead_after (dead_at places) place instr r) ≡ false = rw unread at said in
+          let parts = or_false (writes instr r) (dead_after (dead_at places) place instr r) kept in
+          let behind = lives_after (dead_at places) place instr r parts.1 in
           let there = next_there c op place behind.0 instr is at behind.1 in
           let on = live behind.0 r there.0 there.1 few behind.2 in
           (behind.0 ∷ on.0, (instr, at, parts.0, behind.1, on.1)))
@@ -222,7 +222,7 @@ places_more code a b i at x y within is round before here none place from =
       | inr ge ↦ subst (λ z. AreDeadAt code z place) (sym (round.same parts.1)) (before parts.0 place (omega (arith, ge)))
     ]
 
--- and behind the end of the code there is none
+-- and after the end of the code there is none
 pub places_none_yet : (code : List Instr) (places : List (List Bool)) (place : ℕ) → length code ≤ place + 0 → AreDeadAt code places place
 places_none_yet code places place past instr r at is =
     let within = slice_get_within code place instr at in
@@ -245,11 +245,11 @@ all_within code place r is =
 -- ---- tables
 
 -- what is said to be dead of an operation is one of its eight registers at a place of its code
-abbrev pub IsWithinOp : Declarations → ℕ → List (List Bool) → Type 0
+abbrev pub IsWithinOp : Component → ℕ → List (List Bool) → Type 0
 IsWithinOp c op places =
     (place r : ℕ) → dead_at places place r ≡ true → ((instr : Instr) × (instr_at c op place ≡ Some instr)) × (r < 8)
 
-pub within_op : (c : Declarations) (op : ℕ) (code : List Instr) (places : List (List Bool)) → ((place : ℕ) → instr_at c op place ≡ slice_get code place) → AreWithin code places → IsWithinOp c op places
+pub within_op : (c : Component) (op : ℕ) (code : List Instr) (places : List (List Bool)) → ((place : ℕ) → instr_at c op place ≡ slice_get code place) → AreWithin code places → IsWithinOp c op places
 within_op c op code places of within place r is =
     let both = within place r is in
     let there = some_in code place both.0 in
@@ -260,10 +260,10 @@ within_op c op code places of within place r is =
     some_in (x ∷ xs) zero lt = (x, refl)
     some_in (x ∷ xs) (suc i) lt = some_in xs i (omega (arith, lt))
 
-pub within_none : (c : Declarations) (op : ℕ) → IsWithinOp c op []
+pub within_none : (c : Component) (op : ℕ) → IsWithinOp c op []
 within_none c op place r is = absurd (both_ways (dead_at [] place r) refl is)
 
-pub within_push : (c : Declarations) (table : List (List (List Bool))) (op : ℕ) (places : List (List Bool)) → op ≡ length table → IsWithinOp c op places → ((o : ℕ) → IsWithinOp c o (get_or table o [])) → (o : ℕ) → IsWithinOp c o (get_or (table ++ places ∷ []) o [])
+pub within_push : (c : Component) (table : List (List (List Bool))) (op : ℕ) (places : List (List Bool)) → op ≡ length table → IsWithinOp c op places → ((o : ℕ) → IsWithinOp c o (get_or table o [])) → (o : ℕ) → IsWithinOp c o (get_or (table ++ places ∷ []) o [])
 within_push c table op places many here before o =
     elim (cases_lt o (length table)) as (λ _. IsWithinOp c o (get_or (table ++ places ∷ []) o [])) [
       | inl lt ↦ subst (IsWithinOp c o) (sym (get_or_append_left table (places ∷ []) [] o lt)) (before o)
@@ -278,7 +278,7 @@ within_push c table op places many here before o =
     ]
 
 -- an operation more, in whose code what is not said to be dead is live
-pub live_push : (c : Declarations) (table : List (List (List Bool))) (op : ℕ) (places : List (List Bool)) → op ≡ length table → AreLive c op places → ((o : ℕ) → o < length table → AreLive c o (get_or table o [])) → (o : ℕ) → o < length (table ++ places ∷ []) → AreLive c o (get_or (table ++ places ∷ []) o [])
+pub live_push : (c : Component) (table : List (List (List Bool))) (op : ℕ) (places : List (List Bool)) → op ≡ length table → AreLive c op places → ((o : ℕ) → o < length table → AreLive c o (get_or table o [])) → (o : ℕ) → o < length (table ++ places ∷ []) → AreLive c o (get_or (table ++ places ∷ []) o [])
 live_push c table op places many live before o less =
     elim (cases_lt o (length table)) as (λ _. AreLive c o (get_or (table ++ places ∷ []) o [])) [
       | inl lt ↦ subst (AreLive c o) (sym (get_or_append_left table (places ∷ []) [] o lt)) (before o lt)
@@ -288,27 +288,27 @@ live_push c table op places many live before o less =
           subst (AreLive c o) (sym now) (subst (λ x. AreLive c x places) (sym same) live))
     ]
 
-op_within : (c : Declarations) (op place : ℕ) (instr : Instr) (o : Option Op) → slice_get c.operations op ≡ o → instr_at c op place ≡ Some instr → op < length c.operations
+op_within : (c : Component) (op place : ℕ) (instr : Instr) (o : Option Op) → slice_get c.operations op ≡ o → instr_at c op place ≡ Some instr → op < length c.operations
 unfolding instr_at
 op_within c op place instr None is at = (let at' = rw is at at in absurd (cc))
 op_within c op place instr (Some o) is at = slice_get_within c.operations op o is
 
 -- what the table does not say to be dead, of the eight registers at a place in the code, is live
-abbrev pub LiveAll : Declarations → List (List (List Bool)) → Type 0
+abbrev pub LiveAll : Component → List (List (List Bool)) → Type 0
 LiveAll c table =
     (op place r : ℕ) (instr : Instr) → instr_at c op place ≡ Some instr → r < 8
     → is_dead table op place r ≡ false → IsLive c op place r
 
 -- of all operations
-pub live_all : (c : Declarations) (table : List (List (List Bool))) → length c.operations ≤ length table → ((o : ℕ) → o < length table → AreLive c o (get_or table o [])) → LiveAll c table
+pub live_all : (c : Component) (table : List (List (List Bool))) → length c.operations ≤ length table → ((o : ℕ) → o < length table → AreLive c o (get_or table o [])) → LiveAll c table
 live_all c table all live op place r instr at few said =
     let within = op_within c op place instr (slice_get c.operations op) refl at in
     live op (omega (arith, within, all)) place r instr at few said
 
 -- ---- what is said to be dead is not live
 
--- what is dead behind an instruction is dead wherever the operation may go
-dead_where : (dead : ℕ → ℕ → Bool) (place : ℕ) (instr : Instr) (r next : ℕ) → dead_behind dead place instr r ≡ true → GoesTo place instr next → dead next r ≡ true
+-- what is dead after an instruction is dead wherever the operation may go
+dead_where : (dead : ℕ → ℕ → Bool) (place : ℕ) (instr : Instr) (r next : ℕ) → dead_after dead place instr r ≡ true → GoesTo place instr next → dead next r ≡ true
 dead_where dead place (Set to v) r next is goes = rw goes is
 dead_where dead place (Compute by to a b) r next is goes = rw goes is
 dead_where dead place (Load to w i) r next is goes = rw goes is
@@ -328,22 +328,22 @@ dead_where dead place (JumpIfZero v target) r next is goes =
     ]
 dead_where dead place (Return v) r next is goes = absurd goes
 
-unread_along : (c : Declarations) (table : List (List (List Bool))) (op r : ℕ) → IsDeadTable c table → (way : List ℕ) (place : ℕ) → is_dead table op place r ≡ true → IsReadAlong c op r place way → ⊥
+unread_along : (c : Component) (table : List (List (List Bool))) (op r : ℕ) → IsDeadTable c table → (way : List ℕ) (place : ℕ) → is_dead table op place r ≡ true → IsReadAlong c op r place way → ⊥
 unread_along c table op r dead [] place is (instr, at, read) =
     let said = dead op place instr r at is in
-    let parts = and_parts (not (reads instr r)) (writes instr r || dead_behind (is_dead table op) place instr r) said in
+    let parts = and_parts (not (reads instr r)) (writes instr r || dead_after (is_dead table op) place instr r) said in
     both_ways (reads instr r) (not-true (reads instr r) parts.0) read
 unread_along c table op r dead (next ∷ way) place is (instr, at, kept, goes, along) =
     let said = dead op place instr r at is in
-    let parts = and_parts (not (reads instr r)) (writes instr r || dead_behind (is_dead table op) place instr r) said in
-    let behind : dead_behind (is_dead table op) place instr r ≡ true = rw kept at parts.1 in
+    let parts = and_parts (not (reads instr r)) (writes instr r || dead_after (is_dead table op) place instr r) said in
+    let behind : dead_after (is_dead table op) place instr r ≡ true = rw kept at parts.1 in
     unread_along c table op r dead way next (dead_where (is_dead table op) place instr r next behind goes) along
 
-pub dead_is_not_live : (c : Declarations) (table : List (List (List Bool))) (op place r : ℕ) → IsDeadTable c table → is_dead table op place r ≡ true → IsLive c op place r → ⊥
+pub dead_is_not_live : (c : Component) (table : List (List (List Bool))) (op place r : ℕ) → IsDeadTable c table → is_dead table op place r ≡ true → IsLive c op place r → ⊥
 dead_is_not_live c table op place r dead is live = unread_along c table op r dead live.0 place is live.1
 
 -- so the table says of each register whether it is dead
-pub tells_dead : (c : Declarations) (table : List (List (List Bool))) → IsDeadTable c table → LiveAll c table → ((op : ℕ) → IsWithinOp c op (get_or table op [])) → TellsDead c table
+pub tells_dead : (c : Component) (table : List (List (List Bool))) → IsDeadTable c table → LiveAll c table → ((op : ℕ) → IsWithinOp c op (get_or table op [])) → TellsDead c table
 tells_dead c table dead live within op place r = (
   λ is. record {
     there = (within op place r is).0;

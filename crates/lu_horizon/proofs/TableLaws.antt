@@ -4,7 +4,7 @@ use Rattle.std.proofs.lemmas.Bool.{cases_eq, cases_lt}
 use Rattle.std.specs.Option.{option_map}
 use Rattle.std.proofs.lemmas.List.{get_or-set_same, get_or-set_other}
 use Rattle.std.proofs.lemmas.Option.{same_Some}
-use Rattle.lu_component.specs.Component.{Declarations}
+use Rattle.lu_component.specs.Component.{Component}
 use Rattle.lu_test.specs.Matrix.{Matrix}
 use Rattle.lu_machine.specs.declared.thread.Activity.{Activity}
 use Rattle.lu_machine.specs.declared.thread.Activity.TheVariants.{Idle, Open}
@@ -19,7 +19,7 @@ use Rattle.lu_horizon.specs.Own.{IsOpenAt, IsIdle, IsOwn}
 use Rattle.lu_horizon.specs.declared.outlook.Outlook.{Outlook}
 use Rattle.lu_horizon.specs.Outlooks.{IsWeaker, no_move, nothing_known, one_before}
 use Rattle.lu_horizon.specs.Sure.{HasOutlook}
-use Rattle.lu_horizon.specs.Tables.{AreOutlooksOfCalls, AreOfCall, ArePlaces, IsTable, IsThread, Outlooks, no_outlooks, outlook_before, outlook_within}
+use Rattle.lu_horizon.specs.Tables.{AreOutlooksOfCalls, AreOfCall, ArePlaces, IsTable, IsThread, ThreadOutlooks, no_outlooks, outlook_before, outlook_within}
 use Rattle.lu_horizon.proofs.JumpLaws.{jump_before}
 use Rattle.lu_horizon.proofs.CodeLaws.{idle_over}
 use Rattle.lu_horizon.proofs.SureLaws.{nothing_ahead, outlook_less}
@@ -30,11 +30,11 @@ get_or_nothings (suc n) zero = refl
 get_or_nothings (suc n) (suc place) = get_or_nothings n place
 
 -- nothing is known
-pub places_none : (c : Declarations) (matrix : Matrix) (t k n : ℕ) → ArePlaces c matrix t k (replicate n nothing_known)
+pub places_none : (c : Component) (matrix : Matrix) (t k n : ℕ) → ArePlaces c matrix t k (replicate n nothing_known)
 places_none c matrix t k n place s a = rw (get_or_nothings n place) (nothing_ahead s t)
 
 -- one place more
-pub places_set : (c : Declarations) (matrix : Matrix) (t k : ℕ) (places : List Outlook) (place : ℕ) (o : Outlook) → place < length places → ((s : State) → IsOpenAt c matrix t k place s → HasOutlook s t o) → ArePlaces c matrix t k places → ArePlaces c matrix t k (slice_set places place o)
+pub places_set : (c : Component) (matrix : Matrix) (t k : ℕ) (places : List Outlook) (place : ℕ) (o : Outlook) → place < length places → ((s : State) → IsOpenAt c matrix t k place s → HasOutlook s t o) → ArePlaces c matrix t k places → ArePlaces c matrix t k (slice_set places place o)
 places_set c matrix t k places place o within ahead old q s a =
     elim (cases_eq q place) [
       | inl same ↦ (let e : get_or (slice_set places place o) q nothing_known ≡ o = rw same (get_or-set_same places place o nothing_known within) in rw e (ahead s (rw same at a)))
@@ -42,7 +42,7 @@ places_set c matrix t k places place o within ahead old q s a =
     ]
 
 -- call number i of those from k on
-pub calls_at : (c : Declarations) (matrix : Matrix) (t k i : ℕ) (calls : Outlooks) → AreOutlooksOfCalls c matrix t k calls → AreOfCall c matrix t (k + i) (get_or calls i no_outlooks)
+pub calls_at : (c : Component) (matrix : Matrix) (t k i : ℕ) (calls : ThreadOutlooks) → AreOutlooksOfCalls c matrix t k calls → AreOfCall c matrix t (k + i) (get_or calls i no_outlooks)
 calls_at c matrix t k i [] are = record { before = λ s idle. nothing_ahead s t; places = λ place s a. nothing_ahead s t }
 calls_at c matrix t k zero (first ∷ calls) are =
     let e : k + 0 ≡ k = omega arith in
@@ -90,7 +90,7 @@ stands_open (Some thread) stand place is at = by_activity thread.activity refl
         let second : record { done = thread.done; activity = Open f } ≡ record { done = stand.done; activity = Open f } = ap (λ (x : ℕ). let y : Thread = record { done = x; activity = Open f } in y) d in
         (f, ap Some (first ∙ second), same_Some f.place place q))
 
-module _ (c : Declarations) (matrix : Matrix) (s : State) (t : ℕ) (calls : Outlooks) (thread : IsThread c matrix t calls) (own : IsOwn c matrix s) (stand : CallPlace) (stands : option_map stand_of (slice_get s.threads t) ≡ Some stand) where
+module _ (c : Component) (matrix : Matrix) (s : State) (t : ℕ) (calls : ThreadOutlooks) (thread : IsThread c matrix t calls) (own : IsOwn c matrix s) (stand : CallPlace) (stands : option_map stand_of (slice_get s.threads t) ≡ Some stand) where
   outlooks : (k : ℕ) → AreOfCall c matrix t k (get_or calls k no_outlooks)
   outlooks k =
       let e : 0 + k ≡ k = omega arith in
@@ -132,10 +132,10 @@ slice_get_push (x ∷ xs) y zero m h = inl h
 slice_get_push (x ∷ xs) y (suc k) m h =
     elim (slice_get_push xs y k m h) [ inl a ↦ inl a | inr a ↦ inr (ap suc a.0, a.1) ]
 
-pub table_none : (c : Declarations) (matrix : Matrix) → IsTable c matrix []
+pub table_none : (c : Component) (matrix : Matrix) → IsTable c matrix []
 table_none c matrix t calls at = absurd (cc)
 
-pub table_push : (c : Declarations) (matrix : Matrix) (table : List Outlooks) (t : ℕ) (calls : Outlooks) → t ≡ length table → IsThread c matrix t calls → IsTable c matrix table → IsTable c matrix (table ++ calls ∷ [])
+pub table_push : (c : Component) (matrix : Matrix) (table : List ThreadOutlooks) (t : ℕ) (calls : ThreadOutlooks) → t ≡ length table → IsThread c matrix t calls → IsTable c matrix table → IsTable c matrix (table ++ calls ∷ [])
 table_push c matrix table t calls is thread old j other at =
     elim (slice_get_push table calls j other at) [
       | inl a ↦ old j other a

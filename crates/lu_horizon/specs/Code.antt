@@ -1,28 +1,28 @@
--- What is ahead at an instruction, from what is ahead behind it.
+-- What is ahead at an instruction, from what is ahead after it.
 use Rattle.std.specs.Prelude.{ℕ, ◌+◌, ◌-◌, zero, suc, Bool, false, if◌then◌else◌, List, is_some, slice_get}
 use Rattle.std.specs.Option.{option_map_or}
 use Rattle.lu_component.specs.declared.instr.Instr.{Instr}
 use Rattle.lu_component.specs.declared.instr.Instr.TheVariants.{Set, Compute, Load, Store, Cas, Lock, Unlock, Await, AwaitNot, Pick, Jump, JumpIfZero, Return}
 use Rattle.lu_component.specs.declared.instr.Operand.{Operand}
 use Rattle.lu_component.specs.declared.instr.Operand.TheVariants.{Reg, Num}
-use Rattle.lu_component.specs.Component.{Declarations}
+use Rattle.lu_component.specs.Component.{Component}
 use Rattle.lu_machine.specs.States.{cell_of}
 use Rattle.lu_machine.specs.Steps.{is_local}
 use Rattle.lu_horizon.specs.declared.outlook.Outlook.{Outlook}
 use Rattle.lu_horizon.specs.Outlooks.{either, nothing_known, one_before}
 
 -- the index is that of a cell of array w, whatever the registers hold
-abbrev pub is_certain_cell : Declarations → ℕ → Operand → Bool
+abbrev pub is_certain_cell : Component → ℕ → Operand → Bool
 is_certain_cell c w (Reg r) = false
 is_certain_cell c w (Num n) = is_some (cell_of c w n)
 
--- behind an instruction that may trap, unless its cell is there
+-- after an instruction that may trap, unless its cell is there
 abbrev pub unless_there : Bool → Outlook → Outlook → Outlook
 unless_there there next rest = if there then next else either next rest
 
 -- the outlook at this instruction and place, where `on` has what is ahead of a thread that comes to
 -- a place within its move, and `rest` is that once the operation has ended
-abbrev pub outlook_at : Declarations → (ℕ → Outlook) → Outlook → ℕ → Instr → Outlook
+abbrev pub outlook_at : Component → (ℕ → Outlook) → Outlook → ℕ → Instr → Outlook
 outlook_at c on rest place (Set to v) = one_before (on (place + 1))
 outlook_at c on rest place (Compute by to a b) = one_before (on (place + 1))
 outlook_at c on rest place (Load to w i) =
@@ -41,7 +41,7 @@ outlook_at c on rest place (JumpIfZero v target) =
     one_before (either (on target) (on (place + 1)))
 outlook_at c on rest place (Return v) = one_before rest
 
--- the outlook behind a local instruction at this place
+-- the outlook after a local instruction at this place
 abbrev pub behind_local : (ℕ → Outlook) → ℕ → Instr → Outlook
 behind_local on place (Jump target) = on target
 behind_local on place (JumpIfZero v target) = either (on target) (on (place + 1))
@@ -57,14 +57,14 @@ run_on code known (suc n) place =
     (slice_get code place) (known place)
 
 -- how many local instructions may follow this one, where a move begins with it
-abbrev pub more_behind : Declarations → Instr → ℕ
-more_behind c instr = c.local - (if is_local instr then 1 else 0)
+abbrev pub more_after : Component → Instr → ℕ
+more_after c instr = c.local - (if is_local instr then 1 else 0)
 
 -- what is ahead of a move that begins with this instruction of the code, at this place
-abbrev pub ahead_at : Declarations → List Instr → (ℕ → Outlook) → Outlook → ℕ → Instr → Outlook
+abbrev pub ahead_at : Component → List Instr → (ℕ → Outlook) → Outlook → ℕ → Instr → Outlook
 ahead_at c code known rest place instr =
-    outlook_at c (run_on code known (more_behind c instr)) rest place instr
+    outlook_at c (run_on code known (more_after c instr)) rest place instr
 
 -- what is ahead of a move that opens a call of this code
-abbrev pub ahead_of_call : Declarations → List Instr → (ℕ → Outlook) → Outlook
+abbrev pub ahead_of_call : Component → List Instr → (ℕ → Outlook) → Outlook
 ahead_of_call c code known = one_before (run_on code known c.local 0)

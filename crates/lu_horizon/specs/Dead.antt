@@ -1,7 +1,7 @@
 -- Registers that don't matter any more: whichever way an operation goes on, they are written before
 -- they are read again, or not read again.
 use Rattle.std.specs.Prelude.{◌≡◌, ◌↔◌, ℕ, ◌+◌, ◌<◌, ◌==◌, ◌&&◌, ◌||◌, ◌⊎◌, not, Bool, true, false, List, [], ◌∷◌, Some, slice_get, get_or}
-use Rattle.lu_component.specs.Component.{Declarations}
+use Rattle.lu_component.specs.Component.{Component}
 use Rattle.lu_component.specs.declared.instr.Instr.{Instr}
 use Rattle.lu_component.specs.declared.instr.Instr.TheVariants.{Set, Compute, Load, Store, Cas, Await, AwaitNot, Pick, Jump, JumpIfZero, Return}
 use Rattle.lu_component.specs.declared.instr.Operand.{Operand}
@@ -47,7 +47,7 @@ GoesTo place _ next = next ≡ place + 1
 
 -- Register r is read at the last place of this way through the code of an operation, which begins
 -- at the first, and is written at no place before it.
-abbrev pub IsReadAlong : Declarations → ℕ → ℕ → ℕ → List ℕ → Type 0
+abbrev pub IsReadAlong : Component → ℕ → ℕ → ℕ → List ℕ → Type 0
 IsReadAlong c op r place [] =
     (instr : Instr) × (instr_at c op place ≡ Some instr) × (reads instr r ≡ true)
 IsReadAlong c op r place (next ∷ way) =
@@ -56,12 +56,12 @@ IsReadAlong c op r place (next ∷ way) =
 
 -- Register r is live at the place: along some way from there it is read before it is written (Aho,
 -- Sethi and Ullman, 1986).
-abbrev pub IsLive : Declarations → ℕ → ℕ → ℕ → Type 0
+abbrev pub IsLive : Component → ℕ → ℕ → ℕ → Type 0
 IsLive c op place r = (way : List ℕ) × IsReadAlong c op r place way
 
 -- It is dead at a place in the operation's code, where it is one of the eight registers, and not
 -- live.
-pub record IsDead (c : Declarations) (op place r : ℕ) : Type 0 where
+pub record IsDead (c : Component) (op place r : ℕ) : Type 0 where
   pub there : (instr : Instr) × (instr_at c op place ≡ Some instr)
   pub register : r < 8
   pub unread : IsLive c op place r → ⊥
@@ -70,16 +70,16 @@ pub record IsDead (c : Declarations) (op place r : ℕ) : Type 0 where
 
 -- whether register r is dead wherever the operation may go from the instruction at this place,
 -- where `dead` tells so of each place
-abbrev pub dead_behind : (ℕ → ℕ → Bool) → ℕ → Instr → ℕ → Bool
-dead_behind dead place (Jump target) r = dead target r
-dead_behind dead place (JumpIfZero v target) r = dead target r && dead (place + 1) r
-dead_behind dead place (Return v) r = true
-dead_behind dead place _ r = dead (place + 1) r
+abbrev pub dead_after : (ℕ → ℕ → Bool) → ℕ → Instr → ℕ → Bool
+dead_after dead place (Jump target) r = dead target r
+dead_after dead place (JumpIfZero v target) r = dead target r && dead (place + 1) r
+dead_after dead place (Return v) r = true
+dead_after dead place _ r = dead (place + 1) r
 
--- register r is not read there, and is written, or dead behind
+-- register r is not read there, and is written, or dead after
 abbrev pub dead_before : (ℕ → ℕ → Bool) → ℕ → Instr → ℕ → Bool
 dead_before dead place instr r =
-    not (reads instr r) && (writes instr r || dead_behind dead place instr r)
+    not (reads instr r) && (writes instr r || dead_after dead place instr r)
 
 -- of each operation, each place of its code, and each register, whether it is dead there
 abbrev pub DeadTable : Type 0
@@ -103,12 +103,12 @@ AreDead code places = (place : ℕ) → AreDeadAt code places place
 abbrev pub is_dead : DeadTable → ℕ → ℕ → ℕ → Bool
 is_dead table op = dead_at (get_or table op [])
 
-abbrev pub IsDeadTable : Declarations → DeadTable → Type 0
+abbrev pub IsDeadTable : Component → DeadTable → Type 0
 IsDeadTable c table =
     (op place : ℕ) (instr : Instr) (r : ℕ) → instr_at c op place ≡ Some instr
     → is_dead table op place r ≡ true → dead_before (is_dead table op) place instr r ≡ true
 
 -- the table says of each register at each place whether it is dead
-abbrev pub TellsDead : Declarations → DeadTable → Type 0
+abbrev pub TellsDead : Component → DeadTable → Type 0
 TellsDead c table =
     (op place r : ℕ) → is_dead table op place r ≡ true ↔ IsDead c op place r

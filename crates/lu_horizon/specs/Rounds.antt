@@ -1,7 +1,7 @@
 -- How less and less is said to be dead, until all that is said is so.
 use Rattle.std.specs.Prelude.{◌≡◌, ℕ, ◌<◌, Bool, true, false, List, [], Some, get_or, length, set, slice_get, sum_by}
 use Rattle.std.specs.List.{count_by}
-use Rattle.lu_component.specs.Component.{Declarations, IsComponent}
+use Rattle.lu_component.specs.Component.{Component, IsComponent}
 use Rattle.lu_component.specs.declared.instr.Instr.{Instr}
 use Rattle.lu_machine.specs.States.{instr_at}
 use Rattle.lu_horizon.specs.Tables.{IsCodeOf}
@@ -12,7 +12,7 @@ abbrev pub dead_count : List (List Bool) → ℕ
 dead_count places = sum_by (count_by (λ dead. dead)) places
 
 -- what is not said to be dead, of the eight registers at a place in the operation's code, is live
-abbrev pub AreLive : Declarations → ℕ → List (List Bool) → Type 0
+abbrev pub AreLive : Component → ℕ → List (List Bool) → Type 0
 AreLive c op places =
     (place r : ℕ) (instr : Instr) → instr_at c op place ≡ Some instr → r < 8
     → dead_at places place r ≡ false → IsLive c op place r
@@ -20,7 +20,7 @@ AreLive c op places =
 -- so it is in each operation that runs this code
 abbrev pub AreLiveIn : List Instr → List (List Bool) → Type 0
 AreLiveIn code places =
-    (c : Declarations) (op : ℕ) → IsComponent c → IsCodeOf c op code → AreLive c op places
+    (c : Component) (op : ℕ) → IsComponent c → IsCodeOf c op code → AreLive c op places
 
 -- the same, but that register r is not said to be dead at this place
 abbrev pub with_live : List (List Bool) → ℕ → ℕ → List (List Bool)

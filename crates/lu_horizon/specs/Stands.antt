@@ -1,7 +1,7 @@
 -- Where a thread stands among its calls.
 use Rattle.std.specs.Prelude.{◌≡◌, ◌+◌, ◌==◌, if◌then◌else◌, ℕ, Bool, true, false, Option, Some, None, slice_get}
 use Rattle.std.specs.Option.{option_map_or}
-use Rattle.lu_component.specs.Component.{Declarations}
+use Rattle.lu_component.specs.Component.{Component}
 use Rattle.lu_component.specs.declared.instr.Instr.{Instr}
 use Rattle.lu_component.specs.declared.instr.Instr.TheVariants.{Set, Compute, Load, Jump, JumpIfZero, Return}
 use Rattle.lu_component.specs.declared.instr.Operand.{Operand}
@@ -30,7 +30,7 @@ is_unseen (JumpIfZero v target) = true
 is_unseen (Return v) = true
 is_unseen _ = false
 
-abbrev pub activity_unseen : Declarations → Activity → Bool
+abbrev pub activity_unseen : Component → Activity → Bool
 activity_unseen c Idle = false
 activity_unseen c (Open f) = option_map_or is_unseen (instr_at c f.op f.place) false
 
@@ -46,7 +46,7 @@ abbrev pub only_reads : Instr → Bool
 only_reads (Load to w i) = true
 only_reads instr = is_unseen instr
 
-abbrev pub activity_only_reads : Declarations → Activity → Bool
+abbrev pub activity_only_reads : Component → Activity → Bool
 activity_only_reads c Idle = false
 activity_only_reads c (Open f) = option_map_or only_reads (instr_at c f.op f.place) false
 

@@ -1,7 +1,7 @@
 //! What is ahead at one operation's places.
 
 ghost use Rattle.std.specs.Prelude.{◌≡◌, ◌<◌};
-ghost use Rattle.lu_horizon.specs.Code.{ahead_of_call, is_certain_cell, more_behind, run_on, unless_there};
+ghost use Rattle.lu_horizon.specs.Code.{ahead_of_call, is_certain_cell, more_after, run_on, unless_there};
 ghost use Rattle.lu_horizon.specs.Outlooks.{IsWeaker};
 ghost use Rattle.lu_horizon.specs.Tables.{ahead_from, outlook_of};
 
@@ -9,7 +9,7 @@ use crate::outlook::Outlook;
 use lu_component::{Component, Instr, Operand};
 use lu_machine::is_local;
 
-/// How many `jz`, one behind the other, are looked at both ways where a thread runs on. Each
+/// How many `jz`, one after the other, are looked at both ways where a thread runs on. Each
 /// doubles the work.
 const BRANCHES: u8 = 4;
 
@@ -31,7 +31,7 @@ pub(crate) fn outlook_of(known: &[Outlook], place: usize) -> Outlook
     known.get(place).copied().unwrap_or(Outlook::NOTHING)
 }
 
-/// The outlook behind an instruction that traps unless its cell is there.
+/// The outlook after an instruction that traps unless its cell is there.
 fn behind(component: &Component, array: u8, index: Operand, next: Outlook, rest: Outlook) -> Outlook
     ensures { result ≡ unless_there (is_certain_cell component.now array index) next rest }
 {
@@ -44,7 +44,7 @@ fn behind(component: &Component, array: u8, index: Operand, next: Outlook, rest:
 
 /// What is ahead of a thread that runs on from this place by at most `most` local instructions,
 /// from what is known of moves that begin at a place: no more than that, and nothing where a `jz`
-/// comes behind `branches` others.
+/// comes after `branches` others.
 pub(crate) fn run_on(
     code: &[Instr],
     known: &[Outlook],
@@ -76,8 +76,8 @@ pub(crate) fn run_on(
 }
 
 /// How many local instructions may follow this one, where a move begins with it.
-fn more_behind(component: &Component, instr: &Instr) -> u8
-    ensures { result ≡ more_behind component.now instr.now }
+fn more_after(component: &Component, instr: &Instr) -> u8
+    ensures { result ≡ more_after component.now instr.now }
 {
     if is_local(instr) {
         component.local().saturating_sub(1)
@@ -99,7 +99,7 @@ pub(crate) fn certain(
     requires { place < 64 }
     ensures { IsWeaker result (ahead_from component.now code.now known.now rest place instr.now) }
 {
-    let most = more_behind(component, instr);
+    let most = more_after(component, instr);
     let next = run_on(code, known, most, BRANCHES, place + 1);
     let behind = match *instr {
         Instr::Set { .. } | Instr::Compute { .. } => next,

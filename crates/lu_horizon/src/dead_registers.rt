@@ -86,9 +86,9 @@ fn dead_at(known: &[Dead], place: usize, register: u8) -> bool
 }
 
 /// Whether the register is said to be dead wherever the operation may go from the instruction.
-fn dead_behind(instr: &Instr, place: usize, register: u8, known: &[Dead]) -> bool
+fn dead_after(instr: &Instr, place: usize, register: u8, known: &[Dead]) -> bool
     requires { place < 64 }
-    ensures { result ≡ spec.dead_behind (spec.dead_at known.now) place instr.now register }
+    ensures { result ≡ spec.dead_after (spec.dead_at known.now) place instr.now register }
 {
     match *instr {
         Instr::Jump(target) => dead_at(known, usize::from(target), register),
@@ -100,13 +100,13 @@ fn dead_behind(instr: &Instr, place: usize, register: u8, known: &[Dead]) -> boo
     }
 }
 
-/// Whether the register is not read by the instruction, and is written, or dead behind it.
+/// Whether the register is not read by the instruction, and is written, or dead after it.
 fn dead_before(instr: &Instr, place: usize, register: u8, known: &[Dead]) -> bool
     requires { place < 64 }
     ensures { result ≡ spec.dead_before (spec.dead_at known.now) place instr.now register }
 {
     !reads(instr, register)
-        && (writes(instr, register) || dead_behind(instr, place, register, known))
+        && (writes(instr, register) || dead_after(instr, place, register, known))
 }
 
 /// Says no more that the register is dead at the place.
@@ -162,11 +162,11 @@ fn go_through(code: &[Instr], known: &mut Vec<Dead>) -> bool
 
 /// The dead registers at each place of one operation.
 #[derive(Debug, Drop)]
-struct Places {
+struct DeadInOperation {
     dead: Vec<Dead>,
 }
 
-impl Model for Places {
+impl Model for DeadInOperation {
     ghost use Rattle.std.specs.Prelude.{Bool, List};
 
     ghost Value = { List (List Bool) };
@@ -174,7 +174,7 @@ impl Model for Places {
     ghost view = { λ p. p.dead.items };
 }
 
-impl Places {
+impl DeadInOperation {
     /// Whether the register is dead at the place.
     fn is_dead(&self, place: u8, register: u8) -> bool
         ensures { result ≡ spec.dead_at self.now place register }
@@ -185,7 +185,7 @@ impl Places {
 
 /// The dead registers at each place of the code: all at first, and less with each round, until one
 /// finds all to be so.
-fn dead_in(alloc: Global, code: &[Instr]) -> Result<Places, AllocError>
+fn dead_in(alloc: Global, code: &[Instr]) -> Result<DeadInOperation, AllocError>
     requires { length code.now ≤ 64 }
     ensures sound { IfOk result (AreDead code.now) }
     ensures exact { IfOk result (AreLiveIn code.now) }
@@ -193,7 +193,7 @@ fn dead_in(alloc: Global, code: &[Instr]) -> Result<Places, AllocError>
 {
     let mut dead = vec![in alloc; [true; 8]; code.len()]?;
     while go_through(code, &mut dead) {}
-    Ok(Places { dead })
+    Ok(DeadInOperation { dead })
 }
 
 /// Of each operation of a component and each place of its code, the registers that are dead there:
@@ -201,7 +201,7 @@ fn dead_in(alloc: Global, code: &[Instr]) -> Result<Places, AllocError>
 /// again.
 #[derive(Debug, Drop)]
 pub struct DeadRegisters {
-    operations: Vec<Places>,
+    operations: Vec<DeadInOperation>,
 }
 
 impl Model for DeadRegisters {

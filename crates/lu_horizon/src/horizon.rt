@@ -18,7 +18,7 @@ use std::marker::Model;
 
 /// The outlooks of one call.
 #[derive(Debug, Drop)]
-struct Places {
+struct CallOutlooks {
     /// That before it is opened.
     before: Outlook,
 
@@ -29,7 +29,7 @@ struct Places {
     reaches: Vec<Reach>,
 }
 
-impl Model for Places {
+impl Model for CallOutlooks {
     ghost use Rattle.lu_horizon.specs.Tables.{CallOutlooks};
 
     ghost Value = { CallOutlooks };
@@ -37,7 +37,7 @@ impl Model for Places {
     ghost view = { λ p. record { before = p.before; places = p.outlooks.items } };
 }
 
-impl Places {
+impl CallOutlooks {
     /// The outlook before the call.
     fn before(&self) -> Outlook
         ensures { result ≡ self.now.before }
@@ -78,16 +78,16 @@ impl Places {
 /// The outlooks of all calls of one thread.
 #[derive(Debug, Drop)]
 struct ThreadOutlooks {
-    calls: Vec<Places>,
+    calls: Vec<CallOutlooks>,
 
     /// From which calls on the thread leaves alone what is shared.
     quiet: Quiet,
 }
 
 impl Model for ThreadOutlooks {
-    ghost use Rattle.lu_horizon.specs.Tables.{Outlooks};
+    ghost use Rattle.lu_horizon.specs.Tables.{ThreadOutlooks as AThreadOutlooks};
 
-    ghost Value = { Outlooks };
+    ghost Value = { AThreadOutlooks };
 
     ghost view = { λ n. n.calls.items };
 }
@@ -136,9 +136,9 @@ pub struct Horizon {
 
 impl Model for Horizon {
     ghost use Rattle.std.specs.Prelude.{List};
-    ghost use Rattle.lu_horizon.specs.Tables.{Outlooks};
+    ghost use Rattle.lu_horizon.specs.Tables.{ThreadOutlooks as AThreadOutlooks};
 
-    ghost Value = { List Outlooks };
+    ghost Value = { List AThreadOutlooks };
 
     ghost view = { λ h. h.threads.items };
 }
@@ -168,14 +168,14 @@ fn look(
 }
 
 /// The outlooks of a call that runs this code, at its places up to `most` moves, where there is
-/// `rest` behind it.
+/// `rest` after it.
 fn of_code(
     alloc: Global,
     component: &Component,
     code: &[Instr],
     rest: Outlook,
     most: u16,
-) -> Result<Places, AllocError>
+) -> Result<CallOutlooks, AllocError>
     requires { length code.now ≤ 64 }
     ensures { IfOk result (AreOutlooks component.now code.now rest) }
 {
@@ -186,7 +186,7 @@ fn of_code(
         }
     }
     let before = before_call(component, code, &outlooks);
-    Ok(Places {
+    Ok(CallOutlooks {
         before,
         outlooks,
         reaches: reaches(alloc, code)?,
@@ -309,7 +309,7 @@ impl Horizon {
 
     /// Who touches what is shared in all calls that are left, where a look at them may serve: where
     /// the walk begins, or no operation is open, and two threads have calls left. A look that fails
-    /// mostly fails behind the next move too, so it is not made at each node. No clause says so.
+    /// mostly fails after the next move too, so it is not made at each node. No clause says so.
     pub fn sharers(&self, machine: &Machine, begins: bool) -> Option<Sharers> {
         let mut known = SharersSeen::NOTHING;
         let mut callers: u8 = 0;

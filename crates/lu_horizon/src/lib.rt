@@ -4,7 +4,7 @@
 //! the other threads do: each of them is there, and leaves no choice. A move is a call or an
 //! instruction, and the local instructions that run with it. A [`Horizon`] has for each call of a
 //! matrix and each place of its operation such a number of moves, and whether the thread is over
-//! behind them. Where that many are left to a bound, or the thread is over, and all threads
+//! after them. Where that many are left to a bound, or the thread is over, and all threads
 //! together have more moves than are left, no schedule ends within the bound: [`Horizon::caps`]
 //! says how many moves each thread can make.
 #![tactic(auto)]

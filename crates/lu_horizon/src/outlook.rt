@@ -9,7 +9,7 @@ pub(crate) struct Outlook {
     /// So many moves are certain: each of them is there, and leaves no choice.
     pub(crate) moves: u16,
 
-    /// The thread has no move behind them.
+    /// The thread has no move after them.
     pub(crate) over: bool,
 }
 

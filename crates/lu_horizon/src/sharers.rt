@@ -62,7 +62,7 @@ impl Reach {
     }
 }
 
-/// What is known of a place: nothing is touched behind the code's end.
+/// What is known of a place: nothing is touched after the code's end.
 pub(crate) fn reach_at(known: &[Reach], place: usize) -> Reach {
     known.get(place).copied().unwrap_or(Reach::NONE)
 }

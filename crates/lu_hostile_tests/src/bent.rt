@@ -42,7 +42,7 @@ fn line_count(text: &[u8]) -> usize {
 }
 
 /// The text is read and comes back, or is refused on one of its lines, of which the first `sound`
-/// are as they were, or on the one behind it.
+/// are as they were, or on the one after it.
 fn try_text<K: Texts, X: AllocGlobal + Abort>(
     rt: &X,
     texts: &K,
@@ -62,7 +62,7 @@ fn try_text<K: Texts, X: AllocGlobal + Abort>(
 }
 
 /// Each beginning of the text, the empty one and the whole too: only the line that is cut may be
-/// wrong, or what is missing behind it.
+/// wrong, or what is missing after it.
 pub(crate) fn try_beginnings<K: Texts, X: AllocGlobal + Abort>(
     rt: &X,
     texts: &K,

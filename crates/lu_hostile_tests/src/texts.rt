@@ -169,7 +169,7 @@ const LOCAL: &[u8] =
     b"# two\n component  small\nlocal 16\n\nword x 1 0\t# a cell\nlock m\nop f 1\nagain: lock m\nset r1 4294967295\n\
 awaitne x r0 r1 # others\njz r0 again\nunlock m\nreturn r1\nend\n";
 
-/// The beginnings that are components are those behind each line of a declaration and of an `end`,
+/// The beginnings that are components are those after each line of a declaration and of an `end`,
 /// with its LF or without, and the whole.
 #[test]
 fn beginnings_of_a_component_are_read_or_refused(rt: HostRuntime) -> Result<(), Fail> {

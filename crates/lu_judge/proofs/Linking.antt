@@ -53,7 +53,7 @@ module _ (bs : List Beginning) (k : ℕ) (b c : Beginning) (is : slice_get bs k 
     | inr e ↦ right i x e.1 good
   ])
 
--- a beginning is added behind the others
+-- a beginning is added after the others
 module _ (bs : List Beginning) (b : Beginning) (back : IsBack (lines bs)) (lt : b.shorter < length bs) where
   more : lines bs ++ (b.shorter, b.event) ∷ [] ≡ lines (bs ++ b ∷ [])
   more = sym (lines_push bs b)

@@ -23,7 +23,7 @@ same_read ls back (suc m) zero (suc i) p q = absurd (omega arith)
 same_read ls back (suc m) (suc n) zero p q = refl
 same_read ls back (suc m) (suc n) (suc i) p q = same_extended (read_back m ls) (read_back n ls) (slice_get ls (suc i)) (λ line is. same_read ls back m n line.0 (omega (arith, back i line is)) (omega (arith, back i line is)))
 
--- lines behind the others change nothing
+-- lines after the others change nothing
 pub grown_read : (ls more : List Line) → IsBack ls → (n i : ℕ) → i < length ls → read_back n (ls ++ more) i ≡ read_back n ls i
 grown_read ls more back zero i lt = refl
 grown_read ls more back (suc n) zero lt = refl

@@ -87,6 +87,6 @@ NotesGood old new =
 abbrev pub IsBlank : Beginning → Type 0
 IsBlank b = (b.shorter ≡ 0) × (b.next ≡ 0) × (b.longer ≡ 0) × (IsTrue b.good → ⊥)
 
--- the beginning at the place is that of the path with the event behind it
+-- the beginning at the place is that of the path with the event after it
 abbrev pub IsLonger : Path → Event → ℕ → Type 0
 IsLonger path event place = slice_get (lines path.beginnings.items) place ≡ Some (path.place, event)

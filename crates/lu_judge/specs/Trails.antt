@@ -9,12 +9,12 @@ use Rattle.lu_judge.specs.declared.path.Path.{Path}
 use Rattle.lu_judge.specs.Paths.{IsPath, AreGoodAsMarked, history_of}
 
 -- the tree that judges, and the history
-pub record Trailed (T : Type 0) : Type 0 where
+pub record Trail (T : Type 0) : Type 0 where
   pub tree : T
   pub history : List Event
 
 -- this is the verdict of the trail's history over its tree
-abbrev pub IsJudgedAs : {T : Type 0} → (T → List (List SerialOp)) → Trailed T → Verdict → Type 0
+abbrev pub IsJudgedAs : {T : Type 0} → (T → List (List SerialOp)) → Trail T → Verdict → Type 0
 IsJudgedAs members trail v = IsVerdict (IsMember (members trail.tree)) trail.history v
 
 -- the history: its events alone, or a place among beginnings

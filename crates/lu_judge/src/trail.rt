@@ -43,9 +43,9 @@ pub struct Trail<'t, T: SerialTree> {
 }
 
 impl<'t, T: SerialTree> Model for Trail<'t, T> {
-    ghost use Rattle.lu_judge.specs.Trails.{Trailed, IsTrail, history_in};
+    ghost use Rattle.lu_judge.specs.Trails.{Trail as ATrail, IsTrail, history_in};
 
-    ghost Value = { Trailed T };
+    ghost Value = { ATrail T };
 
     ghost view = { λ a. record {
       tree = a.tree.now;
@@ -96,7 +96,7 @@ impl<'t, T: SerialTree> Trail<'t, T> {
     ///
     /// # Errors
     ///
-    /// Want of memory.
+    /// Memory was refused.
     pub fn new(alloc: Global, tree: &'t T) -> Result<Trail<'t, T>, AllocError>
         ensures tree { IfOk result (λ trail. trail.tree ≡ tree.entry.now) }
         ensures history { IfOk result (λ trail. trail.history ≡ []) }

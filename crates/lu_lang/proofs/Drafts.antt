@@ -21,8 +21,8 @@ use Rattle.lu_lang.specs.declared.draft.Statement.{Statement}
 use Rattle.lu_lang.specs.declared.draft.Statement.TheVariants.{Plain, Jump, JumpIfZero}
 use Rattle.lu_lang.specs.declared.fault.LangFaultKind.{LangFaultKind}
 use Rattle.lu_lang.specs.declared.fault.LangFaultKind.TheVariants.{Byte, Missing, Form, Number, Limit, Flow, Name}
-use Rattle.lu_component.specs.Component.{operation_place, AreDistinct, EndsWell, IsArray, IsComponent, IsInstr, IsOp}
-use Rattle.lu_lang.specs.Draft.{Begun, Drafted, nothing, named}
+use Rattle.lu_component.specs.Component.{operation_number, AreDistinct, EndsWell, IsArray, IsComponent, IsInstr, IsOp}
+use Rattle.lu_lang.specs.Draft.{OpenOp, ComponentDraft, nothing, named}
 use Rattle.lu_lang.specs.Grammar.{value, is_value, array_place, lock_place, component_line, local_line, array_line, lock_line, op_line, declaration, statement, sooner, place_fault, with_label, with_statement, placed, instr_line, labelled, are_there, is_last, ends_well, target, resolved, op_of, end_line, by_label, by_state, closed, by_words, line_of, label_in}
 use Rattle.lu_lang.specs.Words.{keyword_in}
 use Rattle.lu_lang.specs.Sound.{IsStatement, IsBegun, IsSoundDraft}
@@ -113,17 +113,17 @@ op_weaker a l a' l' x y op h = record {
 
 -- ---- declarations
 
-abbrev Keeps : Result Drafted LangFaultKind → Type 0
-Keeps r = (next : Drafted) → r ≡ Ok next → IsSoundDraft next
+abbrev Keeps : Result ComponentDraft LangFaultKind → Type 0
+Keeps r = (next : ComponentDraft) → r ≡ Ok next → IsSoundDraft next
 
 -- what holds of the draft that is said holds of the result
-kept : (tests : Tests LangFaultKind) (d : Drafted) → (NoneHold tests → IsSoundDraft d) → Keeps (says tests d)
+kept : (tests : Tests LangFaultKind) (d : ComponentDraft) → (NoneHold tests → IsSoundDraft d) → Keeps (says tests d)
 kept tests d h next e = let x = said tests d next e in subst IsSoundDraft x.same (h x.none)
 
 refused : (kind : LangFaultKind) → Keeps (Err kind)
 refused kind next e = absurd cc
 
-component_keeps : (d : Drafted) → IsSoundDraft d → (o : Option Word) → Keeps (component_line d o)
+component_keeps : (d : ComponentDraft) → IsSoundDraft d → (o : Option Word) → Keeps (component_line d o)
 component_keeps d h None = refused _
 component_keeps d h (Some name) = kept
     ((not (has_name_form name), Form) ∷ (is_long name, Limit) ∷ [])
@@ -134,7 +134,7 @@ component_keeps d h (Some name) = kept
       begun = h.begun;
     })
 
-local_keeps : (d : Drafted) → IsSoundDraft d → d.begun ≡ None → (o : Option Word) → Keeps (local_line d o)
+local_keeps : (d : ComponentDraft) → IsSoundDraft d → d.begun ≡ None → (o : Option Word) → Keeps (local_line d o)
 local_keeps d h none None = refused _
 local_keeps d h none (Some most) = kept
     ((is_some d.local || nat_le 1 (length d.operations), Form)
@@ -159,7 +159,7 @@ local_keeps d h none (Some most) = kept
       begun = rw none tt;
     })
 
-array_keeps : (d : Drafted) → IsSoundDraft d → d.begun ≡ None → (o : Option (Word × Word × Word)) → Keeps (array_line d o)
+array_keeps : (d : ComponentDraft) → IsSoundDraft d → d.begun ≡ None → (o : Option (Word × Word × Word)) → Keeps (array_line d o)
 array_keeps d h none None = refused _
 array_keeps d h none (Some (name, len, init)) = kept
     ((not (has_name_form name), Form)
@@ -192,7 +192,7 @@ array_keeps d h none (Some (name, len, init)) = kept
       begun = rw none tt;
     })
 
-lock_keeps : (d : Drafted) → IsSoundDraft d → d.begun ≡ None → (o : Option Word) → Keeps (lock_line d o)
+lock_keeps : (d : ComponentDraft) → IsSoundDraft d → d.begun ≡ None → (o : Option Word) → Keeps (lock_line d o)
 lock_keeps d h none None = refused _
 lock_keeps d h none (Some name) = kept
     ((not (has_name_form name), Form)
@@ -221,13 +221,13 @@ lock_keeps d h none (Some name) = kept
       begun = rw none tt;
     })
 
-op_keeps : (d : Drafted) → IsSoundDraft d → (o : Option (Word × Word)) → Keeps (op_line d o)
+op_keeps : (d : ComponentDraft) → IsSoundDraft d → (o : Option (Word × Word)) → Keeps (op_line d o)
 op_keeps d h None = refused _
 op_keeps d h (Some (name, args)) = kept
     ((not (has_name_form name), Form)
     ∷ (not (is_value args), Number)
     ∷ (is_long name || (nat_le 16 (length d.operations) || nat_lt 4 (value args)), Limit)
-    ∷ (is_some (operation_place d.operations name), Name) ∷ [])
+    ∷ (is_some (operation_number d.operations name), Name) ∷ [])
     (record d { begun = Some (record { name = name; args = value args; statements = []; labels = [] }) })
     (λ n.
     let long = or_parts (is_long name) (nat_le 16 (length d.operations) || nat_lt 4 (value args)) n.1.1.0 in
@@ -246,11 +246,11 @@ op_keeps d h (Some (name, args)) = kept
       };
     })
 
-keeps_if : (b : Bool) (x y : Result Drafted LangFaultKind) → Keeps x → Keeps y → Keeps (cond b x y)
+keeps_if : (b : Bool) (x y : Result ComponentDraft LangFaultKind) → Keeps x → Keeps y → Keeps (cond b x y)
 keeps_if true x y p q = p
 keeps_if false x y p q = q
 
-declaration_keeps : (d : Drafted) → IsSoundDraft d → d.begun ≡ None → (word : Word) (words : List Word) → Keeps (declaration d word words)
+declaration_keeps : (d : ComponentDraft) → IsSoundDraft d → d.begun ≡ None → (word : Word) (words : List Word) → Keeps (declaration d word words)
 declaration_keeps d h none word words =
     keeps_if (bytes_eq word (codes "word")) (array_line d (exactly_three words)) _ (array_keeps d h none (exactly_three words))
     (keeps_if (bytes_eq word (codes "lock")) (lock_line d (exactly_one words)) _ (lock_keeps d h none (exactly_one words))
@@ -262,14 +262,14 @@ declaration_keeps d h none word words =
 label_weaker : (n m : ℕ) → n ≤ m → (labels : List Label) → All (λ l. l.place < n) labels → All (λ l. l.place < m) labels
 label_weaker n m le labels all = All-weaker (λ l. l.place < n) (λ l. l.place < m) (λ l h. omega arith) labels all
 
-labels_kept : (b : Begun) (label : Option Word) (s : Statement) → All (λ l. l.place < length b.statements) b.labels → All (λ l. l.place < length (b.statements ++ s ∷ [])) (with_label b label)
+labels_kept : (b : OpenOp) (label : Option Word) (s : Statement) → All (λ l. l.place < length b.statements) b.labels → All (λ l. l.place < length (b.statements ++ s ∷ [])) (with_label b label)
 labels_kept b None s all = label_weaker (length b.statements) (length (b.statements ++ s ∷ [])) (omega (arith, length-last b.statements s)) b.labels all
 labels_kept b (Some label) s all =
     All-last (λ l. l.place < length (b.statements ++ s ∷ [])) b.labels (record { name = label; place = length b.statements })
     (label_weaker (length b.statements) (length (b.statements ++ s ∷ [])) (omega (arith, length-last b.statements s)) b.labels all)
     (omega (arith, length-last b.statements s))
 
-begun_kept : (a l : ℕ) (operations : List Op) (b : Begun) (label : Option Word) (s : Statement) → IsBegun a l operations b → length b.statements < 64 → IsStatement a l s → IsBegun a l operations (with_statement b label s)
+begun_kept : (a l : ℕ) (operations : List Op) (b : OpenOp) (label : Option Word) (s : Statement) → IsBegun a l operations b → length b.statements < 64 → IsStatement a l s → IsBegun a l operations (with_statement b label s)
 begun_kept a l operations b label s h room is = record {
   room = h.room;
   apart = h.apart;
@@ -288,11 +288,11 @@ sooner_some (Some other) kind = go _
     go true = refl
     go false = refl
 
-or_refused : (o : Option LangFaultKind) (d : Drafted) → is_some o ≡ true → Keeps (or_else o d)
+or_refused : (o : Option LangFaultKind) (d : ComponentDraft) → is_some o ≡ true → Keeps (or_else o d)
 or_refused None d e = absurd cc
 or_refused (Some kind) d e = refused kind
 
-instr_keeps : (d : Drafted) → IsSoundDraft d → (b : Begun) → IsBegun (length d.arrays) (length d.locks) d.operations b → (label : Option Word) (word : Word) (words : List Word) → Keeps (instr_line d b label word words)
+instr_keeps : (d : ComponentDraft) → IsSoundDraft d → (b : OpenOp) → IsBegun (length d.arrays) (length d.locks) d.operations b → (label : Option Word) (word : Word) (words : List Word) → Keeps (instr_line d b label word words)
 instr_keeps d h b begun label word words = go (statement d (keyword_in word) words) (λ s e. statement_sound d (keyword_in word) words s e) (place_fault b label) (λ e. has_room b label e)
   where
     go : (r : Result Statement LangFaultKind) → ((s : Statement) → r ≡ Ok s → IsStatement (length d.arrays) (length d.locks) s) → (fault : Option LangFaultKind) → (fault ≡ None → length b.statements < 64) → Keeps (placed d b label fault r)
@@ -350,7 +350,7 @@ some_statement : (statements : List Statement) → is_last (slice_get statements
 some_statement [] e = absurd cc
 some_statement (s ∷ ss) e = omega arith
 
-op_sound : (a l : ℕ) (operations : List Op) (b : Begun) → IsBegun a l operations b → ends_well b ≡ true → IsOp a l (op_of b)
+op_sound : (a l : ℕ) (operations : List Op) (b : OpenOp) → IsBegun a l operations b → ends_well b ≡ true → IsOp a l (op_of b)
 op_sound a l operations b h ends =
     let n = length b.statements in
     let some : 0 < n = some_statement b.statements ends in
@@ -366,7 +366,7 @@ op_sound a l operations b h ends =
       };
     }
 
-end_keeps : (d : Drafted) → IsSoundDraft d → d.begun ≡ None → (b : Begun) → IsBegun (length d.arrays) (length d.locks) d.operations b → (words : List Word) → Keeps (end_line d b words)
+end_keeps : (d : ComponentDraft) → IsSoundDraft d → d.begun ≡ None → (b : OpenOp) → IsBegun (length d.arrays) (length d.locks) d.operations b → (words : List Word) → Keeps (end_line d b words)
 end_keeps d h none b begun (word ∷ words) = refused Form
 end_keeps d h none b begun [] = kept
     ((not (ends_well b), Flow) ∷ (not (are_there b), Name) ∷ [])
@@ -391,34 +391,34 @@ end_keeps d h none b begun [] = kept
 
 -- ---- lines
 
-labelled_keeps : (d : Drafted) → IsSoundDraft d → (b : Begun) → IsBegun (length d.arrays) (length d.locks) d.operations b → (label : Word) (words : List Word) → Keeps (labelled d b label words)
+labelled_keeps : (d : ComponentDraft) → IsSoundDraft d → (b : OpenOp) → IsBegun (length d.arrays) (length d.locks) d.operations b → (label : Word) (words : List Word) → Keeps (labelled d b label words)
 labelled_keeps d h b begun label [] = refused Form
 labelled_keeps d h b begun label (word ∷ words) = instr_keeps d h b begun (Some label) word words
 
-inside_keeps : (d : Drafted) → IsSoundDraft d → d.begun ≡ None → (b : Begun) → IsBegun (length d.arrays) (length d.locks) d.operations b → (label : Option Word) (word : Word) (words : List Word) → Keeps (by_label d b label word words)
+inside_keeps : (d : ComponentDraft) → IsSoundDraft d → d.begun ≡ None → (b : OpenOp) → IsBegun (length d.arrays) (length d.locks) d.operations b → (label : Option Word) (word : Word) (words : List Word) → Keeps (by_label d b label word words)
 inside_keeps d h none b begun (Some label) word words = labelled_keeps d h b begun label words
 inside_keeps d h none b begun None word words =
     keeps_if (bytes_eq word (codes "end")) (end_line d b words) (instr_line d b None word words) (end_keeps d h none b begun words) (instr_keeps d h b begun None word words)
 
-closed_draft : (d : Drafted) → IsSoundDraft d → IsSoundDraft (closed d)
+closed_draft : (d : ComponentDraft) → IsSoundDraft d → IsSoundDraft (closed d)
 closed_draft d h = record {
   name = h.name;
   declared = h.declared;
   begun = tt;
 }
 
-state_keeps : (d : Drafted) → IsSoundDraft d → (name : Option Word) (begun : Option Begun) → d.begun ≡ begun → IfSome begun (IsBegun (length d.arrays) (length d.locks) d.operations) → (word : Word) (words : List Word) → Keeps (by_state d name begun word words)
+state_keeps : (d : ComponentDraft) → IsSoundDraft d → (name : Option Word) (begun : Option OpenOp) → d.begun ≡ begun → IfSome begun (IsBegun (length d.arrays) (length d.locks) d.operations) → (word : Word) (words : List Word) → Keeps (by_state d name begun word words)
 state_keeps d h None begun same is word words =
     keeps_if (bytes_eq word (codes "component")) (component_line d (exactly_one words)) (Err Missing) (component_keeps d h (exactly_one words)) (refused Missing)
 state_keeps d h (Some name) None same is word words = declaration_keeps d h same word words
 state_keeps d h (Some name) (Some b) same is word words = inside_keeps (closed d) (closed_draft d h) refl b is (label_in word) word words
 
-words_keep : (d : Drafted) → IsSoundDraft d → (words : List Word) → Keeps (by_words d words)
+words_keep : (d : ComponentDraft) → IsSoundDraft d → (words : List Word) → Keeps (by_words d words)
 words_keep d h [] = λ next e. let same : d ≡ next = cc in subst IsSoundDraft same h
 words_keep d h (word ∷ words) = state_keeps d h d.name d.begun refl h.begun word words
 
 -- a line without a fault keeps what is declared within the rules
-pub line_keeps : (d : Drafted) → IsSoundDraft d → (line : List ℕ) (next : Drafted) → line_of d line ≡ Ok next → IsSoundDraft next
+pub line_keeps : (d : ComponentDraft) → IsSoundDraft d → (line : List ℕ) (next : ComponentDraft) → line_of d line ≡ Ok next → IsSoundDraft next
 unfolding line_of
 line_keeps d h line = keeps_if (list_all is_allowed line) (by_words d (words_of line)) (Err Byte) (words_keep d h (words_of line)) (refused Byte)
 
@@ -444,5 +444,5 @@ nothing_draft = record {
 }
 
 -- what is declared at the end is a component
-pub draft_component : (d : Drafted) → IsSoundDraft d → (name : Word) → IsName name → IsComponent (named d name)
+pub draft_component : (d : ComponentDraft) → IsSoundDraft d → (name : Word) → IsName name → IsComponent (named d name)
 draft_component d h name is = h.declared name is

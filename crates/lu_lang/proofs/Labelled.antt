@@ -20,7 +20,7 @@ use Rattle.lu_component.specs.declared.instr.Instr.TheVariants as instr
 use Rattle.lu_component.specs.declared.instr.Operand.{Operand}
 use Rattle.lu_component.specs.declared.instr.Arithmetic.{Arithmetic}
 use Rattle.lu_component.specs.declared.component.Op.{Op}
-use Rattle.lu_component.specs.Component.{Declarations, operation_place}
+use Rattle.lu_component.specs.Component.{Component, operation_number}
 use Rattle.lu_lang.specs.declared.draft.Label.{Label}
 use Rattle.lu_lang.specs.declared.draft.Statement.{Statement}
 use Rattle.lu_lang.specs.declared.draft.Statement.TheVariants.{Plain, Jump, JumpIfZero}
@@ -28,7 +28,7 @@ use Rattle.lu_lang.specs.declared.keyword.Keyword.{Keyword}
 use Rattle.lu_lang.specs.declared.keyword.Keyword.TheVariants as keyword
 use Rattle.lu_lang.specs.declared.fault.LangFaultKind.{LangFaultKind}
 use Rattle.lu_lang.specs.declared.fault.LangFaultKind.TheVariants.{Byte, Missing, Form, Number, Limit, Flow, Name}
-use Rattle.lu_lang.specs.Draft.{Begun, Drafted, nothing, named}
+use Rattle.lu_lang.specs.Draft.{OpenOp, ComponentDraft, nothing, named}
 use Rattle.lu_lang.specs.Words.{keyword_in}
 use Rattle.lu_lang.specs.Grammar.{value, is_value, register, is_register, operand, is_operand, array_place, lock_place, label_place, array_number, component_line, local_line, array_line, lock_line, op_line, declaration, set_line, compute_line, load_line, cas_line, locked, cell_and_value, as_plain, pick_line, jump_line, jump_if_zero_line, return_line, statement, sooner, place_fault, with_label, with_statement, placed, instr_line, labelled, label_used, is_there, are_there, ends_well, target, resolved, op_of, end_line, by_label, by_state, closed, by_words, line_of, label_in, declared, component_grammar}
 use Rattle.lu_lang.specs.Labels.{Marked, nothing_marked, outside_line, inside_line, marked_line, with_words, marked_after, all_marks, marks_of_lines, by_operation, name_if, label_on, label_at, label_named, jump_of, jump_on, labels_of, jumps_of, target_of, led_to, AreTargets}
@@ -101,11 +101,11 @@ compute_names : (by : Arithmetic) (o : Option (Word × Word × Word)) → Names 
 compute_names by None = none_named _ _
 compute_names by (Some (dst, a, b)) = names None ((not (is_register dst), Form) ∷ (not (is_operand a) || not (is_operand b), Number) ∷ []) (Plain (instr.Compute by (register dst) (operand a) (operand b))) (refl, refl)
 
-load_names : (d : Drafted) (o : Option (Word × Word × Word)) → Names None (load_line d o)
+load_names : (d : ComponentDraft) (o : Option (Word × Word × Word)) → Names None (load_line d o)
 load_names d None = none_named _ _
 load_names d (Some (dst, array, i)) = names None ((not (is_register dst) || not (has_name_form array), Form) ∷ (not (is_operand i), Number) ∷ (is_long array, Limit) ∷ (not (is_some (array_place d array)), Name) ∷ []) (Plain (instr.Load (register dst) (array_number d array) (operand i))) (refl, refl)
 
-cas_names : (d : Drafted) (o : Option (Word × Word × Word × Word × Word)) → Names None (cas_line d o)
+cas_names : (d : ComponentDraft) (o : Option (Word × Word × Word × Word × Word)) → Names None (cas_line d o)
 cas_names d None = none_named _ _
 cas_names d (Some (dst, array, i, old, new)) = names None ((not (is_register dst) || not (has_name_form array), Form) ∷ (not (is_operand i) || (not (is_operand old) || not (is_operand new)), Number) ∷ (is_long array, Limit) ∷ (not (is_some (array_place d array)), Name) ∷ []) (Plain (instr.Cas (register dst) (array_number d array) (operand i) (operand old) (operand new))) (refl, refl)
 
@@ -132,7 +132,7 @@ return_names None = none_named _ _
 return_names (Some v) = names None ((not (is_operand v), Number) ∷ []) (Plain (instr.Return (operand v))) (refl, refl)
 
 -- a statement names the label that its line names
-statement_names : (d : Drafted) (k : Option Keyword) (words : List Word) → Names (label_named k words) (statement d k words)
+statement_names : (d : ComponentDraft) (k : Option Keyword) (words : List Word) → Names (label_named k words) (statement d k words)
 statement_names d None words = none_named _ _
 statement_names d (Some keyword.Set) words = set_names (exactly_two words)
 statement_names d (Some (keyword.Compute by)) words = compute_names by (exactly_three words)
@@ -154,20 +154,20 @@ abbrev StandsAt : List (Option Word) → Label → Type 0
 StandsAt marks l = slice_get marks l.place ≡ Some (Some l.name)
 
 -- its lines have these labels, and jump to these
-record IsOpen (b : Begun) (marks jumps : List (Option Word)) : Type 0 where
+record IsOpen (b : OpenOp) (marks jumps : List (Option Word)) : Type 0 where
   places : length marks ≡ length b.statements
   labels : AllByRecursion (StandsAt marks) b.labels
   names : map label_used b.statements ≡ jumps
   plain : AllByRecursion HasNoTarget b.statements
 
-labels_more : (b : Begun) (marks jumps : List (Option Word)) → IsOpen b marks jumps → (label : Option Word) → AllByRecursion (StandsAt (marks ++ label ∷ [])) (with_label b label)
+labels_more : (b : OpenOp) (marks jumps : List (Option Word)) → IsOpen b marks jumps → (label : Option Word) → AllByRecursion (StandsAt (marks ++ label ∷ [])) (with_label b label)
 labels_more b marks jumps h None = each_weaker (StandsAt marks) (StandsAt (marks ++ None ∷ [])) (λ l e. slice_get_more marks (None ∷ []) l.place (Some l.name) e) b.labels h.labels
 labels_more b marks jumps h (Some label) =
     each_push (StandsAt (marks ++ Some label ∷ [])) b.labels (record { name = label; place = length b.statements })
     (each_weaker (StandsAt marks) (StandsAt (marks ++ Some label ∷ [])) (λ l e. slice_get_more marks (Some label ∷ []) l.place (Some l.name) e) b.labels h.labels)
     (subst (λ (i : ℕ). slice_get (marks ++ Some label ∷ []) i ≡ Some (Some label)) h.places (slice_get_last marks (Some label)))
 
-open_more : (b : Begun) (marks jumps : List (Option Word)) → IsOpen b marks jumps → (label name : Option Word) (s : Statement) → IsNaming name s → IsOpen (with_statement b label s) (marks ++ label ∷ []) (jumps ++ name ∷ [])
+open_more : (b : OpenOp) (marks jumps : List (Option Word)) → IsOpen b marks jumps → (label name : Option Word) (s : Statement) → IsNaming name s → IsOpen (with_statement b label s) (marks ++ label ∷ []) (jumps ++ name ∷ [])
 open_more b marks jumps h label name s is = record {
   places = omega (arith, h.places, length_push marks label, length_push b.statements s);
   labels = labels_more b marks jumps h label;
@@ -213,72 +213,72 @@ targets_last (o ∷ os) (l ∷ ls) [] op marks names all e = absurd all
 
 -- ---- drafts
 
-abbrev AreOpen : Option Begun → Option (List (Option Word)) → Option (List (Option Word)) → Type 0
+abbrev AreOpen : Option OpenOp → Option (List (Option Word)) → Option (List (Option Word)) → Type 0
 AreOpen None None None = Unit {0}
 AreOpen (Some b) (Some marks) (Some jumps) = IsOpen b marks jumps
 AreOpen begun marks jumps = ⊥
 
 -- the draft and what the lines have told of it so far
-record Agrees (d : Drafted) (m n : Marked) : Type 0 where
+record Agrees (d : ComponentDraft) (m n : Marked) : Type 0 where
   done : AreTargets d.operations m.closed n.closed
   begun : AreOpen d.begun m.begun n.begun
   unnamed : d.name ≡ None → d.begun ≡ None
 
-abbrev Agree : Marked → Marked → Result Drafted LangFaultKind → Type 0
-Agree m n r = (next : Drafted) → r ≡ Ok next → Agrees next m n
+abbrev Agree : Marked → Marked → Result ComponentDraft LangFaultKind → Type 0
+Agree m n r = (next : ComponentDraft) → r ≡ Ok next → Agrees next m n
 
-agreed : (m n : Marked) (tests : Tests LangFaultKind) (d : Drafted) → (NoneHold tests → Agrees d m n) → Agree m n (says tests d)
-agreed m n tests d h next e = let x = said tests d next e in subst (λ (y : Drafted). Agrees y m n) x.same (h x.none)
+agreed : (m n : Marked) (tests : Tests LangFaultKind) (d : ComponentDraft) → (NoneHold tests → Agrees d m n) → Agree m n (says tests d)
+agreed m n tests d h next e = let x = said tests d next e in subst (λ (y : ComponentDraft). Agrees y m n) x.same (h x.none)
 
 refused : (m n : Marked) (kind : LangFaultKind) → Agree m n (Err kind)
 refused m n kind next e = absurd cc
 
-agree_if : (m n : Marked) (b : Bool) (x y : Result Drafted LangFaultKind) → (b ≡ true → Agree m n x) → (b ≡ false → Agree m n y) → Agree m n (cond b x y)
+agree_if : (m n : Marked) (b : Bool) (x y : Result ComponentDraft LangFaultKind) → (b ≡ true → Agree m n x) → (b ≡ false → Agree m n y) → Agree m n (cond b x y)
 agree_if m n true x y p q = p refl
 agree_if m n false x y p q = q refl
 
 -- ---- lines outside operations
 
 -- no operation is open
-record IsOutside (d : Drafted) (m n : Marked) : Type 0 where
+record IsOutside (d : ComponentDraft) (m n : Marked) : Type 0 where
   none : d.begun ≡ None
   no_marks : m.begun ≡ None
   no_jumps : n.begun ≡ None
   done : AreTargets d.operations m.closed n.closed
 
 -- a line that is not `op` leaves the marks as they are
-stays : (d : Drafted) (m n : Marked) → IsOutside d m n → (word : Word) → bytes_eq word (codes "op") ≡ false → (r : Result Drafted LangFaultKind) → Agree m n r → Agree (outside_line m word) (outside_line n word) r
+stays : (d : ComponentDraft) (m n : Marked) → IsOutside d m n → (word : Word) → bytes_eq word (codes "op") ≡ false → (r : Result ComponentDraft LangFaultKind) → Agree m n r → Agree (outside_line m word) (outside_line n word) r
 stays d m n h word apart r all = rw apart all
 
-outside_none : (d : Drafted) (m n : Marked) → IsOutside d m n → Agrees d m n
+outside_none : (d : ComponentDraft) (m n : Marked) → IsOutside d m n → Agrees d m n
 outside_none d m n h = record { done = h.done; begun = rw (h.none, h.no_marks, h.no_jumps) tt; unnamed = λ e. h.none }
 
-component_agrees : (d : Drafted) (m n : Marked) → IsOutside d m n → (o : Option Word) → Agree m n (component_line d o)
+component_agrees : (d : ComponentDraft) (m n : Marked) → IsOutside d m n → (o : Option Word) → Agree m n (component_line d o)
 component_agrees d m n h None = refused m n _
 component_agrees d m n h (Some name) = agreed m n ((not (has_name_form name), Form) ∷ (is_long name, Limit) ∷ []) (record d { name = Some name })
     (λ k. record { done = h.done; begun = rw (h.none, h.no_marks, h.no_jumps) tt; unnamed = λ e. h.none })
 
-local_agrees : (d : Drafted) (m n : Marked) → IsOutside d m n → (o : Option Word) → Agree m n (local_line d o)
+local_agrees : (d : ComponentDraft) (m n : Marked) → IsOutside d m n → (o : Option Word) → Agree m n (local_line d o)
 local_agrees d m n h None = refused m n _
 local_agrees d m n h (Some most) = agreed m n ((is_some d.local || nat_le 1 (length d.operations), Form) ∷ (not (is_value most), Number) ∷ (nat_lt 16 (value most), Limit) ∷ []) (record d { local = Some (value most) })
     (λ k. record { done = h.done; begun = rw (h.none, h.no_marks, h.no_jumps) tt; unnamed = λ e. h.none })
 
-array_agrees : (d : Drafted) (m n : Marked) → IsOutside d m n → (o : Option (Word × Word × Word)) → Agree m n (array_line d o)
+array_agrees : (d : ComponentDraft) (m n : Marked) → IsOutside d m n → (o : Option (Word × Word × Word)) → Agree m n (array_line d o)
 array_agrees d m n h None = refused m n _
 array_agrees d m n h (Some (name, len, init)) = agreed m n ((not (has_name_form name), Form) ∷ (not (is_value len) || not (is_value init), Number) ∷ (is_long name || (nat_le 16 (length d.arrays) || (nat_lt (value len) 1 || nat_lt 64 (value len))), Limit) ∷ (is_some (array_place d name), Name) ∷ []) (record d { arrays = d.arrays ++ record { name = name; len = value len; init = value init } ∷ [] })
     (λ k. record { done = h.done; begun = rw (h.none, h.no_marks, h.no_jumps) tt; unnamed = λ e. h.none })
 
-lock_agrees : (d : Drafted) (m n : Marked) → IsOutside d m n → (o : Option Word) → Agree m n (lock_line d o)
+lock_agrees : (d : ComponentDraft) (m n : Marked) → IsOutside d m n → (o : Option Word) → Agree m n (lock_line d o)
 lock_agrees d m n h None = refused m n _
 lock_agrees d m n h (Some name) = agreed m n ((not (has_name_form name), Form) ∷ (is_long name || nat_le 8 (length d.locks), Limit) ∷ (is_some (lock_place d name), Name) ∷ []) (record d { locks = d.locks ++ name ∷ [] })
     (λ k. record { done = h.done; begun = rw (h.none, h.no_marks, h.no_jumps) tt; unnamed = λ e. h.none })
 
-op_agrees : (d : Drafted) (m n : Marked) → IsOutside d m n → (own : Word) → d.name ≡ Some own → (o : Option (Word × Word)) → Agree (record m { begun = Some [] }) (record n { begun = Some [] }) (op_line d o)
+op_agrees : (d : ComponentDraft) (m n : Marked) → IsOutside d m n → (own : Word) → d.name ≡ Some own → (o : Option (Word × Word)) → Agree (record m { begun = Some [] }) (record n { begun = Some [] }) (op_line d o)
 op_agrees d m n h own is None = refused (record m { begun = Some [] }) (record n { begun = Some [] }) _
-op_agrees d m n h own is (Some (name, args)) = agreed (record m { begun = Some [] }) (record n { begun = Some [] }) ((not (has_name_form name), Form) ∷ (not (is_value args), Number) ∷ (is_long name || (nat_le 16 (length d.operations) || nat_lt 4 (value args)), Limit) ∷ (is_some (operation_place d.operations name), Name) ∷ []) (record d { begun = Some (record { name = name; args = value args; statements = []; labels = [] }) })
+op_agrees d m n h own is (Some (name, args)) = agreed (record m { begun = Some [] }) (record n { begun = Some [] }) ((not (has_name_form name), Form) ∷ (not (is_value args), Number) ∷ (is_long name || (nat_le 16 (length d.operations) || nat_lt 4 (value args)), Limit) ∷ (is_some (operation_number d.operations name), Name) ∷ []) (record d { begun = Some (record { name = name; args = value args; statements = []; labels = [] }) })
     (λ k. record { done = h.done; begun = record { places = refl; labels = tt; names = refl; plain = tt }; unnamed = λ e. absurd cc })
 
-declaration_agrees : (d : Drafted) (m n : Marked) → IsOutside d m n → (own : Word) → d.name ≡ Some own → (word : Word) (words : List Word) → Agree (outside_line m word) (outside_line n word) (declaration d word words)
+declaration_agrees : (d : ComponentDraft) (m n : Marked) → IsOutside d m n → (own : Word) → d.name ≡ Some own → (word : Word) (words : List Word) → Agree (outside_line m word) (outside_line n word) (declaration d word words)
 declaration_agrees d m n h own is word words =
     let M = outside_line m word in
     let N = outside_line n word in
@@ -295,14 +295,14 @@ declaration_agrees d m n h own is word words =
 -- ---- lines of the open operation
 
 -- no label is wrong, so that it is a name
-name_is : (b : Begun) (label : Word) → place_fault b (Some label) ≡ None → name_if label ≡ Some label
+name_is : (b : OpenOp) (label : Word) → place_fault b (Some label) ≡ None → name_if label ≡ Some label
 name_is b label e =
     let f = no_fault (not (has_name_form label)) Form (cond (is_long label || nat_le 64 (length b.statements)) (Some Limit) (cond (is_some (label_place b.labels label)) (Some Name) None)) e in
     let l = no_fault (is_long label || nat_le 64 (length b.statements)) Limit (cond (is_some (label_place b.labels label)) (Some Name) None) f.1 in
     let p = or_parts (is_long label) (nat_le 64 (length b.statements)) l.0 in
     rw (not-false (has_name_form label) f.0, p.0) refl
 
-mark_is : (b : Begun) (label : Option Word) → place_fault b label ≡ None → option_and_then name_if label ≡ label
+mark_is : (b : OpenOp) (label : Option Word) → place_fault b label ≡ None → option_and_then name_if label ≡ label
 mark_is b None e = refl
 mark_is b (Some label) e = name_is b label e
 
@@ -310,11 +310,11 @@ mark_is b (Some label) e = name_is b label e
 abbrev with_mark : Marked → List (Option Word) → Option Word → Marked
 with_mark m marks mark = record m { begun = Some (marks ++ mark ∷ []) }
 
-fault_refused : (m n : Marked) (o : Option LangFaultKind) (d : Drafted) → is_some o ≡ true → Agree m n (or_else o d)
+fault_refused : (m n : Marked) (o : Option LangFaultKind) (d : ComponentDraft) → is_some o ≡ true → Agree m n (or_else o d)
 fault_refused m n None d e = absurd cc
 fault_refused m n (Some kind) d e = refused m n kind
 
-instr_agrees : (d : Drafted) (m n : Marked) (own : Word) → d.name ≡ Some own → AreTargets d.operations m.closed n.closed → (b : Begun) (marks jumps : List (Option Word)) → IsOpen b marks jumps → (label : Option Word) (word : Word) (words : List Word)
+instr_agrees : (d : ComponentDraft) (m n : Marked) (own : Word) → d.name ≡ Some own → AreTargets d.operations m.closed n.closed → (b : OpenOp) (marks jumps : List (Option Word)) → IsOpen b marks jumps → (label : Option Word) (word : Word) (words : List Word)
     → Agree (with_mark m marks (option_and_then name_if label)) (with_mark n jumps (jump_of (word ∷ words))) (instr_line d b label word words)
 instr_agrees d m n own is done b marks jumps h label word words = go (statement d (keyword_in word) words) (statement_names d (keyword_in word) words) (place_fault b label) (mark_is b label)
   where
@@ -330,13 +330,13 @@ instr_agrees d m n own is done b marks jumps h label word words = go (statement 
     go (Ok s) named None mark = λ next e.
         let same : record d { begun = Some (with_statement b label s) } ≡ next = cc in
         let opened = open_more b marks jumps h label (jump_of (word ∷ words)) s (named s refl) in
-        subst (λ (y : Drafted). Agrees y M N) same (record {
+        subst (λ (y : ComponentDraft). Agrees y M N) same (record {
           done = done;
           begun = rw (mark refl) opened;
           unnamed = λ f. absurd cc;
         })
 
-end_agrees : (d : Drafted) (m n : Marked) → AreTargets d.operations m.closed n.closed → (b : Begun) (marks jumps : List (Option Word)) → IsOpen b marks jumps → (words : List Word)
+end_agrees : (d : ComponentDraft) (m n : Marked) → AreTargets d.operations m.closed n.closed → (b : OpenOp) (marks jumps : List (Option Word)) → IsOpen b marks jumps → (words : List Word)
     → Agree (record { closed = m.closed ++ marks ∷ []; begun = None }) (record { closed = n.closed ++ jumps ∷ []; begun = None }) (end_line d b words)
 end_agrees d m n done b marks jumps h (word ∷ words) = refused _ _ Form
 end_agrees d m n done b marks jumps h [] = agreed (record { closed = m.closed ++ marks ∷ []; begun = None }) (record { closed = n.closed ++ jumps ∷ []; begun = None })
@@ -348,7 +348,7 @@ end_agrees d m n done b marks jumps h [] = agreed (record { closed = m.closed ++
       unnamed = λ e. refl;
     })
 
--- a word with a colon behind it is not `end`
+-- a word with a colon after it is not `end`
 no_end : (word label : Word) → label_in word ≡ Some label → bytes_eq word (codes "end") ≡ false
 no_end word label is = go (bytes_eq word (codes "end")) refl
   where
@@ -358,12 +358,12 @@ no_end word label is = go (bytes_eq word (codes "end")) refl
         let none : label_in word ≡ None = subst (λ (w : Word). label_in w ≡ None) (sym (same_bytes word (codes "end") e)) refl in
         absurd cc
 
-labelled_agrees : (d : Drafted) (m n : Marked) (own : Word) → d.name ≡ Some own → AreTargets d.operations m.closed n.closed → (b : Begun) (marks jumps : List (Option Word)) → IsOpen b marks jumps → (label : Word) (words : List Word)
+labelled_agrees : (d : ComponentDraft) (m n : Marked) (own : Word) → d.name ≡ Some own → AreTargets d.operations m.closed n.closed → (b : OpenOp) (marks jumps : List (Option Word)) → IsOpen b marks jumps → (label : Word) (words : List Word)
     → Agree (with_mark m marks (name_if label)) (with_mark n jumps (jump_of words)) (labelled d b label words)
 labelled_agrees d m n own is done b marks jumps h label [] = refused _ _ Form
 labelled_agrees d m n own is done b marks jumps h label (word ∷ words) = instr_agrees d m n own is done b marks jumps h (Some label) word words
 
-inside_agrees : (d : Drafted) (m n : Marked) (own : Word) → d.name ≡ Some own → AreTargets d.operations m.closed n.closed → (b : Begun) (marks jumps : List (Option Word)) → IsOpen b marks jumps → (word : Word) (words : List Word) (label : Option Word) → label_in word ≡ label
+inside_agrees : (d : ComponentDraft) (m n : Marked) (own : Word) → d.name ≡ Some own → AreTargets d.operations m.closed n.closed → (b : OpenOp) (marks jumps : List (Option Word)) → IsOpen b marks jumps → (word : Word) (words : List Word) (label : Option Word) → label_in word ≡ label
     → Agree (inside_line m marks (label_on (word ∷ words)) word) (inside_line n jumps (jump_on (word ∷ words)) word) (by_label d b label word words)
 inside_agrees d m n own is done b marks jumps h word words (Some label) e =
     rw (no_end word label e, e) (labelled_agrees d m n own is done b marks jumps h label words)
@@ -375,7 +375,7 @@ inside_agrees d m n own is done b marks jumps h word words None e = rw e (go (by
 
 -- ---- all lines
 
-state_agrees : (d : Drafted) (m n : Marked) → AreTargets d.operations m.closed n.closed → (name : Option Word) → d.name ≡ name → (begun : Option Begun) → d.begun ≡ begun → (marks jumps : Option (List (Option Word))) → m.begun ≡ marks → n.begun ≡ jumps
+state_agrees : (d : ComponentDraft) (m n : Marked) → AreTargets d.operations m.closed n.closed → (name : Option Word) → d.name ≡ name → (begun : Option OpenOp) → d.begun ≡ begun → (marks jumps : Option (List (Option Word))) → m.begun ≡ marks → n.begun ≡ jumps
     → AreOpen begun marks jumps → (name ≡ None → begun ≡ None) → (word : Word) (words : List Word) → Agree (marked_line m marks (label_on (word ∷ words)) word) (marked_line n jumps (jump_on (word ∷ words)) word) (by_state d name begun word words)
 state_agrees d m n done None is None none None None p q are un word words =
     let h : IsOutside d m n = record { none = none; no_marks = p; no_jumps = q; done = done } in
@@ -391,35 +391,35 @@ state_agrees d m n done name is None none (Some marks) jumps p q are un word wor
 state_agrees d m n done name is (Some b) some None jumps p q are un word words = absurd are
 state_agrees d m n done name is (Some b) some (Some marks) None p q are un word words = absurd are
 
-words_agree : (d : Drafted) (m n : Marked) → Agrees d m n → (words : List Word) → Agree (with_words label_on m words) (with_words jump_on n words) (by_words d words)
-words_agree d m n h [] = λ next e. let same : d ≡ next = cc in subst (λ (y : Drafted). Agrees y m n) same h
+words_agree : (d : ComponentDraft) (m n : Marked) → Agrees d m n → (words : List Word) → Agree (with_words label_on m words) (with_words jump_on n words) (by_words d words)
+words_agree d m n h [] = λ next e. let same : d ≡ next = cc in subst (λ (y : ComponentDraft). Agrees y m n) same h
 words_agree d m n h (word ∷ words) = state_agrees d m n h.done d.name refl d.begun refl m.begun n.begun refl refl h.begun h.unnamed word words
 
-line_agrees : (d : Drafted) (m n : Marked) → Agrees d m n → (line : List ℕ) → Agree (with_words label_on m (words_of line)) (with_words jump_on n (words_of line)) (line_of d line)
+line_agrees : (d : ComponentDraft) (m n : Marked) → Agrees d m n → (line : List ℕ) → Agree (with_words label_on m (words_of line)) (with_words jump_on n (words_of line)) (line_of d line)
 unfolding line_of
 line_agrees d m n h line =
     agree_if (with_words label_on m (words_of line)) (with_words jump_on n (words_of line)) (list_all is_allowed line) (by_words d (words_of line)) (Err Byte)
     (λ e. words_agree d m n h (words_of line)) (λ e. refused _ _ Byte)
 
-lines_agree : (lines : List (List ℕ)) (k : ℕ) (d : Drafted) (m n : Marked) (c : Declarations) → Agrees d m n → lines_after component_grammar k d lines ≡ Ok c → AreTargets c.operations (marks_of_lines label_on m lines) (marks_of_lines jump_on n lines)
+lines_agree : (lines : List (List ℕ)) (k : ℕ) (d : ComponentDraft) (m n : Marked) (c : Component) → Agrees d m n → lines_after component_grammar k d lines ≡ Ok c → AreTargets c.operations (marks_of_lines label_on m lines) (marks_of_lines jump_on n lines)
 unfolding lines_after
 lines_agree [] k d m n c h e = go d.name d.begun m.begun n.begun h.begun e
   where
-    go : (name : Option Word) (begun : Option Begun) (marks jumps : Option (List (Option Word))) → AreOpen begun marks jumps → on_line k (declared d name begun) ≡ Ok c → AreTargets c.operations (all_marks m marks) (all_marks n jumps)
+    go : (name : Option Word) (begun : Option OpenOp) (marks jumps : Option (List (Option Word))) → AreOpen begun marks jumps → on_line k (declared d name begun) ≡ Ok c → AreTargets c.operations (all_marks m marks) (all_marks n jumps)
     go None begun marks jumps are f = absurd cc
     go (Some name) (Some b) marks jumps are f = absurd cc
     go (Some name) None None None are f =
         let same : named d name ≡ c = cc in
-        subst (λ (x : Declarations). AreTargets x.operations m.closed n.closed) same h.done
+        subst (λ (x : Component). AreTargets x.operations m.closed n.closed) same h.done
     go (Some name) None (Some marks) jumps are f = absurd are
     go (Some name) None None (Some jumps) are f = absurd are
 lines_agree (line ∷ lines) k d m n c h e = go (line_of d line) refl (λ next a f. lines_agree lines (k + 1) next (with_words label_on m (words_of line)) (with_words jump_on n (words_of line)) c a f) e
   where
-    go : (r : Result Drafted LangFaultKind) → line_of d line ≡ r
-        → ((next : Drafted) → Agrees next (with_words label_on m (words_of line)) (with_words jump_on n (words_of line)) → lines_after component_grammar (k + 1) next lines ≡ Ok c → AreTargets c.operations (marks_of_lines label_on m (line ∷ lines)) (marks_of_lines jump_on n (line ∷ lines)))
+    go : (r : Result ComponentDraft LangFaultKind) → line_of d line ≡ r
+        → ((next : ComponentDraft) → Agrees next (with_words label_on m (words_of line)) (with_words jump_on n (words_of line)) → lines_after component_grammar (k + 1) next lines ≡ Ok c → AreTargets c.operations (marks_of_lines label_on m (line ∷ lines)) (marks_of_lines jump_on n (line ∷ lines)))
         → then_lines (on_line k r) (λ next. lines_after component_grammar (k + 1) next lines) ≡ Ok c → AreTargets c.operations (marks_of_lines label_on m (line ∷ lines)) (marks_of_lines jump_on n (line ∷ lines))
     go (Err kind) is rest f = absurd cc
     go (Ok next) is rest f = rest next (line_agrees d m n h line next is) f
 
-pub text_agrees : (text : List ℕ) (c : Declarations) → meaning_of component_grammar text ≡ Ok c → AreTargets c.operations (labels_of text) (jumps_of text)
+pub text_agrees : (text : List ℕ) (c : Component) → meaning_of component_grammar text ≡ Ok c → AreTargets c.operations (labels_of text) (jumps_of text)
 text_agrees text c e = lines_agree (lines_of text) 1 nothing nothing_marked nothing_marked c (record { done = tt; begun = tt; unnamed = λ f. refl }) e

@@ -22,7 +22,7 @@ use Rattle.lu_lang.specs.declared.fault.LangFaultKind.{LangFaultKind}
 use Rattle.lu_lang.specs.declared.fault.LangFaultKind.TheVariants.{Form, Number, Limit, Name}
 use Rattle.lu_component.specs.Component.{IsRegister, IsOperand, IsInstr}
 use Rattle.lu_component.proofs.Named.{place_small}
-use Rattle.lu_lang.specs.Draft.{Drafted}
+use Rattle.lu_lang.specs.Draft.{ComponentDraft}
 use Rattle.lu_lang.specs.Words.{register_in, or_number, as_number}
 use Rattle.lu_lang.specs.Grammar.{value, is_value, register, is_register, operand, is_operand, array_place, lock_place, array_number, lock_number, set_line, compute_line, load_line, cas_line, locked, cell_and_value, as_plain, pick_line, jump_line, jump_if_zero_line, return_line, statement}
 use Rattle.lu_lang.specs.Sound.{IsStatement}
@@ -60,53 +60,53 @@ operand_sound word = by_register (register_in word) refl
     by_register None e = by_number (value_in word) refl
     by_register (Some r) e = let small = register_small word in let same : register word ≡ r = ap (λ (x : Option ℕ). unwrap_or x 0) e in omega arith
 
-array_there : (d : Drafted) (name : Word) → not (is_some (array_place d name)) ≡ false → array_number d name < length d.arrays
+array_there : (d : ComponentDraft) (name : Word) → not (is_some (array_place d name)) ≡ false → array_number d name < length d.arrays
 array_there d name e = place_small (λ a. bytes_eq a.name name) d.arrays (not-false (is_some (array_place d name)) e)
 
-lock_there : (d : Drafted) (name : Word) → not (is_some (lock_place d name)) ≡ false → lock_number d name < length d.locks
+lock_there : (d : ComponentDraft) (name : Word) → not (is_some (lock_place d name)) ≡ false → lock_number d name < length d.locks
 lock_there d name e = place_small (λ l. bytes_eq l name) d.locks (not-false (is_some (lock_place d name)) e)
 
 -- ---- instructions
 
-abbrev IsSound : Drafted → Result Statement LangFaultKind → Type 0
+abbrev IsSound : ComponentDraft → Result Statement LangFaultKind → Type 0
 IsSound d r = (s : Statement) → r ≡ Ok s → IsStatement (length d.arrays) (length d.locks) s
 
 -- what holds of the statement that is said holds of the result
-sound : (d : Drafted) (tests : Tests LangFaultKind) (s : Statement) → (NoneHold tests → IsStatement (length d.arrays) (length d.locks) s) → IsSound d (says tests s)
+sound : (d : ComponentDraft) (tests : Tests LangFaultKind) (s : Statement) → (NoneHold tests → IsStatement (length d.arrays) (length d.locks) s) → IsSound d (says tests s)
 sound d tests s h t e = let x = said tests s t e in subst (IsStatement (length d.arrays) (length d.locks)) x.same (h x.none)
 
-none_said : (d : Drafted) (kind : LangFaultKind) → IsSound d (Err kind)
+none_said : (d : ComponentDraft) (kind : LangFaultKind) → IsSound d (Err kind)
 none_said d kind s e = absurd cc
 
-set_sound : (d : Drafted) (o : Option (Word × Word)) → IsSound d (set_line o)
+set_sound : (d : ComponentDraft) (o : Option (Word × Word)) → IsSound d (set_line o)
 set_sound d None = none_said d _
 set_sound d (Some (dst, v)) = sound d
     ((not (is_register dst), Form) ∷ (not (is_operand v), Number) ∷ [])
     (Plain (instr.Set (register dst) (operand v)))
     (λ n places. (register_small dst, operand_sound v))
 
-compute_sound : (d : Drafted) (by : Arithmetic) (o : Option (Word × Word × Word)) → IsSound d (compute_line by o)
+compute_sound : (d : ComponentDraft) (by : Arithmetic) (o : Option (Word × Word × Word)) → IsSound d (compute_line by o)
 compute_sound d by None = none_said d _
 compute_sound d by (Some (dst, a, b)) = sound d
     ((not (is_register dst), Form) ∷ (not (is_operand a) || not (is_operand b), Number) ∷ [])
     (Plain (instr.Compute by (register dst) (operand a) (operand b)))
     (λ n places. (register_small dst, operand_sound a, operand_sound b))
 
-load_sound : (d : Drafted) (o : Option (Word × Word × Word)) → IsSound d (load_line d o)
+load_sound : (d : ComponentDraft) (o : Option (Word × Word × Word)) → IsSound d (load_line d o)
 load_sound d None = none_said d _
 load_sound d (Some (dst, array, i)) = sound d
     ((not (is_register dst) || not (has_name_form array), Form) ∷ (not (is_operand i), Number) ∷ (is_long array, Limit) ∷ (not (is_some (array_place d array)), Name) ∷ [])
     (Plain (instr.Load (register dst) (array_number d array) (operand i)))
     (λ n places. (register_small dst, array_there d array n.1.1.1.0, operand_sound i))
 
-cas_sound : (d : Drafted) (o : Option (Word × Word × Word × Word × Word)) → IsSound d (cas_line d o)
+cas_sound : (d : ComponentDraft) (o : Option (Word × Word × Word × Word × Word)) → IsSound d (cas_line d o)
 cas_sound d None = none_said d _
 cas_sound d (Some (dst, array, i, old, new)) = sound d
     ((not (is_register dst) || not (has_name_form array), Form) ∷ (not (is_operand i) || (not (is_operand old) || not (is_operand new)), Number) ∷ (is_long array, Limit) ∷ (not (is_some (array_place d array)), Name) ∷ [])
     (Plain (instr.Cas (register dst) (array_number d array) (operand i) (operand old) (operand new)))
     (λ n places. (register_small dst, array_there d array n.1.1.1.0, operand_sound i, operand_sound old, operand_sound new))
 
-locking_sound : (d : Drafted) (locking : ℕ → Instr) → ((lock : ℕ) → lock < length d.locks → (places : ℕ) → IsInstr (length d.arrays) (length d.locks) places (locking lock)) → (o : Option Word) → IsSound d (as_plain locking (locked d o))
+locking_sound : (d : ComponentDraft) (locking : ℕ → Instr) → ((lock : ℕ) → lock < length d.locks → (places : ℕ) → IsInstr (length d.arrays) (length d.locks) places (locking lock)) → (o : Option Word) → IsSound d (as_plain locking (locked d o))
 locking_sound d locking each None = none_said d _
 locking_sound d locking each (Some lock) = λ s e. go (locked d (Some lock)) (λ l f. said_lock (locked d (Some lock)) l refl f) s e
   where
@@ -121,7 +121,7 @@ locking_sound d locking each (Some lock) = λ s e. go (locked d (Some lock)) (λ
     go (Ok l) small s e = let same : Plain (locking l) ≡ s = cc in subst (IsStatement (length d.arrays) (length d.locks)) same (each l (small l refl))
     go (Err kind) small s e = absurd cc
 
-cell_sound : (d : Drafted) (access : ℕ × Operand × Operand → Instr) → ((array : ℕ) (i v : Operand) → array < length d.arrays → IsOperand i → IsOperand v → (places : ℕ) → IsInstr (length d.arrays) (length d.locks) places (access (array, i, v))) → (o : Option (Word × Word × Word)) → IsSound d (as_plain access (cell_and_value d o))
+cell_sound : (d : ComponentDraft) (access : ℕ × Operand × Operand → Instr) → ((array : ℕ) (i v : Operand) → array < length d.arrays → IsOperand i → IsOperand v → (places : ℕ) → IsInstr (length d.arrays) (length d.locks) places (access (array, i, v))) → (o : Option (Word × Word × Word)) → IsSound d (as_plain access (cell_and_value d o))
 cell_sound d access each None = none_said d _
 cell_sound d access each (Some (array, i, v)) = λ s e. go (cell_and_value d (Some (array, i, v))) (λ w f. said_array (cell_and_value d (Some (array, i, v))) w refl f) s e
   where
@@ -139,7 +139,7 @@ cell_sound d access each (Some (array, i, v)) = λ s e. go (cell_and_value d (So
     go (Ok w) small s e = let same : Plain (access w) ≡ s = cc in let f = small w refl in subst (IsStatement (length d.arrays) (length d.locks)) same (each w.0 w.1 w.2 f.0 f.1 f.2)
     go (Err kind) small s e = absurd cc
 
-pick_sound : (d : Drafted) (o : Option (Word × Word)) → IsSound d (pick_line o)
+pick_sound : (d : ComponentDraft) (o : Option (Word × Word)) → IsSound d (pick_line o)
 pick_sound d None = none_said d _
 pick_sound d (Some (dst, count)) = sound d
     ((not (is_register dst), Form) ∷ (not (is_value count), Number) ∷ (nat_lt (value count) 1 || nat_lt 8 (value count), Limit) ∷ [])
@@ -148,28 +148,28 @@ pick_sound d (Some (dst, count)) = sound d
     let p = or_parts (nat_lt (value count) 1) (nat_lt 8 (value count)) n.1.1.0 in
     (register_small dst, ltb-false (value count) 1 p.0, ltb-false 8 (value count) p.1))
 
-jump_sound : (d : Drafted) (o : Option Word) → IsSound d (jump_line o)
+jump_sound : (d : ComponentDraft) (o : Option Word) → IsSound d (jump_line o)
 jump_sound d None = none_said d _
 jump_sound d (Some label) = sound d
     ((not (has_name_form label), Form) ∷ (is_long label, Limit) ∷ [])
     (Jump label)
     (λ n. tt)
 
-jump_if_zero_sound : (d : Drafted) (o : Option (Word × Word)) → IsSound d (jump_if_zero_line o)
+jump_if_zero_sound : (d : ComponentDraft) (o : Option (Word × Word)) → IsSound d (jump_if_zero_line o)
 jump_if_zero_sound d None = none_said d _
 jump_if_zero_sound d (Some (v, label)) = sound d
     ((not (has_name_form label), Form) ∷ (not (is_operand v), Number) ∷ (is_long label, Limit) ∷ [])
     (JumpIfZero (operand v) label)
     (λ n. operand_sound v)
 
-return_sound : (d : Drafted) (o : Option Word) → IsSound d (return_line o)
+return_sound : (d : ComponentDraft) (o : Option Word) → IsSound d (return_line o)
 return_sound d None = none_said d _
 return_sound d (Some v) = sound d
     ((not (is_operand v), Number) ∷ [])
     (Plain (instr.Return (operand v)))
     (λ n places. operand_sound v)
 
-pub statement_sound : (d : Drafted) (k : Option Keyword) (words : List Word) (s : Statement) → statement d k words ≡ Ok s → IsStatement (length d.arrays) (length d.locks) s
+pub statement_sound : (d : ComponentDraft) (k : Option Keyword) (words : List Word) (s : Statement) → statement d k words ≡ Ok s → IsStatement (length d.arrays) (length d.locks) s
 statement_sound d None words = none_said d _
 statement_sound d (Some keyword.Set) words = set_sound d (exactly_two words)
 statement_sound d (Some (keyword.Compute by)) words = compute_sound d by (exactly_three words)

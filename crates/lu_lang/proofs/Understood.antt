@@ -11,17 +11,17 @@ use Rattle.lu_text.specs.Faults.{on_line, then_lines, lines_after, meaning_of, g
 use Rattle.lu_text.specs.Lines.{lines_of, words_of, is_allowed, texts}
 use Rattle.lu_text.specs.Words.{Word}
 use Rattle.lu_lang.specs.declared.fault.LangFaultKind.{LangFaultKind}
-use Rattle.lu_lang.specs.declared.meant.Family.{Family}
-use Rattle.lu_lang.specs.Draft.{Drafted, nothing}
-use Rattle.lu_lang.specs.Faulty.{Meant, Faulty}
+use Rattle.lu_lang.specs.declared.recovery.Family.{Family}
+use Rattle.lu_lang.specs.Draft.{ComponentDraft, nothing}
+use Rattle.lu_lang.specs.Faulty.{MeantName, FaultyDraft}
 use Rattle.lu_lang.specs.Grammar.{line_of, component_grammar}
 use Rattle.lu_lang.specs.Meant.{name_of_line, renamed, renamed_at, renamed_words, meant_line, with_draft, faulty_grammar, spaced, line_with}
 
 -- the draft, where nothing was only meant
-abbrev sound : Drafted → Faulty
+abbrev sound : ComponentDraft → FaultyDraft
 sound d = record { draft = d; meant = [] }
 
-same_words : (d : Drafted) (words : List Word) → renamed_words (sound d) words ≡ None
+same_words : (d : ComponentDraft) (words : List Word) → renamed_words (sound d) words ≡ None
 same_words d words = go (is_some d.begun) (name_of_line (length d.operations) words)
   where
     at : (family : Family) (place : ℕ) (word : Option Word) → option_and_then (renamed (sound d) words (family, place)) word ≡ None
@@ -33,27 +33,27 @@ same_words d words = go (is_some d.begun) (name_of_line (length d.operations) wo
     go true None = refl
     go true (Some (family, place)) = at family place (slice_get words place)
 
-pub same_line : (d : Drafted) (line : List ℕ) → meant_line (sound d) line ≡ None
+pub same_line : (d : ComponentDraft) (line : List ℕ) → meant_line (sound d) line ≡ None
 same_line d line = go (list_all is_allowed line)
   where
     go : (b : Bool) → cond b (renamed_words (sound d) (words_of line)) None ≡ None
     go false = refl
     go true = same_words d (words_of line)
 
-pub read_same : (d : Drafted) (line : List ℕ) → faulty_grammar.line (sound d) line ≡ with_draft (sound d) (line_of d line)
+pub read_same : (d : ComponentDraft) (line : List ℕ) → faulty_grammar.line (sound d) line ≡ with_draft (sound d) (line_of d line)
 read_same d line = ap (λ (o : Option (List ℕ)). with_draft (sound d) (line_of d (unwrap_or o line))) (same_line d line)
 
-faulty_after : (n : ℕ) (d : Drafted) (lines : List (List ℕ)) → lines_after faulty_grammar n (sound d) lines ≡ lines_after component_grammar n d lines
+faulty_after : (n : ℕ) (d : ComponentDraft) (lines : List (List ℕ)) → lines_after faulty_grammar n (sound d) lines ≡ lines_after component_grammar n d lines
 unfolding lines_after
 faulty_after n d [] = refl
 faulty_after n d (line ∷ lines) = rw (read_same d line) (go (line_of d line) (λ next. faulty_after (n + 1) next lines))
   where
-    go : (r : Result Drafted LangFaultKind) → ((next : Drafted) → lines_after faulty_grammar (n + 1) (sound next) lines ≡ lines_after component_grammar (n + 1) next lines) → then_lines (on_line n (with_draft (sound d) r)) (λ f. lines_after faulty_grammar (n + 1) f lines) ≡ then_lines (on_line n r) (λ next. lines_after component_grammar (n + 1) next lines)
+    go : (r : Result ComponentDraft LangFaultKind) → ((next : ComponentDraft) → lines_after faulty_grammar (n + 1) (sound next) lines ≡ lines_after component_grammar (n + 1) next lines) → then_lines (on_line n (with_draft (sound d) r)) (λ f. lines_after faulty_grammar (n + 1) f lines) ≡ then_lines (on_line n r) (λ next. lines_after component_grammar (n + 1) next lines)
     go (Ok next) again = again next
     go (Err kind) again = refl
 
 -- the same, where the list has no element
-pub unmeant : (f : Faulty) (d : Drafted) (meant : List Meant) (n : ℕ) (line : List ℕ) → f ≡ record { draft = d; meant = meant } → n ≡ length meant → eqb n 0 ≡ true → None ≡ meant_line f line
+pub unmeant : (f : FaultyDraft) (d : ComponentDraft) (meant : List MeantName) (n : ℕ) (line : List ℕ) → f ≡ record { draft = d; meant = meant } → n ≡ length meant → eqb n 0 ≡ true → None ≡ meant_line f line
 unmeant f d [] n line is len e = rw is (sym (same_line d line))
 unmeant f d (m ∷ ms) n line is len e = absurd (omega (arith, eqb-true n 0 e, len))
 
@@ -62,10 +62,10 @@ pub faulty_meaning : (text : List ℕ) → meaning_of faulty_grammar text ≡ me
 faulty_meaning text = faulty_after 1 nothing (lines_of text)
 
 -- what a line does to the draft, beside the names that were only meant
-abbrev beside : Faulty → Drafted × Option LangFaultKind → Faulty × Option LangFaultKind
+abbrev beside : FaultyDraft → ComponentDraft × Option LangFaultKind → FaultyDraft × Option LangFaultKind
 beside f (d, fault) = (record f { draft = d }, fault)
 
-pub faulty_going : (f : Faulty) (d : Drafted) (fault : Option LangFaultKind) (r : Result Drafted LangFaultKind) → (d, fault) ≡ going_on f.draft r → (record f { draft = d }, fault) ≡ going_on f (with_draft f r)
+pub faulty_going : (f : FaultyDraft) (d : ComponentDraft) (fault : Option LangFaultKind) (r : Result ComponentDraft LangFaultKind) → (d, fault) ≡ going_on f.draft r → (record f { draft = d }, fault) ≡ going_on f (with_draft f r)
 faulty_going f d fault (Ok next) e = ap (beside f) e
 faulty_going f d fault (Err kind) e = ap (beside f) e
 
@@ -80,7 +80,7 @@ texts_dropped words i = sym (drop-map (λ w. w.now) i words)
 pub text_at : (words : List (Bor (List ℕ))) (i : ℕ) → slice_get (texts words) i ≡ option_map (λ w. w.now) (slice_get words i)
 text_at words i = slice_get-map (λ w. w.now) words i
 
--- a word and a space behind it
+-- a word and a space after it
 abbrev pub word_text : Bor (List ℕ) → List ℕ
 word_text w = w.now ++ codes " "
 
@@ -100,7 +100,7 @@ spaced_all text words i h = rw (taken words i h, spaced_texts words) refl
 pub behind : (words : List (Bor (List ℕ))) (k : ℕ) → take (length words - k) (drop k words) ≡ drop k words
 behind words k = taken (drop k words) (length words - k) (omega (arith, length-drop k words))
 
--- the words before a place, another, and the words behind the place
+-- the words before a place, another, and the words after the place
 pub is_line_with : (words front back : List (Bor (List ℕ))) (place : ℕ) (other a b c : List ℕ)
     → front ≡ take place words → back ≡ drop (place + 1) words → a ≡ spaced (texts front) → b ≡ a ++ other → c ≡ b ++ codes " "
     → c ++ spaced (texts back) ≡ line_with (texts words) place other

@@ -18,8 +18,8 @@ use Rattle.lu_component.specs.declared.instr.Instr.TheVariants as instr
 use Rattle.lu_component.specs.declared.component.Op.{Op}
 use Rattle.lu_lang.specs.declared.draft.Label.{Label}
 use Rattle.lu_lang.specs.declared.draft.Statement.{Statement}
-use Rattle.lu_component.specs.Component.{Declarations, IsComponent, IsInstr, EndsWell, IsOp}
-use Rattle.lu_lang.specs.Draft.{Begun, Drafted}
+use Rattle.lu_component.specs.Component.{Component, IsComponent, IsInstr, EndsWell, IsOp}
+use Rattle.lu_lang.specs.Draft.{OpenOp, ComponentDraft}
 use Rattle.lu_lang.specs.Words.{keyword_word}
 use Rattle.lu_lang.specs.Grammar.{component_grammar, label_place, label_used, is_there, are_there, is_last, ends_well, target, resolved, op_of}
 use Rattle.lu_lang.specs.ComponentText.{label_word, leads_to, instr_words, code_line, code_text, line_of_words}
@@ -73,13 +73,13 @@ no_label code n labels none are = record {
 -- ---- a line of an operation
 
 -- the draft inside an operation
-abbrev in_op : Declarations → List Op → Begun → Drafted
+abbrev in_op : Component → List Op → OpenOp → ComponentDraft
 in_op c operations b = so_far c.name (said_local c.local) c.arrays c.locks operations (Some b)
 
-abbrev begun : Word → ℕ → List Statement → Labels → Begun
+abbrev begun : Word → ℕ → List Statement → Labels → OpenOp
 begun name args statements labels = record { name = name; args = args; statements = statements; labels = labels }
 
-plain_reads : (c : Declarations) (operations : List Op) (name : Word) (args : ℕ) (statements : List Statement) (labels : Labels) (i : Instr) → IsSaid c operations i → length statements < 64
+plain_reads : (c : Component) (operations : List Op) (name : Word) (args : ℕ) (statements : List Statement) (labels : Labels) (i : Instr) → IsSaid c operations i → length statements < 64
     → Reads component_grammar (in_op c operations (begun name args statements labels)) (line_of_words (instr_words c i)) (in_op c operations (begun name args (statements ++ statement_of i ∷ []) labels))
 plain_reads c operations name args statements labels i said room =
     let k = is_keyword_word (keyword_of i) in
@@ -93,7 +93,7 @@ labelled_text label text =
     ∙ (sym (append_assoc label (58 ∷ 32 ∷ text) (10 ∷ []))
     ∙ ap (λ (t : List ℕ). t ++ 10 ∷ []) (sym (append_assoc label (58 ∷ []) (32 ∷ text))))
 
-labelled_reads : (c : Declarations) (operations : List Op) (name : Word) (args n : ℕ) (statements : List Statement) (labels : Labels) (i : Instr) → IsSaid c operations i → n ≡ length statements → n < 64 → label_at labels n ≡ None
+labelled_reads : (c : Component) (operations : List Op) (name : Word) (args n : ℕ) (statements : List Statement) (labels : Labels) (i : Instr) → IsSaid c operations i → n ≡ length statements → n < 64 → label_at labels n ≡ None
     → Reads component_grammar (in_op c operations (begun name args statements labels)) ((label_word n ++ codes ": ") ++ line_of_words (instr_words c i)) (in_op c operations (begun name args (statements ++ statement_of i ∷ []) (labels ++ label_of n ∷ [])))
 labelled_reads c operations name args n statements labels i said is room fresh =
     let k = is_keyword_word (keyword_of i) in
@@ -107,19 +107,19 @@ labelled_reads c operations name args n statements labels i said is room fresh =
 
 -- ---- the lines of an operation
 
--- from these labels on the rest of the code is read, behind what is done
-record IsRead (c : Declarations) (operations : List Op) (name : Word) (args : ℕ) (code done rest : List Instr) (labels : Labels) : Type 0 where
+-- from these labels on the rest of the code is read, after what is done
+record IsRead (c : Component) (operations : List Op) (name : Word) (args : ℕ) (code done rest : List Instr) (labels : Labels) : Type 0 where
   to : Labels
   are : AreLabels code (length code) to
   reads : Reads component_grammar (in_op c operations (begun name args (map statement_of done) labels)) (flat_map (code_line c code) (enumerate_from (length done) rest)) (in_op c operations (begun name args (map statement_of code) to))
 
-more_read : (c : Declarations) (operations : List Op) (name : Word) (args : ℕ) (code done rest : List Instr) (i : Instr) (labels next : Labels)
+more_read : (c : Component) (operations : List Op) (name : Word) (args : ℕ) (code done rest : List Instr) (i : Instr) (labels next : Labels)
     → Reads component_grammar (in_op c operations (begun name args (map statement_of done) labels)) (code_line c code (length done, i)) (in_op c operations (begun name args (map statement_of done ++ statement_of i ∷ []) next))
     → IsRead c operations name args code (done ++ i ∷ []) rest next → IsRead c operations name args code done (i ∷ rest) labels
 more_read c operations name args code done rest i labels next line is =
-    let before : Drafted = in_op c operations (begun name args (map statement_of done) labels) in
-    let between : Drafted = in_op c operations (begun name args (map statement_of done ++ statement_of i ∷ []) next) in
-    let after : Drafted = in_op c operations (begun name args (map statement_of code) is.to) in
+    let before : ComponentDraft = in_op c operations (begun name args (map statement_of done) labels) in
+    let between : ComponentDraft = in_op c operations (begun name args (map statement_of done ++ statement_of i ∷ []) next) in
+    let after : ComponentDraft = in_op c operations (begun name args (map statement_of code) is.to) in
     let rest_text : List ℕ = flat_map (code_line c code) (enumerate_from (length done + 1) rest) in
     let others : Reads component_grammar between rest_text after = rw (map_push statement_of done i, length_push done i) at is.reads in
     record {
@@ -128,7 +128,7 @@ more_read c operations name args code done rest i labels next line is =
       reads = reads_on component_grammar before between after (code_line c code (length done, i)) rest_text line others;
     }
 
-code_read : (c : Declarations) (operations : List Op) (name : Word) (args : ℕ) (code done rest : List Instr) (labels : Labels) → code ≡ done ++ rest → AllByRecursion (IsSaid c operations) rest → length code ≤ 64 → AreLabels code (length done) labels
+code_read : (c : Component) (operations : List Op) (name : Word) (args : ℕ) (code done rest : List Instr) (labels : Labels) → code ≡ done ++ rest → AllByRecursion (IsSaid c operations) rest → length code ≤ 64 → AreLabels code (length done) labels
     → IsRead c operations name args code done rest labels
 code_read c operations name args code done [] labels is said few are =
     let same : code ≡ done = is ∙ append-nil done in
@@ -229,10 +229,10 @@ last_again (Some (instr.Jump t)) h = refl
 last_again (Some (instr.JumpIfZero v t)) h = absurd h
 last_again (Some (instr.Return v)) h = refl
 
-end_reads : (c : Declarations) (operations : List Op) (op : Op) (labels : Labels) → AllByRecursion (IsResolved labels) op.code → EndsWell (slice_get op.code (length op.code - 1))
+end_reads : (c : Component) (operations : List Op) (op : Op) (labels : Labels) → AllByRecursion (IsResolved labels) op.code → EndsWell (slice_get op.code (length op.code - 1))
     → Reads component_grammar (in_op c operations (begun op.name op.args (map statement_of op.code) labels)) (line_of_words (codes "end" ∷ [])) (so_far c.name (said_local c.local) c.arrays c.locks (operations ++ op ∷ []) None)
 end_reads c operations op labels each ends =
-    let b : Begun = begun op.name op.args (map statement_of op.code) labels in
+    let b : OpenOp = begun op.name op.args (map statement_of op.code) labels in
     let n : length (map statement_of op.code) ≡ length op.code = simp length-map in
     let well : ends_well b ≡ true = rw (n, slice_get-map statement_of op.code (length op.code - 1)) (last_again (slice_get op.code (length op.code - 1)) ends) in
     let found : are_there b ≡ true = all_there labels op.code each in
@@ -242,7 +242,7 @@ end_reads c operations op labels each ends =
 
 -- ---- operations
 
-pub operation_read : (c : Declarations) → IsComponent c → (operations : List Op) (op : Op) → IsOp (length c.arrays) (length c.locks) op
+pub operation_read : (c : Component) → IsComponent c → (operations : List Op) (op : Op) → IsOp (length c.arrays) (length c.locks) op
     → Reads component_grammar (so_far c.name (said_local c.local) c.arrays c.locks operations (Some (record { name = op.name; args = op.args; statements = []; labels = [] }))) (code_text c op.code ++ line_of_words (codes "end" ∷ [])) (so_far c.name (said_local c.local) c.arrays c.locks (operations ++ op ∷ []) None)
 operation_read c is operations op h =
     let instrs = recursion_from_All (IsInstr (length c.arrays) (length c.locks) (length op.code)) op.code h.code.instrs in

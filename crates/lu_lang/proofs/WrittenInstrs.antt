@@ -22,8 +22,8 @@ use Rattle.lu_lang.specs.declared.draft.Statement.{Statement}
 use Rattle.lu_lang.specs.declared.draft.Statement.TheVariants.{Plain, Jump, JumpIfZero}
 use Rattle.lu_lang.specs.declared.keyword.Keyword.{Keyword}
 use Rattle.lu_lang.specs.declared.keyword.Keyword.TheVariants as keyword
-use Rattle.lu_component.specs.Component.{Declarations, IsComponent, IsArray, IsInstr}
-use Rattle.lu_lang.specs.Draft.{Drafted}
+use Rattle.lu_component.specs.Component.{Component, IsComponent, IsArray, IsInstr}
+use Rattle.lu_lang.specs.Draft.{ComponentDraft}
 use Rattle.lu_lang.specs.Words.{keyword_word, register_in, operand_in}
 use Rattle.lu_lang.specs.Grammar.{set_line, compute_line, load_line, cas_line, locked, cell_and_value, pick_line, jump_line, jump_if_zero_line, return_line, statement}
 use Rattle.lu_component.specs.Operands.{register_word, operand_word}
@@ -49,16 +49,16 @@ record IsLockWord (locks : List Word) (word : Word) (k : ℕ) : Type 0 where
   name : IsNameWord word
   place : position (λ l. bytes_eq l word) locks ≡ Some k
 
-load_says : (d : Drafted) (dst array i : Word) (to k : ℕ) (o : Operand) → register_in dst ≡ Some to → IsArrayWord d.arrays array k → operand_in i ≡ Some o → load_line d (Some (dst, array, i)) ≡ Ok (Plain (instr.Load to k o))
+load_says : (d : ComponentDraft) (dst array i : Word) (to k : ℕ) (o : Operand) → register_in dst ≡ Some to → IsArrayWord d.arrays array k → operand_in i ≡ Some o → load_line d (Some (dst, array, i)) ≡ Ok (Plain (instr.Load to k o))
 load_says d dst array i to k o r a x = rw (r, a.name.form, a.name.short, a.place, x) refl
 
-cas_says : (d : Drafted) (dst array i old new : Word) (to k : ℕ) (o p q : Operand) → register_in dst ≡ Some to → IsArrayWord d.arrays array k → operand_in i ≡ Some o → operand_in old ≡ Some p → operand_in new ≡ Some q → cas_line d (Some (dst, array, i, old, new)) ≡ Ok (Plain (instr.Cas to k o p q))
+cas_says : (d : ComponentDraft) (dst array i old new : Word) (to k : ℕ) (o p q : Operand) → register_in dst ≡ Some to → IsArrayWord d.arrays array k → operand_in i ≡ Some o → operand_in old ≡ Some p → operand_in new ≡ Some q → cas_line d (Some (dst, array, i, old, new)) ≡ Ok (Plain (instr.Cas to k o p q))
 cas_says d dst array i old new to k o p q r a x y z = rw (r, a.name.form, a.name.short, a.place, x, y, z) refl
 
-lock_says : (d : Drafted) (lock : Word) (k : ℕ) → IsLockWord d.locks lock k → locked d (Some lock) ≡ Ok k
+lock_says : (d : ComponentDraft) (lock : Word) (k : ℕ) → IsLockWord d.locks lock k → locked d (Some lock) ≡ Ok k
 lock_says d lock k l = rw (l.name.form, l.name.short, l.place) refl
 
-cell_says : (d : Drafted) (array i v : Word) (k : ℕ) (o q : Operand) → IsArrayWord d.arrays array k → operand_in i ≡ Some o → operand_in v ≡ Some q → cell_and_value d (Some (array, i, v)) ≡ Ok (k, o, q)
+cell_says : (d : ComponentDraft) (array i v : Word) (k : ℕ) (o q : Operand) → IsArrayWord d.arrays array k → operand_in i ≡ Some o → operand_in v ≡ Some q → cell_and_value d (Some (array, i, v)) ≡ Ok (k, o, q)
 cell_says d array i v k o q a x y = rw (a.name.form, a.name.short, a.place, x, y) refl
 
 pick_says : (dst count : Word) (to n : ℕ) → register_in dst ≡ Some to → value_in count ≡ Some n → 1 ≤ n → n ≤ 8 → pick_line (Some (dst, count)) ≡ Ok (Plain (instr.Pick to n))
@@ -75,7 +75,7 @@ return_says v o x = rw x refl
 
 -- ---- what is declared
 
-is_array_word : (c : Declarations) → IsComponent c → (k : ℕ) → k < length c.arrays → IsArrayWord c.arrays (array_word c k) k
+is_array_word : (c : Component) → IsComponent c → (k : ℕ) → k < length c.arrays → IsArrayWord c.arrays (array_word c k) k
 is_array_word c is k h = record {
   name = is_name_word (array_word c k) (name_has IsName (λ a. a.name) c.arrays k h (each_weaker IsArray (λ a. IsName a.name) (λ a x. x.name) c.arrays (recursion_from_All IsArray c.arrays is.arrays)));
   place = place_at (λ a. a.name) c.arrays k h is.arrays_apart;
@@ -89,7 +89,7 @@ pub same_locks : (locks : List Word) → map (λ l. l) locks ≡ locks
 same_locks [] = refl
 same_locks (l ∷ locks) = ap (λ (ls : List Word). l ∷ ls) (same_locks locks)
 
-is_lock_word : (c : Declarations) → IsComponent c → (k : ℕ) → k < length c.locks → IsLockWord c.locks (lock_word c k) k
+is_lock_word : (c : Component) → IsComponent c → (k : ℕ) → k < length c.locks → IsLockWord c.locks (lock_word c k) k
 is_lock_word c is k h =
     let same : name_at (λ l. l) c.locks k ≡ lock_word c k = lock_name (slice_get c.locks k) in
     rw (← same) (record {
@@ -114,7 +114,7 @@ keyword_of (instr.Jump target) = keyword.Jump
 keyword_of (instr.JumpIfZero v target) = keyword.JumpIfZero
 keyword_of (instr.Return v) = keyword.Return
 
-abbrev pub arguments_of : Declarations → Instr → List Word
+abbrev pub arguments_of : Component → Instr → List Word
 arguments_of c (instr.Set to v) = register_word to ∷ operand_word v ∷ []
 arguments_of c (instr.Compute by to a b) = register_word to ∷ operand_word a ∷ operand_word b ∷ []
 arguments_of c (instr.Load to array i) = register_word to ∷ array_word c array ∷ operand_word i ∷ []
@@ -146,7 +146,7 @@ statement_of (instr.JumpIfZero v target) = JumpIfZero v (label_word target)
 statement_of (instr.Return v) = Plain (instr.Return v)
 
 -- the words of the instruction say it again, beside these operations
-pub record IsSaid (c : Declarations) (operations : List Op) (i : Instr) : Type 0 where
+pub record IsSaid (c : Component) (operations : List Op) (i : Instr) : Type 0 where
   pub words : instr_words c i ≡ keyword_word (keyword_of i) ∷ arguments_of c i
   pub text : AreText (arguments_of c i)
   pub says : statement (so_far c.name (said_local c.local) c.arrays c.locks operations None) (Some (keyword_of i)) (arguments_of c i) ≡ Ok (statement_of i)
@@ -154,7 +154,7 @@ pub record IsSaid (c : Declarations) (operations : List Op) (i : Instr) : Type 0
 label_is_word : (target places : ℕ) → target < places → places ≤ 64 → IsNameWord (label_word target)
 label_is_word target places h few = is_name_word (label_word target) (label_name target (omega arith))
 
-pub is_said : (c : Declarations) → IsComponent c → (operations : List Op) (places : ℕ) → places ≤ 64 → (i : Instr) → IsInstr (length c.arrays) (length c.locks) places i → IsSaid c operations i
+pub is_said : (c : Component) → IsComponent c → (operations : List Op) (places : ℕ) → places ≤ 64 → (i : Instr) → IsInstr (length c.arrays) (length c.locks) places i → IsSaid c operations i
 is_said c is operations places few (instr.Set to v) (h, p) =
     let r = is_register_word to h in
     let x = is_operand_word v p in

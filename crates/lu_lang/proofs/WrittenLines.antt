@@ -15,7 +15,7 @@ use Rattle.lu_text.proofs.WordText.{literal_text, number_text, value_again}
 use Rattle.lu_component.specs.declared.component.Array.{Array}
 use Rattle.lu_component.specs.declared.component.Op.{Op}
 use Rattle.lu_component.specs.Component.{AreDistinct, IsArray}
-use Rattle.lu_lang.specs.Draft.{Begun, Drafted, nothing}
+use Rattle.lu_lang.specs.Draft.{OpenOp, ComponentDraft, nothing}
 use Rattle.lu_lang.specs.Grammar.{by_words, line_of, local_line, array_line, lock_line, op_line, component_line, component_grammar}
 use Rattle.lu_lang.specs.ComponentText.{line_of_words, local_text, array_text, lock_text}
 use Rattle.lu_component.proofs.Named.{not_yet}
@@ -24,19 +24,19 @@ use Rattle.lu_lang.proofs.WrittenWords.{is_name_word}
 -- ---- one line
 
 -- words that are written with one space between them are read
-pub line_reads : (d to : Drafted) (words : List Word) → AreText words → by_words d words ≡ Ok to → Reads component_grammar d (line_of_words words) to
+pub line_reads : (d to : ComponentDraft) (words : List Word) → AreText words → by_words d words ≡ Ok to → Reads component_grammar d (line_of_words words) to
 unfolding line_of
 line_reads d to words are e =
     let bytes = words_line words are in
     reads_line component_grammar d to _ (one_line _ bytes) (rw (allowed_line _ bytes, words_again words are) e)
 
 -- what is declared so far
-abbrev pub so_far : Word → Option ℕ → List Array → List Word → List Op → Option Begun → Drafted
+abbrev pub so_far : Word → Option ℕ → List Array → List Word → List Op → Option OpenOp → ComponentDraft
 so_far name local arrays locks operations begun = record { name = Some name; local = local; arrays = arrays; locks = locks; operations = operations; begun = begun }
 
 -- ---- `component`
 
-component_says : (d : Drafted) (name : Word) → has_name_form name ≡ true → is_long name ≡ false → component_line d (Some name) ≡ Ok (record d { name = Some name })
+component_says : (d : ComponentDraft) (name : Word) → has_name_form name ≡ true → is_long name ≡ false → component_line d (Some name) ≡ Ok (record d { name = Some name })
 component_says d name form short = rw (form, short) refl
 
 pub component_reads : (name : Word) → IsName name → Reads component_grammar nothing (line_of_words (codes "component" ∷ name ∷ [])) (so_far name None [] [] [] None)
@@ -74,7 +74,7 @@ local_said local = by_test (local == 0) refl
 
 -- ---- `word`
 
-array_says : (d : Drafted) (name len init : Word) (a b : ℕ) → has_name_form name ≡ true → is_long name ≡ false → value_in len ≡ Some a → value_in init ≡ Some b → length d.arrays < 16 → 1 ≤ a → a ≤ 64 → position (λ x. bytes_eq x.name name) d.arrays ≡ None
+array_says : (d : ComponentDraft) (name len init : Word) (a b : ℕ) → has_name_form name ≡ true → is_long name ≡ false → value_in len ≡ Some a → value_in init ≡ Some b → length d.arrays < 16 → 1 ≤ a → a ≤ 64 → position (λ x. bytes_eq x.name name) d.arrays ≡ None
     → array_line d (Some (name, len, init)) ≡ Ok (record d { arrays = d.arrays ++ record { name = name; len = a; init = b } ∷ [] })
 array_says d name len init a b form short l i room some few new =
     rw (form, short, l, i, lt-leb 16 (length d.arrays) room, le-ltb a 1 some, le-ltb 64 a few, new) refl
@@ -104,7 +104,7 @@ arrays_read name local all done (array ∷ rest) is each few apart =
 
 -- ---- `lock`
 
-lock_says : (d : Drafted) (name : Word) → has_name_form name ≡ true → is_long name ≡ false → length d.locks < 8 → position (λ x. bytes_eq x name) d.locks ≡ None
+lock_says : (d : ComponentDraft) (name : Word) → has_name_form name ≡ true → is_long name ≡ false → length d.locks < 8 → position (λ x. bytes_eq x name) d.locks ≡ None
     → lock_line d (Some name) ≡ Ok (record d { locks = d.locks ++ name ∷ [] })
 lock_says d name form short room new = rw (form, short, lt-leb 8 (length d.locks) room, new) refl
 
@@ -132,7 +132,7 @@ locks_read name local arrays all done (lock ∷ rest) is each few apart =
 
 -- ---- `op`
 
-op_says : (d : Drafted) (name args : Word) (n : ℕ) → has_name_form name ≡ true → is_long name ≡ false → value_in args ≡ Some n → length d.operations < 16 → n ≤ 4 → position (λ o. bytes_eq o.name name) d.operations ≡ None
+op_says : (d : ComponentDraft) (name args : Word) (n : ℕ) → has_name_form name ≡ true → is_long name ≡ false → value_in args ≡ Some n → length d.operations < 16 → n ≤ 4 → position (λ o. bytes_eq o.name name) d.operations ≡ None
     → op_line d (Some (name, args)) ≡ Ok (record d { begun = Some (record { name = name; args = n; statements = []; labels = [] }) })
 op_says d name args n form short value room few new =
     rw (form, short, value, lt-leb 16 (length d.operations) room, le-ltb 4 n few, new) refl

@@ -11,16 +11,16 @@ use Rattle.lu_component.specs.declared.instr.Instr.TheVariants.{Set, Compute, Lo
 use Rattle.lu_lang.specs.declared.keyword.Keyword.TheVariants as keyword
 use Rattle.lu_component.specs.declared.component.Array.{Array}
 use Rattle.lu_component.specs.declared.component.Op.{Op}
-use Rattle.lu_component.specs.Component.{Declarations}
+use Rattle.lu_component.specs.Component.{Component}
 use Rattle.lu_component.specs.Operands.{register_word, operand_word}
 use Rattle.lu_lang.specs.Words.{keyword_word}
 
 -- ---- words
 
-abbrev pub array_word : Declarations → ℕ → Word
+abbrev pub array_word : Component → ℕ → Word
 array_word c array = unwrap_or (option_map (λ a. a.name) (slice_get c.arrays array)) []
 
-abbrev pub lock_word : Declarations → ℕ → Word
+abbrev pub lock_word : Component → ℕ → Word
 lock_word c lock = unwrap_or (slice_get c.locks lock) []
 
 -- the name of the label at this place
@@ -30,10 +30,10 @@ label_word place = codes "L" ++ decimal place
 -- ---- instructions
 
 -- a keyword, a cell of an array, and a value
-abbrev pub cell_words : Declarations → Word → ℕ → Operand → Operand → List Word
+abbrev pub cell_words : Component → Word → ℕ → Operand → Operand → List Word
 cell_words c word array i v = word ∷ array_word c array ∷ operand_word i ∷ operand_word v ∷ []
 
-abbrev pub instr_words : Declarations → Instr → List Word
+abbrev pub instr_words : Component → Instr → List Word
 instr_words c (Set to v) = keyword_word keyword.Set ∷ register_word to ∷ operand_word v ∷ []
 instr_words c (Compute by to a b) =
     keyword_word (keyword.Compute by) ∷ register_word to ∷ operand_word a ∷ operand_word b ∷ []
@@ -54,11 +54,11 @@ instr_words c (JumpIfZero v target) =
 instr_words c (Return v) = keyword_word keyword.Return ∷ operand_word v ∷ []
 
 -- one space between its words
-abbrev pub spelled : Declarations → Instr → List ℕ
+abbrev pub spelled : Component → Instr → List ℕ
 spelled c i = join_with_byte 32 (instr_words c i)
 
 -- the same of a keyword, a cell and a value
-abbrev pub cell_text : Declarations → Word → ℕ → Operand → Operand → List ℕ
+abbrev pub cell_text : Component → Word → ℕ → Operand → Operand → List ℕ
 cell_text c word array i v = join_with_byte 32 (cell_words c word array i v)
 
 abbrev pub leads_to : ℕ → Instr → Bool
@@ -88,23 +88,23 @@ array_text array =
 abbrev pub lock_text : List ℕ → List ℕ
 lock_text name = line_of_words (codes "lock" ∷ name ∷ [])
 
--- the line of the instruction at a place, behind its label
-abbrev pub code_line : Declarations → List Instr → ℕ × Instr → List ℕ
+-- the line of the instruction at a place, after its label
+abbrev pub code_line : Component → List Instr → ℕ × Instr → List ℕ
 code_line c code (place, instr) = label_text code place ++ line_of_words (instr_words c instr)
 
-abbrev pub code_text : Declarations → List Instr → List ℕ
+abbrev pub code_text : Component → List Instr → List ℕ
 code_text c code = flat_map (code_line c code) (enumerate_from 0 code)
 
-abbrev pub op_text : Declarations → Op → List ℕ
+abbrev pub op_text : Component → Op → List ℕ
 op_text c op =
     line_of_words (codes "op" ∷ op.name ∷ decimal op.args ∷ [])
     ++ code_text c op.code
     ++ line_of_words (codes "end" ∷ [])
 
-abbrev pub operations_text : Declarations → List ℕ
+abbrev pub operations_text : Component → List ℕ
 operations_text c = flat_map (op_text c) c.operations
 
-abbrev pub component_text : Declarations → List ℕ
+abbrev pub component_text : Component → List ℕ
 component_text c =
     line_of_words (codes "component" ∷ c.name ∷ [])
     ++ local_text c.local

@@ -22,8 +22,8 @@ use Rattle.lu_lang.specs.declared.keyword.Keyword.TheVariants as keyword
 use Rattle.lu_lang.specs.declared.fault.LangFaultKind.{LangFaultKind}
 use Rattle.lu_lang.specs.declared.fault.LangFaultKind.TheVariants.{Byte, Missing, Form, Number, Limit, Flow, Name}
 use Rattle.lu_lang.specs.Kinds.{rank}
-use Rattle.lu_component.specs.Component.{Declarations, operation_place}
-use Rattle.lu_lang.specs.Draft.{Begun, Drafted, nothing, named}
+use Rattle.lu_component.specs.Component.{Component, operation_number}
+use Rattle.lu_lang.specs.Draft.{OpenOp, ComponentDraft, nothing, named}
 use Rattle.lu_lang.specs.Words.{keyword_in, register_in, operand_in}
 
 -- ---- words
@@ -49,32 +49,32 @@ is_operand word = is_some (operand_in word)
 
 -- ---- what is declared so far
 
-abbrev pub array_place : Drafted → Word → Option ℕ
+abbrev pub array_place : ComponentDraft → Word → Option ℕ
 array_place d name = position (λ a. bytes_eq a.name name) d.arrays
 
-abbrev pub lock_place : Drafted → Word → Option ℕ
+abbrev pub lock_place : ComponentDraft → Word → Option ℕ
 lock_place d name = position (λ l. bytes_eq l name) d.locks
 
 abbrev pub label_place : List Label → Word → Option ℕ
 label_place labels name = position (λ l. bytes_eq l.name name) labels
 
-abbrev pub array_number : Drafted → Word → ℕ
+abbrev pub array_number : ComponentDraft → Word → ℕ
 array_number d name = unwrap_or (array_place d name) 0
 
-abbrev pub lock_number : Drafted → Word → ℕ
+abbrev pub lock_number : ComponentDraft → Word → ℕ
 lock_number d name = unwrap_or (lock_place d name) 0
 
 -- ---- declarations, outside an operation
 
 -- `component NAME`, the first line with words
-abbrev pub component_line : Drafted → Option Word → Result Drafted LangFaultKind
+abbrev pub component_line : ComponentDraft → Option Word → Result ComponentDraft LangFaultKind
 component_line d None = Err Form
 component_line d (Some name) =
     says ((not (has_name_form name), Form) ∷ (is_long name, Limit) ∷ [])
     (record d { name = Some name })
 
 -- `local L`, once, and before the first operation
-abbrev pub local_line : Drafted → Option Word → Result Drafted LangFaultKind
+abbrev pub local_line : ComponentDraft → Option Word → Result ComponentDraft LangFaultKind
 local_line d None = Err Form
 local_line d (Some most) =
     says ((is_some d.local || nat_le 1 (length d.operations), Form)
@@ -83,7 +83,7 @@ local_line d (Some most) =
     (record d { local = Some (value most) })
 
 -- `word NAME LEN INIT`
-abbrev pub array_line : Drafted → Option (Word × Word × Word) → Result Drafted LangFaultKind
+abbrev pub array_line : ComponentDraft → Option (Word × Word × Word) → Result ComponentDraft LangFaultKind
 array_line d None = Err Form
 array_line d (Some (name, len, init)) =
     says ((not (has_name_form name), Form)
@@ -98,7 +98,7 @@ array_line d (Some (name, len, init)) =
     { arrays = d.arrays ++ record { name = name; len = value len; init = value init } ∷ [] })
 
 -- `lock NAME`
-abbrev pub lock_line : Drafted → Option Word → Result Drafted LangFaultKind
+abbrev pub lock_line : ComponentDraft → Option Word → Result ComponentDraft LangFaultKind
 lock_line d None = Err Form
 lock_line d (Some name) =
     says ((not (has_name_form name), Form)
@@ -107,17 +107,17 @@ lock_line d (Some name) =
     (record d { locks = d.locks ++ name ∷ [] })
 
 -- `op NAME ARGS`
-abbrev pub op_line : Drafted → Option (Word × Word) → Result Drafted LangFaultKind
+abbrev pub op_line : ComponentDraft → Option (Word × Word) → Result ComponentDraft LangFaultKind
 op_line d None = Err Form
 op_line d (Some (name, args)) =
     says ((not (has_name_form name), Form)
     ∷ (not (is_value args), Number)
     ∷ (is_long name || (nat_le 16 (length d.operations) || nat_lt 4 (value args)), Limit)
-    ∷ (is_some (operation_place d.operations name), Name) ∷ [])
+    ∷ (is_some (operation_number d.operations name), Name) ∷ [])
     (record d
     { begun = Some (record { name = name; args = value args; statements = []; labels = [] }) })
 
-abbrev pub declaration : Drafted → Word → List Word → Result Drafted LangFaultKind
+abbrev pub declaration : ComponentDraft → Word → List Word → Result ComponentDraft LangFaultKind
 declaration d word words =
     if bytes_eq word (codes "word") then array_line d (exactly_three words)
     else (if bytes_eq word (codes "lock") then lock_line d (exactly_one words)
@@ -142,13 +142,13 @@ compute_line arithmetic (Some (dst, a, b)) =
     (Plain (instr.Compute arithmetic (register dst) (operand a) (operand b)))
 
 -- the number of a declared array, or what is wrong with its name
-abbrev pub declared_array : Drafted → Word → Result ℕ LangFaultKind
+abbrev pub declared_array : ComponentDraft → Word → Result ℕ LangFaultKind
 declared_array d name =
     says ((is_long name, Limit) ∷ (not (is_some (array_place d name)), Name) ∷ [])
     (array_number d name)
 
 -- `load rD W i`
-abbrev pub load_line : Drafted → Option (Word × Word × Word) → Result Statement LangFaultKind
+abbrev pub load_line : ComponentDraft → Option (Word × Word × Word) → Result Statement LangFaultKind
 load_line d None = Err Form
 load_line d (Some (dst, array, i)) =
     says ((not (is_register dst) || not (has_name_form array), Form)
@@ -158,7 +158,7 @@ load_line d (Some (dst, array, i)) =
     (Plain (instr.Load (register dst) (array_number d array) (operand i)))
 
 -- `cas rD W i old new`
-abbrev pub cas_line : Drafted → Option (Word × Word × Word × Word × Word)
+abbrev pub cas_line : ComponentDraft → Option (Word × Word × Word × Word × Word)
     → Result Statement LangFaultKind
 cas_line d None = Err Form
 cas_line d (Some (dst, array, i, old, new)) =
@@ -175,7 +175,7 @@ as_plain instruction (Ok x) = Ok (Plain (instruction x))
 as_plain instruction (Err kind) = Err kind
 
 -- the lock of `lock L` and `unlock L`
-abbrev pub locked : Drafted → Option Word → Result ℕ LangFaultKind
+abbrev pub locked : ComponentDraft → Option Word → Result ℕ LangFaultKind
 locked d None = Err Form
 locked d (Some lock) =
     says ((not (has_name_form lock), Form)
@@ -184,7 +184,7 @@ locked d (Some lock) =
     (lock_number d lock)
 
 -- the array, the index and the value of `store W i v`, `await W i v` and `awaitne W i v`
-abbrev pub cell_and_value : Drafted → Option (Word × Word × Word)
+abbrev pub cell_and_value : ComponentDraft → Option (Word × Word × Word)
     → Result (ℕ × Operand × Operand) LangFaultKind
 cell_and_value d None = Err Form
 cell_and_value d (Some (array, i, v)) =
@@ -224,7 +224,7 @@ return_line None = Err Form
 return_line (Some v) = says ((not (is_operand v), Number) ∷ []) (Plain (instr.Return (operand v)))
 
 -- by the keyword; no word that is none begins an instruction
-abbrev pub statement : Drafted → Option Keyword → List Word → Result Statement LangFaultKind
+abbrev pub statement : ComponentDraft → Option Keyword → List Word → Result Statement LangFaultKind
 statement d None words = Err Form
 statement d (Some keyword.Set) words = set_line (exactly_two words)
 statement d (Some (keyword.Compute arithmetic)) words =
@@ -260,7 +260,7 @@ label_in word =
     if slice_index word (length word - 1) == 58 then Some (take (length word - 1) word) else None
 
 -- what is wrong with a label, and with one more instruction
-abbrev pub place_fault : Begun → Option Word → Option LangFaultKind
+abbrev pub place_fault : OpenOp → Option Word → Option LangFaultKind
 place_fault b None = if nat_le 64 (length b.statements) then Some Limit else None
 place_fault b (Some label) =
     if not (has_name_form label) then Some Form
@@ -268,29 +268,29 @@ place_fault b (Some label) =
     else (if is_some (label_place b.labels label) then Some Name
     else None))
 
-abbrev pub with_label : Begun → Option Word → List Label
+abbrev pub with_label : OpenOp → Option Word → List Label
 with_label b None = b.labels
 with_label b (Some label) = b.labels ++ record { name = label; place = length b.statements } ∷ []
 
 -- the open operation with this label and instruction
-abbrev pub with_statement : Begun → Option Word → Statement → Begun
+abbrev pub with_statement : OpenOp → Option Word → Statement → OpenOp
 with_statement b label s =
     record b { statements = b.statements ++ s ∷ []; labels = with_label b label }
 
-abbrev pub placed : Drafted → Begun → Option Word → Option LangFaultKind
+abbrev pub placed : ComponentDraft → OpenOp → Option Word → Option LangFaultKind
     → Result Statement LangFaultKind
-    → Result Drafted LangFaultKind
+    → Result ComponentDraft LangFaultKind
 placed d b label fault (Ok s) = or_else fault (record d { begun = Some (with_statement b label s) })
 placed d b label fault (Err kind) = or_else (sooner fault (Some kind)) d
 
 -- the label's fault or the instruction's, that which is looked for first; or one instruction more
-abbrev pub instr_line : Drafted → Begun → Option Word → Word → List Word
-    → Result Drafted LangFaultKind
+abbrev pub instr_line : ComponentDraft → OpenOp → Option Word → Word → List Word
+    → Result ComponentDraft LangFaultKind
 instr_line d b label word words =
     placed d b label (place_fault b label) (statement d (keyword_in word) words)
 
--- an instruction behind a label
-abbrev pub labelled : Drafted → Begun → Word → List Word → Result Drafted LangFaultKind
+-- an instruction after a label
+abbrev pub labelled : ComponentDraft → OpenOp → Word → List Word → Result ComponentDraft LangFaultKind
 labelled d b label [] = Err Form
 labelled d b label (word ∷ words) = instr_line d b (Some label) word words
 
@@ -310,7 +310,7 @@ abbrev pub all_there : List Label → List Statement → Bool
 all_there labels statements = list_all (λ s. is_there labels (label_used s)) statements
 
 -- each label that is used is there
-abbrev pub are_there : Begun → Bool
+abbrev pub are_there : OpenOp → Bool
 are_there b = all_there b.labels b.statements
 
 abbrev pub is_last : Option Statement → Bool
@@ -319,7 +319,7 @@ is_last (Some (Plain (instr.Return v))) = true
 is_last _ = false
 
 -- there is an instruction, and the last is `return` or `jump`
-abbrev pub ends_well : Begun → Bool
+abbrev pub ends_well : OpenOp → Bool
 ends_well b = is_last (slice_get b.statements (length b.statements - 1))
 
 -- the place of a label
@@ -333,10 +333,10 @@ resolved labels (Plain i) = i
 resolved labels (Jump label) = instr.Jump (target labels label)
 resolved labels (JumpIfZero v label) = instr.JumpIfZero v (target labels label)
 
-abbrev pub op_of : Begun → Op
+abbrev pub op_of : OpenOp → Op
 op_of b = record { name = b.name; args = b.args; code = map (resolved b.labels) b.statements }
 
-abbrev pub end_line : Drafted → Begun → List Word → Result Drafted LangFaultKind
+abbrev pub end_line : ComponentDraft → OpenOp → List Word → Result ComponentDraft LangFaultKind
 end_line d b [] =
     says ((not (ends_well b), Flow) ∷ (not (are_there b), Name) ∷ [])
     (record d { operations = d.operations ++ op_of b ∷ []; begun = None })
@@ -345,46 +345,46 @@ end_line d b (word ∷ words) = Err Form
 -- ---- lines
 
 -- by the label, or none, that the first word is
-abbrev pub by_label : Drafted → Begun → Option Word → Word → List Word
-    → Result Drafted LangFaultKind
+abbrev pub by_label : ComponentDraft → OpenOp → Option Word → Word → List Word
+    → Result ComponentDraft LangFaultKind
 by_label d b None word words =
     if bytes_eq word (codes "end") then end_line d b words else instr_line d b None word words
 by_label d b (Some label) word words = labelled d b label words
 
 -- a line inside an operation
-abbrev pub inside : Drafted → Begun → Word → List Word → Result Drafted LangFaultKind
+abbrev pub inside : ComponentDraft → OpenOp → Word → List Word → Result ComponentDraft LangFaultKind
 inside d b word words = by_label d b (label_in word) word words
 
-abbrev pub component_first : Drafted → Word → List Word → Result Drafted LangFaultKind
+abbrev pub component_first : ComponentDraft → Word → List Word → Result ComponentDraft LangFaultKind
 component_first d word words =
     if bytes_eq word (codes "component") then component_line d (exactly_one words) else Err Missing
 
 -- what is declared, without the open operation
-abbrev pub closed : Drafted → Drafted
+abbrev pub closed : ComponentDraft → ComponentDraft
 closed d = record d { begun = None }
 
 -- The first line with words is the `component` line. Then come declarations, and in an open
 -- operation instructions.
-abbrev pub by_state : Drafted → Option Word → Option Begun → Word → List Word
-    → Result Drafted LangFaultKind
+abbrev pub by_state : ComponentDraft → Option Word → Option OpenOp → Word → List Word
+    → Result ComponentDraft LangFaultKind
 by_state d None begun word words = component_first d word words
 by_state d (Some name) None word words = declaration d word words
 by_state d (Some name) (Some b) word words = inside (closed d) b word words
 
-abbrev pub by_words : Drafted → List Word → Result Drafted LangFaultKind
+abbrev pub by_words : ComponentDraft → List Word → Result ComponentDraft LangFaultKind
 by_words d [] = Ok d
 by_words d (word ∷ words) = by_state d d.name d.begun word words
 
-unfoldable pub line_of : Drafted → List ℕ → Result Drafted LangFaultKind
+unfoldable pub line_of : ComponentDraft → List ℕ → Result ComponentDraft LangFaultKind
 line_of d line = if list_all is_allowed line then by_words d (words_of line) else Err Byte
 
-abbrev pub declared : Drafted → Option Word → Option Begun → Result Declarations LangFaultKind
+abbrev pub declared : ComponentDraft → Option Word → Option OpenOp → Result Component LangFaultKind
 declared d None begun = Err Missing
 declared d (Some name) (Some b) = Err Missing
 declared d (Some name) None = Ok (named d name)
 
 -- the text of a component
-abbrev pub component_grammar : Grammar LangFaultKind Drafted Declarations
+abbrev pub component_grammar : Grammar LangFaultKind ComponentDraft Component
 component_grammar = record {
   nothing = nothing;
   line = line_of;

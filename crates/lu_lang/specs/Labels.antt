@@ -9,7 +9,7 @@ use Rattle.lu_text.specs.Faults.{meaning_of}
 use Rattle.lu_component.specs.declared.instr.Instr.{Instr}
 use Rattle.lu_component.specs.declared.instr.Instr.TheVariants.{Jump, JumpIfZero}
 use Rattle.lu_component.specs.declared.component.Op.{Op}
-use Rattle.lu_component.specs.Component.{Declarations}
+use Rattle.lu_component.specs.Component.{Component}
 use Rattle.lu_lang.specs.declared.keyword.Keyword.{Keyword}
 use Rattle.lu_lang.specs.declared.keyword.Keyword.TheVariants as keyword
 use Rattle.lu_lang.specs.Words.{keyword_in}
@@ -71,7 +71,7 @@ by_operation tells text = marks_of_lines tells nothing_marked (lines_of text)
 abbrev pub name_if : Word → Option Word
 name_if word = if has_name_form word && not (is_long word) then Some word else None
 
--- the label of a line: a name with a colon behind it, where its first word is one
+-- the label of a line: a name with a colon after it, where its first word is one
 abbrev pub label_on : List Word → Option Word
 label_on [] = None
 label_on (first ∷ words) = option_and_then name_if (label_in first)
@@ -105,7 +105,7 @@ abbrev pub jump_of : List Word → Option Word
 jump_of [] = None
 jump_of (word ∷ words) = label_named (keyword_in word) words
 
--- the label that a line jumps to, behind its own label or without one
+-- the label that a line jumps to, after its own label or without one
 abbrev pub jump_on : List Word → Option Word
 jump_on [] = None
 jump_on (first ∷ words) =
@@ -135,5 +135,5 @@ AreTargets operations labels jumps = ⊥
 -- in a text that is read, the labels stand where its jumps lead
 abbrev pub JumpsLeadToLabels : Type 0
 JumpsLeadToLabels =
-    (text : List ℕ) (c : Declarations) → meaning_of component_grammar text ≡ Ok c →
+    (text : List ℕ) (c : Component) → meaning_of component_grammar text ≡ Ok c →
     AreTargets c.operations (labels_of text) (jumps_of text)

@@ -1,5 +1,5 @@
 -- A line is read as its writer meant it: a declaration with a fault was to declare a name, and the
--- lines behind it may use that name.
+-- lines after it may use that name.
 use Rattle.std.specs.Prelude.{ℕ, ◌+◌, Bool, true, false, List, [], ◌∷◌, ◌++◌, length, take, drop, Option, Some, None, is_some, option_and_then, slice_get, Result, Ok, Err, codes, ◌==◌, ◌&&◌, ◌||◌, not, nat_le, if◌then◌else◌}
 use Rattle.std.specs.List.{flat_map, list_all, list_any}
 use Rattle.std.specs.Str.{bytes_eq}
@@ -7,16 +7,16 @@ use Rattle.std.specs.Option.{unwrap_or, option_map}
 use Rattle.lu_text.specs.Faults.{Grammar}
 use Rattle.lu_text.specs.Lines.{words_of, is_allowed}
 use Rattle.lu_text.specs.Words.{Word}
-use Rattle.lu_component.specs.Component.{Declarations}
+use Rattle.lu_component.specs.Component.{Component}
 use Rattle.lu_lang.specs.declared.fault.LangFaultKind.{LangFaultKind}
 use Rattle.lu_lang.specs.declared.keyword.Keyword.{Keyword}
 use Rattle.lu_lang.specs.declared.keyword.Keyword.TheVariants as keyword
-use Rattle.lu_lang.specs.declared.meant.Family.{Family}
-use Rattle.lu_lang.specs.declared.meant.Family.TheVariants.{Array, Lock, Label, Operation}
-use Rattle.lu_lang.specs.Draft.{Begun, Drafted, nothing}
+use Rattle.lu_lang.specs.declared.recovery.Family.{Family}
+use Rattle.lu_lang.specs.declared.recovery.Family.TheVariants.{Array, Lock, Label, Operation}
+use Rattle.lu_lang.specs.Draft.{OpenOp, ComponentDraft, nothing}
 use Rattle.lu_lang.specs.Words.{keyword_in}
 use Rattle.lu_lang.specs.Grammar.{array_place, lock_place, label_place, label_in, line_of, component_grammar}
-use Rattle.lu_lang.specs.Faulty.{Meant, Faulty}
+use Rattle.lu_lang.specs.Faulty.{MeantName, FaultyDraft}
 use Rattle.lu_lang.specs.Mend.{bare, mend}
 
 -- ---- names
@@ -29,26 +29,26 @@ same_family Operation Operation = true
 same_family _ _ = false
 
 -- a faulty declaration was to declare this name in this family
-abbrev pub is_meant : List Meant → Family → Word → Bool
+abbrev pub is_meant : List MeantName → Family → Word → Bool
 is_meant meant family word =
     list_any (λ m. same_family m.family family && bytes_eq m.word word) meant
 
-abbrev pub has_label : Option Begun → Word → Bool
+abbrev pub has_label : Option OpenOp → Word → Bool
 has_label None word = false
 has_label (Some b) word = is_some (label_place b.labels word)
 
-abbrev pub is_declared : Drafted → Family → Word → Bool
+abbrev pub is_declared : ComponentDraft → Family → Word → Bool
 is_declared d Array word = is_some (array_place d word)
 is_declared d Lock word = is_some (lock_place d word)
 is_declared d (Label n) word = has_label d.begun word
 is_declared d Operation word = false
 
-abbrev pub first_label : Option Begun → Option Word
+abbrev pub first_label : Option OpenOp → Option Word
 first_label None = None
 first_label (Some b) = option_map (λ l. l.name) (slice_get b.labels 0)
 
 -- the first declared name of a family
-abbrev pub first_of : Drafted → Family → Option Word
+abbrev pub first_of : ComponentDraft → Family → Option Word
 first_of d Array = option_map (λ a. a.name) (slice_get d.arrays 0)
 first_of d Lock = slice_get d.locks 0
 first_of d (Label n) = first_label d.begun
@@ -56,7 +56,7 @@ first_of d Operation = None
 
 -- ---- a line as it was meant
 
--- What an instruction names, and which of its line's words is the name, where it stands behind so
+-- What an instruction names, and which of its line's words is the name, where it stands after so
 -- many words in operation n.
 abbrev pub named_by : ℕ → ℕ → Keyword → Option (Family × ℕ)
 named_by n before keyword.Load = Some (Array, before + 2)
@@ -80,7 +80,7 @@ name_of_line n [] = None
 name_of_line n (word ∷ words) =
     if is_some (label_in word) then name_of_code n 1 words else name_of_code n 0 (word ∷ words)
 
--- each with a space behind it
+-- each with a space after it
 abbrev pub spaced : List Word → List ℕ
 spaced words = flat_map (λ word. word ++ codes " ") words
 
@@ -90,37 +90,37 @@ line_with words place other =
     spaced (take place words) ++ (other ++ codes " ") ++ spaced (drop (place + 1) words)
 
 -- with a declared name in the place of one that was only meant
-abbrev pub renamed : Faulty → List Word → Family × ℕ → Word → Option (List ℕ)
+abbrev pub renamed : FaultyDraft → List Word → Family × ℕ → Word → Option (List ℕ)
 renamed f words (family, place) word =
     if is_meant f.meant family word
     then option_map (line_with words place) (first_of f.draft family)
     else None
 
-abbrev pub renamed_at : Faulty → List Word → Family × ℕ → Option (List ℕ)
+abbrev pub renamed_at : FaultyDraft → List Word → Family × ℕ → Option (List ℕ)
 renamed_at f words (family, place) =
     option_and_then (renamed f words (family, place)) (slice_get words place)
 
-abbrev pub renamed_words : Faulty → List Word → Option (List ℕ)
+abbrev pub renamed_words : FaultyDraft → List Word → Option (List ℕ)
 renamed_words f words =
     if is_some f.draft.begun
     then option_and_then (renamed_at f words) (name_of_line (length f.draft.operations) words)
     else None
 
 -- the line as it was meant, where it uses a name that was only meant
-abbrev pub meant_line : Faulty → List ℕ → Option (List ℕ)
+abbrev pub meant_line : FaultyDraft → List ℕ → Option (List ℕ)
 meant_line f line =
     if list_all is_allowed line then renamed_words f (words_of line) else None
 
-abbrev pub read_as : Faulty → List ℕ → List ℕ
+abbrev pub read_as : FaultyDraft → List ℕ → List ℕ
 read_as f line = unwrap_or (meant_line f line) line
 
 -- with the next draft
-abbrev pub with_draft : Faulty → Result Drafted LangFaultKind → Result Faulty LangFaultKind
+abbrev pub with_draft : FaultyDraft → Result ComponentDraft LangFaultKind → Result FaultyDraft LangFaultKind
 with_draft f (Ok next) = Ok (record f { draft = next })
 with_draft f (Err kind) = Err kind
 
 -- the text of a component, each line as it was meant
-abbrev pub faulty_grammar : Grammar LangFaultKind Faulty Declarations
+abbrev pub faulty_grammar : Grammar LangFaultKind FaultyDraft Component
 faulty_grammar = record {
   nothing = record { draft = nothing; meant = [] };
   line = λ f line. with_draft f (line_of f.draft (read_as f line));
@@ -134,58 +134,58 @@ abbrev pub most_meant : ℕ
 most_meant = 256
 
 -- this name, where it is not declared and there is room
-abbrev pub with_name : Drafted → List Meant → Family → Word → List Meant
+abbrev pub with_name : ComponentDraft → List MeantName → Family → Word → List MeantName
 with_name d meant family word =
     if is_declared d family word || nat_le most_meant (length meant) then meant
     else meant ++ record { family = family; word = word } ∷ []
 
 -- `word` declares an array, and outside operations `lock` a lock
-abbrev pub declared_by : Drafted → Word → Option Family
+abbrev pub declared_by : ComponentDraft → Word → Option Family
 declared_by d first =
     if bytes_eq first (codes "word") then Some Array
     else (if bytes_eq first (codes "lock") && not (is_some d.begun) then Some Lock else None)
 
-abbrev pub with_declared : Drafted → List Meant → Option Family → List Word → List Meant
+abbrev pub with_declared : ComponentDraft → List MeantName → Option Family → List Word → List MeantName
 with_declared d meant None words = meant
 with_declared d meant (Some family) [] = meant
 with_declared d meant (Some family) (name ∷ words) = with_name d meant family (bare name)
 
 -- a label of the open operation
-abbrev pub with_label_name : Drafted → List Meant → Word → List Meant
+abbrev pub with_label_name : ComponentDraft → List MeantName → Word → List MeantName
 with_label_name d meant label =
     if is_some d.begun then with_name d meant (Label (length d.operations)) label else meant
 
-abbrev pub with_behind : Drafted → List Meant → List Word → List Meant
-with_behind d meant [] = meant
-with_behind d meant (first ∷ words) =
+abbrev pub with_after : ComponentDraft → List MeantName → List Word → List MeantName
+with_after d meant [] = meant
+with_after d meant (first ∷ words) =
     with_declared d meant (declared_by d (bare first)) words
 
-abbrev pub with_labelled : Drafted → List Meant → Option Word → Word → List Word → List Meant
-with_labelled d meant None first words = with_behind d meant (first ∷ words)
+abbrev pub with_labelled : ComponentDraft → List MeantName → Option Word → Word → List Word → List MeantName
+with_labelled d meant None first words = with_after d meant (first ∷ words)
 with_labelled d meant (Some label) first words =
-    with_behind d (with_label_name d meant label) words
+    with_after d (with_label_name d meant label) words
 
-abbrev pub with_names : Drafted → List Meant → List Word → List Meant
+abbrev pub with_names : ComponentDraft → List MeantName → List Word → List MeantName
 with_names d meant [] = meant
 with_names d meant (first ∷ words) = with_labelled d meant (label_in (bare first)) first words
 
 -- how many operations are begun, the open one too
-abbrev pub operations_begun : Drafted → ℕ
+abbrev pub operations_begun : ComponentDraft → ℕ
 operations_begun d =
     if is_some d.begun then length d.operations + 1 else length d.operations
 
-abbrev pub with_open : Drafted → List Meant → Option Begun → List Meant
+abbrev pub with_open : ComponentDraft → List MeantName → Option OpenOp → List MeantName
 with_open d meant None = meant
 with_open d meant (Some b) = with_name d meant Operation b.name
 
 -- The open operation, where it is more than so many, which were begun before the line: how many
 -- arguments it takes is not known, though its name is declared.
-abbrev pub with_operation : Drafted → List Meant → ℕ → List Meant
+abbrev pub with_operation : ComponentDraft → List MeantName → ℕ → List MeantName
 with_operation d meant before =
     if operations_begun d == before then meant else with_open d meant d.begun
 
 -- what a line with a fault leaves, before these lines
-abbrev pub mend_faulty : Faulty → List ℕ → List (List ℕ) → Faulty
+abbrev pub mend_faulty : FaultyDraft → List ℕ → List (List ℕ) → FaultyDraft
 mend_faulty f line lines =
     let next = mend f.draft line lines in
     let meant = with_names next f.meant (words_of line) in

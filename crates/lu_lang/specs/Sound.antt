@@ -4,8 +4,8 @@ use Rattle.lu_text.specs.Names.{IsName}
 use Rattle.lu_component.specs.declared.component.Op.{Op}
 use Rattle.lu_lang.specs.declared.draft.Statement.{Statement}
 use Rattle.lu_lang.specs.declared.draft.Statement.TheVariants.{Plain, Jump, JumpIfZero}
-use Rattle.lu_component.specs.Component.{operation_place, IsComponent, IsInstr, IsOperand}
-use Rattle.lu_lang.specs.Draft.{Begun, Drafted, named}
+use Rattle.lu_component.specs.Component.{operation_number, IsComponent, IsInstr, IsOperand}
+use Rattle.lu_lang.specs.Draft.{OpenOp, ComponentDraft, named}
 
 -- among so many arrays and locks, what the instruction names is there, but for its label
 abbrev pub IsStatement : ℕ → ℕ → Statement → Type 0
@@ -15,9 +15,9 @@ IsStatement arrays locks (JumpIfZero v label) = IsOperand v
 
 -- Beside so many arrays and locks, and these operations: the open operation obeys the rules so far,
 -- and is not declared twice.
-pub record IsBegun (arrays locks : ℕ) (operations : List Op) (b : Begun) : Type 0 where
+pub record IsBegun (arrays locks : ℕ) (operations : List Op) (b : OpenOp) : Type 0 where
   pub room : length operations < 16
-  pub apart : is_some (operation_place operations b.name) ≡ false
+  pub apart : is_some (operation_number operations b.name) ≡ false
   pub name : IsName b.name
   pub args : b.args ≤ 4
   pub few : length b.statements ≤ 64
@@ -25,7 +25,7 @@ pub record IsBegun (arrays locks : ℕ) (operations : List Op) (b : Begun) : Typ
   pub labels : All (λ l. l.place < length b.statements) b.labels
 
 -- under each name, what is declared obeys the rules of components
-pub record IsSoundDraft (d : Drafted) : Type 0 where
+pub record IsSoundDraft (d : ComponentDraft) : Type 0 where
   pub name : IfSome d.name IsName
   pub declared : (name : List ℕ) → IsName name → IsComponent (named d name)
   pub begun : IfSome d.begun (IsBegun (length d.arrays) (length d.locks) d.operations)

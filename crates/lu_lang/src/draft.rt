@@ -35,9 +35,9 @@ pub struct OpenOp {
 }
 
 impl Model for OpenOp {
-    ghost use Rattle.lu_lang.specs.Draft.{Begun};
+    ghost use Rattle.lu_lang.specs.Draft.{OpenOp as AnOpenOp};
 
-    ghost Value = { Begun };
+    ghost Value = { AnOpenOp };
 
     ghost view = { λ o. record {
       name = o.name;
@@ -49,7 +49,7 @@ impl Model for OpenOp {
 
 /// A component of which not all lines are read.
 #[derive(Debug, Drop)]
-pub struct Draft {
+pub struct ComponentDraft {
     pub name: Option<Name>,
 
     /// Of the line `local`, where there was one.
@@ -60,11 +60,11 @@ pub struct Draft {
     pub begun: Option<OpenOp>,
 }
 
-impl Model for Draft {
+impl Model for ComponentDraft {
     ghost use Rattle.std.specs.Prelude.{◌≤◌, length};
-    ghost use Rattle.lu_lang.specs.Draft.{Drafted};
+    ghost use Rattle.lu_lang.specs.Draft.{ComponentDraft as AComponentDraft};
 
-    ghost Value = { Drafted };
+    ghost Value = { AComponentDraft };
 
     ghost view = { λ d. record {
       name = d.name;
@@ -78,12 +78,12 @@ impl Model for Draft {
     ghost invariant = { λ d. (length d.arrays.items ≤ 16) × (length d.locks.items ≤ 8) };
 }
 
-impl Draft {
+impl ComponentDraft {
     /// Nothing is declared yet.
-    pub fn new(alloc: Global) -> Draft
+    pub fn new(alloc: Global) -> ComponentDraft
         ensures { result ≡ nothing }
     {
-        Draft {
+        ComponentDraft {
             name: None,
             local: None,
             arrays: Vec::new(alloc),

@@ -72,6 +72,6 @@ impl LangFaultKind {
     }
 }
 
-/// Why a text is no component: the first fault by line, or want of memory, which is shown as
+/// Why a text is no component: the first fault by line, or refused memory, which is shown as
 /// `memory`.
 pub type LangFault = Fault<LangFaultKind>;

@@ -8,7 +8,7 @@ ghost use Rattle.lu_text.specs.Words.{exactly_one, exactly_two, exactly_three, e
 ghost use Rattle.lu_lang.specs.Grammar as spec;
 ghost use Rattle.lu_text.specs.Results.{Builds};
 
-use crate::draft::{Draft, Statement};
+use crate::draft::{ComponentDraft, Statement};
 use crate::fault::LangFaultKind;
 use crate::keyword::{Keyword, operand_in, register_in};
 use lu_component::{Arithmetic, Array, Instr, MOST_PICKS, Operand};
@@ -24,7 +24,7 @@ fn place_among(arrays: &[Array], name: &[u8]) -> Option<usize>
 }
 
 /// The number of the array of this name among those declared so far.
-pub fn array_number(draft: &Draft, name: &[u8]) -> Option<u8>
+pub fn array_number(draft: &ComponentDraft, name: &[u8]) -> Option<u8>
     ensures { result ≡ spec.array_place draft.now name.now }
 {
     Some(place_among(&draft.arrays, name)? as u8)
@@ -37,14 +37,14 @@ fn name_among(names: &[Name], name: &[u8]) -> Option<usize>
 }
 
 /// The number of the lock of this name among those declared so far.
-pub fn lock_number(draft: &Draft, name: &[u8]) -> Option<u8>
+pub fn lock_number(draft: &ComponentDraft, name: &[u8]) -> Option<u8>
     ensures { result ≡ spec.lock_place draft.now name.now }
 {
     Some(name_among(&draft.locks, name)? as u8)
 }
 
 /// The number of the array of this name, which is to be short enough and declared.
-fn declared_array(draft: &Draft, name: &[u8]) -> Result<u8, LangFaultKind>
+fn declared_array(draft: &ComponentDraft, name: &[u8]) -> Result<u8, LangFaultKind>
     ensures { result ≡ spec.declared_array draft.now name.now }
 {
     if is_long(name) {
@@ -94,7 +94,7 @@ fn compute_line(arithmetic: Arithmetic, words: &[&[u8]]) -> Result<Statement, La
 }
 
 /// `load rD W i`
-fn load_line(draft: &Draft, words: &[&[u8]]) -> Result<Statement, LangFaultKind>
+fn load_line(draft: &ComponentDraft, words: &[&[u8]]) -> Result<Statement, LangFaultKind>
     ensures { result ≡ spec.load_line draft.now (exactly_three (texts words.now)) }
 {
     let Some((to, array, index)) = exactly_three(words) else {
@@ -114,7 +114,7 @@ fn load_line(draft: &Draft, words: &[&[u8]]) -> Result<Statement, LangFaultKind>
 }
 
 /// `cas rD W i old new`
-fn cas_line(draft: &Draft, words: &[&[u8]]) -> Result<Statement, LangFaultKind>
+fn cas_line(draft: &ComponentDraft, words: &[&[u8]]) -> Result<Statement, LangFaultKind>
     ensures { result ≡ spec.cas_line draft.now (exactly_five (texts words.now)) }
 {
     let Some((to, array, index, expected, desired)) = exactly_five(words) else {
@@ -144,7 +144,7 @@ fn cas_line(draft: &Draft, words: &[&[u8]]) -> Result<Statement, LangFaultKind>
 }
 
 /// The lock of `lock L` and `unlock L`.
-fn read_lock(draft: &Draft, words: &[&[u8]]) -> Result<u8, LangFaultKind>
+fn read_lock(draft: &ComponentDraft, words: &[&[u8]]) -> Result<u8, LangFaultKind>
     ensures { result ≡ spec.locked draft.now (exactly_one (texts words.now)) }
 {
     let Some(lock) = exactly_one(words) else {
@@ -163,7 +163,10 @@ fn read_lock(draft: &Draft, words: &[&[u8]]) -> Result<u8, LangFaultKind>
 }
 
 /// The array, the index and the value of `store W i v`, `await W i v` and `awaitne W i v`.
-fn cell_and_value(draft: &Draft, words: &[&[u8]]) -> Result<(u8, Operand, Operand), LangFaultKind>
+fn cell_and_value(
+    draft: &ComponentDraft,
+    words: &[&[u8]],
+) -> Result<(u8, Operand, Operand), LangFaultKind>
     ensures { result ≡ spec.cell_and_value draft.now (exactly_three (texts words.now)) }
 {
     let Some((array, index, value)) = exactly_three(words) else {
@@ -249,19 +252,19 @@ fn return_line(words: &[&[u8]]) -> Result<Statement, LangFaultKind>
     Ok(Statement::Plain(Instr::Return(value)))
 }
 
-fn lock_line(draft: &Draft, words: &[&[u8]]) -> Result<Statement, LangFaultKind>
+fn lock_line(draft: &ComponentDraft, words: &[&[u8]]) -> Result<Statement, LangFaultKind>
     ensures { result ≡ spec.statement draft.now (Some Keyword.Lock) (texts words.now) }
 {
     Ok(Statement::Plain(Instr::Lock(read_lock(draft, words)?)))
 }
 
-fn unlock_line(draft: &Draft, words: &[&[u8]]) -> Result<Statement, LangFaultKind>
+fn unlock_line(draft: &ComponentDraft, words: &[&[u8]]) -> Result<Statement, LangFaultKind>
     ensures { result ≡ spec.statement draft.now (Some Keyword.Unlock) (texts words.now) }
 {
     Ok(Statement::Plain(Instr::Unlock(read_lock(draft, words)?)))
 }
 
-fn store_line(draft: &Draft, words: &[&[u8]]) -> Result<Statement, LangFaultKind>
+fn store_line(draft: &ComponentDraft, words: &[&[u8]]) -> Result<Statement, LangFaultKind>
     ensures { result ≡ spec.statement draft.now (Some Keyword.Store) (texts words.now) }
 {
     let (array, index, value) = cell_and_value(draft, words)?;
@@ -272,7 +275,7 @@ fn store_line(draft: &Draft, words: &[&[u8]]) -> Result<Statement, LangFaultKind
     }))
 }
 
-fn await_line(draft: &Draft, words: &[&[u8]]) -> Result<Statement, LangFaultKind>
+fn await_line(draft: &ComponentDraft, words: &[&[u8]]) -> Result<Statement, LangFaultKind>
     ensures { result ≡ spec.statement draft.now (Some Keyword.Await) (texts words.now) }
 {
     let (array, index, value) = cell_and_value(draft, words)?;
@@ -283,7 +286,7 @@ fn await_line(draft: &Draft, words: &[&[u8]]) -> Result<Statement, LangFaultKind
     }))
 }
 
-fn await_not_line(draft: &Draft, words: &[&[u8]]) -> Result<Statement, LangFaultKind>
+fn await_not_line(draft: &ComponentDraft, words: &[&[u8]]) -> Result<Statement, LangFaultKind>
     ensures { result ≡ spec.statement draft.now (Some Keyword.AwaitNot) (texts words.now) }
 {
     let (array, index, value) = cell_and_value(draft, words)?;
@@ -297,7 +300,7 @@ fn await_not_line(draft: &Draft, words: &[&[u8]]) -> Result<Statement, LangFault
 /// The instruction of a line, or the first fault that it has.
 pub fn statement(
     alloc: Global,
-    draft: &Draft,
+    draft: &ComponentDraft,
     keyword: Option<Keyword>,
     words: &[&[u8]],
 ) -> Result<Result<Statement, LangFaultKind>, AllocError>

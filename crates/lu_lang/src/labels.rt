@@ -170,7 +170,7 @@ fn all_marks(marked: Marked) -> Result<Labels, AllocError>
 ///
 /// The instructions of an operation are its lines with words between `op` and `end`, numbered from
 /// 0 as the operations are; a line's label is its first word, where that is a name with a colon
-/// behind it. In a text that [`read_component`](crate::read_component) reads, the labels stand at
+/// after it. In a text that [`read_component`](crate::read_component) reads, the labels stand at
 /// the places to which its jumps to them lead ([`labels_law`](crate::labels_law)); of another it
 /// tells what it can.
 ///

@@ -13,13 +13,13 @@ ghost use Rattle.lu_lang.specs.Sound.{IsSoundDraft};
 ghost use Rattle.lu_lang.specs.Grammar as spec;
 ghost use Rattle.lu_lang.specs.Grammar.{component_grammar, labelled};
 
-use crate::draft::{Draft, Label, OpenOp, Statement};
+use crate::draft::{ComponentDraft, Label, OpenOp, Statement};
 use crate::fault::{LangFault, LangFaultKind};
 use crate::instructions::{array_number, lock_number, statement};
 use crate::keyword::keyword_in;
 use lu_component::{
     Array, Code, Component, Instr, MOST_ARGUMENTS, MOST_ARRAYS, MOST_CELLS, MOST_INSTRS,
-    MOST_LOCAL, MOST_LOCKS, MOST_OPS, Op, operation_place,
+    MOST_LOCAL, MOST_LOCKS, MOST_OPS, Op, operation_number,
 };
 use lu_text::{
     Fault, Name, are_allowed, exactly_one, exactly_three, exactly_two, has_name_form, is_long,
@@ -27,19 +27,19 @@ use lu_text::{
 };
 use std::alloc::{AllocError, Global};
 
-pub(crate) fn has_most_arrays(draft: &Draft) -> bool
+pub(crate) fn has_most_arrays(draft: &ComponentDraft) -> bool
     ensures { result ≡ nat_le 16 (length draft.now.arrays) }
 {
     draft.arrays.len() >= MOST_ARRAYS
 }
 
-pub(crate) fn has_most_locks(draft: &Draft) -> bool
+pub(crate) fn has_most_locks(draft: &ComponentDraft) -> bool
     ensures { result ≡ nat_le 8 (length draft.now.locks) }
 {
     draft.locks.len() >= MOST_LOCKS
 }
 
-fn has_most_operations(draft: &Draft) -> bool
+fn has_most_operations(draft: &ComponentDraft) -> bool
     ensures { result ≡ nat_le 16 (length draft.now.operations) }
 {
     draft.operations.len() >= MOST_OPS
@@ -255,7 +255,7 @@ fn end_line_fault(op: &OpenOp, words: &[&[u8]]) -> Option<LangFaultKind>
 
 // Each of these takes one more line, whose first word is known: what it declares, and no fault, or
 // the fault, and the draft is as it was.
-impl Draft {
+impl ComponentDraft {
     /// `component NAME`
     fn take_name(
         &mut self,
@@ -372,7 +372,7 @@ impl Draft {
         if is_long(name) || has_most_operations(self) || args > MOST_ARGUMENTS {
             return Ok(Some(LangFaultKind::Limit));
         }
-        if operation_place(&self.operations, name).is_some() {
+        if operation_number(&self.operations, name).is_some() {
             return Ok(Some(LangFaultKind::Name));
         }
         self.begun = Some(OpenOp {
@@ -451,7 +451,7 @@ impl Draft {
         }
     }
 
-    /// An instruction behind a label.
+    /// An instruction after a label.
     fn take_labelled<'a>(
         &mut self,
         alloc: Global,
@@ -560,7 +560,7 @@ impl Draft {
 }
 
 /// What is wrong at the end of the text.
-pub fn end_fault(draft: &Draft) -> Option<LangFaultKind>
+pub fn end_fault(draft: &ComponentDraft) -> Option<LangFaultKind>
     ensures { result ≡ fault_in (component_grammar.finish draft.now) }
 {
     if draft.name.is_none() || draft.begun.is_some() {
@@ -572,11 +572,11 @@ pub fn end_fault(draft: &Draft) -> Option<LangFaultKind>
 
 /// What is declared at the end of the text, or what is wrong there.
 #[tactic(auto, using(crate::proofs::Drafts::draft_component))]
-fn finish(draft: Draft) -> Result<Component, LangFaultKind>
+fn finish(draft: ComponentDraft) -> Result<Component, LangFaultKind>
     requires { IsSoundDraft draft }
     ensures { result ≡ component_grammar.finish draft }
 {
-    let Draft {
+    let ComponentDraft {
         name,
         local,
         arrays,
@@ -600,7 +600,7 @@ fn finish(draft: Draft) -> Result<Component, LangFaultKind>
 fn read_lines(alloc: Global, lines: &[&[u8]]) -> Result<Component, LangFault>
     ensures { Gives result (meaning_of_lines component_grammar (texts lines.now)) }
 {
-    let mut draft = Draft::new(alloc);
+    let mut draft = ComponentDraft::new(alloc);
     for (before, text) in lines.iter().enumerate() {
         if let Some(kind) = draft.line(alloc, text)? {
             return Err(Fault::At(kind, before + 1));

@@ -6,7 +6,7 @@ use denote.Ref.{Bor}
 use Rattle.lu_lint.specs.declared.remark.Said.{Said}
 use Rattle.lu_lint.specs.Bundle.{separator_said, separators_from}
 
--- what is said of a line, and then of the lines behind it
+-- what is said of a line, and then of the lines after it
 pub goes_past : (lines : List (Bor (List ℕ))) (i : ℕ) (d : Bor (List ℕ)) (before next total : List Said) → i < length lines → next ≡ before ++ separator_said (i + 1) (get_or lines i d).now → before ++ separators_from (i + 1) (drop i (texts lines)) ≡ total → next ++ separators_from (i + 1 + 1) (drop (i + 1) (texts lines)) ≡ total
 goes_past lines i d before next total within more so_far =
     let line = (get_or lines i d).now in

@@ -15,7 +15,7 @@ module _ {A : Type 0} where
   no_more (x ∷ xs) zero h = absurd (omega arith)
   no_more (x ∷ xs) (suc i) h = no_more xs i (omega arith)
 
--- one is said behind others
+-- one is said after others
 pub push_more : {A : Type 0} (said : A → Said) (xs : List A) (x : A) (before now next : List Said) (one : Said) → now ≡ before ++ map said xs → one ≡ said x → next ≡ now ++ one ∷ [] → next ≡ before ++ map said (xs ++ x ∷ [])
 push_more said xs x before now next one so_far is more =
     more

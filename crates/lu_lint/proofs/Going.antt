@@ -1,4 +1,4 @@
--- Going on behind faults: the loop, and that the first fault is the reader's.
+-- Going on after faults: the loop, and that the first fault is the reader's.
 use Rattle.std.proofs.Common.{arith, ◌≡◌, ℕ, ◌+◌, ◌<◌, true, false, eqb, List, [], ◌∷◌, ◌++◌, length, get_or, map, take, drop, Option, Some, None, Result, Ok, Err, refl, sym, ap, subst, ◌∙◌}
 use Rattle.std.proofs.lemmas.Bool.{eqb-true, eqb-false}
 use Rattle.std.proofs.lemmas.List.{append_assoc, append-nil, drop-map, map-append, take_more}
@@ -7,7 +7,7 @@ use Rattle.lu_text.specs.declared.fault.Fault.TheVariants.{At}
 use Rattle.lu_text.specs.Faults.{on_line, then_lines, lines_after, meaning_of, fault_in, going_on}
 use Rattle.lu_text.specs.Lines.{lines_of, texts}
 use denote.Ref.{Bor}
-use Rattle.lu_component.specs.Component.{Declarations}
+use Rattle.lu_component.specs.Component.{Component}
 use Rattle.lu_lang.specs.Grammar.{component_grammar}
 use Rattle.lu_lang.proofs.Understood.{faulty_meaning}
 use Rattle.lu_lang.specs.declared.fault.LangFaultKind.{LangFaultKind}
@@ -18,11 +18,11 @@ use Rattle.lu_lint.specs.declared.remark.Said.{Said}
 use Rattle.lu_lint.specs.declared.remark.Remark.{Remark}
 use Rattle.lu_lint.specs.declared.remark.FaultKind.{FaultKind}
 use Rattle.lu_lint.specs.Said.{said_of, said_told, said_faults}
-use Rattle.lu_lint.specs.Lint.{Lint, Told, with_words, told, told_here, told_at, told_on, others_told, told_beside, left_by, end_told, end_faults, then_faults, faults_after, faults_in, AgreeOnText, draft_after, left_behind}
+use Rattle.lu_lint.specs.Lint.{Lint, Told, with_words, told, told_here, told_at, told_on, others_told, told_beside, left_by, end_told, end_faults, then_faults, faults_after, faults_in, AgreeOnText, draft_after, left_after}
 use Rattle.lu_lint.specs.Component.{backs_beside, component_lint, faulty_end_others, jumps, jumps_said}
 use Rattle.lu_lint.specs.declared.remark.FaultKind.TheVariants as part
 use Rattle.lu_lang.specs.declared.fault.LangFaultKind.TheVariants.{Name}
-use Rattle.lu_lang.specs.Faulty.{Faulty}
+use Rattle.lu_lang.specs.Faulty.{FaultyDraft}
 use Rattle.lu_lang.specs.Place.{left_backs, open_backs}
 use Rattle.lu_lint.specs.Matrix.{lint_of, matrix_lint}
 
@@ -110,14 +110,14 @@ pub agrees : {Kind Draft Value : Type 0} (l : Lint Kind Draft Value) (text : Lis
 agrees l text = agree_after l [] 1 l.grammar.nothing (lines_of text)
 
 pub component_agrees : (text : List ℕ) → AgreeOnText (meaning_of component_grammar text) (faults_in component_lint text)
-component_agrees text = subst (λ (r : Result Declarations (Fault LangFaultKind)). AgreeOnText r (faults_in component_lint text)) (faulty_meaning text) (agrees component_lint text)
+component_agrees text = subst (λ (r : Result Component (Fault LangFaultKind)). AgreeOnText r (faults_in component_lint text)) (faulty_meaning text) (agrees component_lint text)
 
-pub matrix_agrees : (c : Declarations) (text : List ℕ) → AgreeOnText (meaning_of (matrix_grammar c) text) (faults_in (lint_of c) text)
+pub matrix_agrees : (c : Component) (text : List ℕ) → AgreeOnText (meaning_of (matrix_grammar c) text) (faults_in (lint_of c) text)
 matrix_agrees c text = agrees (lint_of c) text
 
--- the lines behind a line, in memory
-pub texts_behind : (lines : List (Bor (List ℕ))) (i : ℕ) → texts (drop i lines) ≡ drop i (texts lines)
-texts_behind lines i = sym (drop-map (λ w. w.now) i lines)
+-- the lines after a line, in memory
+pub texts_after : (lines : List (Bor (List ℕ))) (i : ℕ) → texts (drop i lines) ≡ drop i (texts lines)
+texts_after lines i = sym (drop-map (λ w. w.now) i lines)
 
 -- what is wrong at the end of a component
 pub component_end : {Value : Type 0} (seen : List ℕ) (n : ℕ) (others : List (LangFaultKind × ℕ)) (fault : Option LangFaultKind) (meant r : Result Value LangFaultKind) → fault ≡ fault_in meant → meant ≡ r → end_faults seen n others r ≡ end_told seen n others fault
@@ -135,7 +135,7 @@ each_jump : (seen : List ℕ) (n : ℕ) (backs : List ℕ) → map (told_at seen
 each_jump seen n [] = refl
 each_jump seen n (back ∷ backs) = ap (λ (x : List (Told LangFaultKind)). told_at seen n Name back ∷ x) (each_jump seen n backs)
 
-all_beside : (seen : List ℕ) (n : ℕ) (f : Faulty) (line : List ℕ) (lines : List (List ℕ)) (fault : Option LangFaultKind) → map (told_at seen n Name) (backs_beside f line lines fault) ≡ told_beside component_lint seen n f line lines fault
+all_beside : (seen : List ℕ) (n : ℕ) (f : FaultyDraft) (line : List ℕ) (lines : List (List ℕ)) (fault : Option LangFaultKind) → map (told_at seen n Name) (backs_beside f line lines fault) ≡ told_beside component_lint seen n f line lines fault
 all_beside seen n f line lines None = refl
 all_beside seen n f line lines (Some kind) = each_jump seen n (left_backs f.draft line lines kind)
 
@@ -153,7 +153,7 @@ jump_more at kind backs i d before now next one within so_far is more =
     ∙ ap (λ (x : List Said). before ++ x) (sym said)))
 
 -- a line of a component is told or not, then the jumps beside its fault, and the rest is read
-pub component_goes_on : (above : ℕ) (seen : List ℕ) (n : ℕ) (d d1 next : Faulty) (fault : Option LangFaultKind) (line : List ℕ) (rest behind : List (List ℕ)) (backs : List ℕ) (before one two total : List Said)
+pub component_goes_on : (above : ℕ) (seen : List ℕ) (n : ℕ) (d d1 next : FaultyDraft) (fault : Option LangFaultKind) (line : List ℕ) (rest behind : List (List ℕ)) (backs : List ℕ) (before one two total : List Said)
     → (d1, fault) ≡ going_on d (component_lint.grammar.line d line) → next ≡ left_by component_lint.mend d1 line behind fault → behind ≡ rest
     → one ≡ before ++ said_faults part.Component above (told_on component_lint seen n d1 line fault) → two ≡ one ++ said_faults part.Component above (map (told_at seen n Name) backs) → backs ≡ backs_beside d1 line behind fault
     → before ++ said_faults part.Component above (faults_after component_lint seen n d (line ∷ rest)) ≡ total → two ++ said_faults part.Component above (faults_after component_lint (with_words seen n line) (n + 1) next rest) ≡ total
@@ -163,7 +163,7 @@ component_goes_on above seen n d d1 next fault line rest behind backs before one
     rw beside (goes_on component_lint part.Component above seen n d d1 next fault line rest behind before total e left is so_far)
 
 -- those beside the fault of the end
-pub are_at_end : (above : ℕ) (before one next : List Said) (said : Said) (seen : List ℕ) (n : ℕ) (kind : LangFaultKind) (f : Faulty) (fault : Option LangFaultKind) (backs : List ℕ)
+pub are_at_end : (above : ℕ) (before one next : List Said) (said : Said) (seen : List ℕ) (n : ℕ) (kind : LangFaultKind) (f : FaultyDraft) (fault : Option LangFaultKind) (backs : List ℕ)
     → one ≡ before ++ said ∷ [] → said ≡ said_told part.Component above (told_here n kind) → next ≡ one ++ said_faults part.Component above (map (told_at seen n Name) backs) → backs ≡ open_backs f.draft.begun → Some kind ≡ fault → next ≡ before ++ said_faults part.Component above (end_told seen n (faulty_end_others f) fault)
 are_at_end above before one next said seen n kind f fault backs first is more same some =
     rw (← some, more, first, is, same, each_jump seen n (open_backs f.draft.begun)) (append_assoc before (said_told part.Component above (told_here n kind) ∷ []) (said_faults part.Component above (others_told seen n (faulty_end_others f))))
@@ -172,14 +172,14 @@ are_at_end above before one next said seen n kind f fault backs first is more sa
 pub two_more : (all one two x y : List Said) → one ≡ all ++ x → two ≡ one ++ y → two ≡ all ++ (x ++ y)
 two_more all one two x y e f = rw (f, e) (append_assoc all x y)
 
--- a line behind others, and the draft that all of them leave
+-- a line after others, and the draft that all of them leave
 pub draft_goes_on : {Kind Draft Value : Type 0} (l : Lint Kind Draft Value) (d d1 next total : Draft) (fault : Option Kind) (line : List ℕ) (rest behind : List (List ℕ))
     → (d1, fault) ≡ going_on d (l.grammar.line d line) → next ≡ left_by l.mend d1 line behind fault → behind ≡ rest
     → draft_after l d (line ∷ rest) ≡ total → draft_after l next rest ≡ total
 unfolding draft_after
 draft_goes_on {Kind = Kind} {Draft = Draft} l d d1 next total fault line rest behind e left is so_far = go (l.grammar.line d line) e so_far
   where
-    go : (r : Result Draft Kind) → (d1, fault) ≡ going_on d r → draft_after l (left_behind l d line rest r) rest ≡ total → draft_after l next rest ≡ total
+    go : (r : Result Draft Kind) → (d1, fault) ≡ going_on d r → draft_after l (left_after l d line rest r) rest ≡ total → draft_after l next rest ≡ total
     go (Ok y) f h =
         let same : d1 ≡ y = ap (λ (x : Draft × Option Kind). x.0) f in
         let none : fault ≡ None = ap (λ (x : Draft × Option Kind). x.1) f in

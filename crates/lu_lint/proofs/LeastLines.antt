@@ -63,8 +63,8 @@ told_same kinds seen n m kind (b ∷ bs) here is = All-map (IsBehind m kinds) (t
 others_same : {Kind : Type 0} (kinds : Kind → Type 0) (seen : List ℕ) (n m : ℕ) (others : List (Kind × ℕ)) → n ≡ m → All (λ other. kinds other.0) others → All (IsBehind m kinds) (others_told seen n others)
 others_same kinds seen n m others here are = All-map (IsBehind m kinds) (λ other. told_at seen n other.0 other.1) others (λ k d h. inr (here, are k d h))
 
-behind_later : {Kind : Type 0} (kinds : Kind → Type 0) (n m : ℕ) (faults : List (Told Kind)) → n ≡ m → All (IsFrom (n + 1)) faults → All (IsBehind m kinds) faults
-behind_later kinds n m faults here h = All-weaker (IsFrom (n + 1)) (IsBehind m kinds) (λ t le. inl (omega arith)) faults h
+after_later : {Kind : Type 0} (kinds : Kind → Type 0) (n m : ℕ) (faults : List (Told Kind)) → n ≡ m → All (IsFrom (n + 1)) faults → All (IsBehind m kinds) faults
+after_later kinds n m faults here h = All-weaker (IsFrom (n + 1)) (IsBehind m kinds) (λ t le. inl (omega arith)) faults h
 
 -- those of line m, where that is line n, and of this kind
 kind_told : {Kind A : Type 0} (n : ℕ) (k kind : Kind) (m : ℕ) → on_line {A = A} n (Err k) ≡ Err (At kind m) → k ≡ kind
@@ -73,9 +73,9 @@ kind_told n k kind m e = cc
 line_told : {Kind A : Type 0} (n : ℕ) (k kind : Kind) (m : ℕ) → on_line {A = A} n (Err k) ≡ Err (At kind m) → n ≡ m
 line_told n k kind m e = cc
 
-pub all_behind : {Kind Draft Value : Type 0} (l : Lint Kind Draft Value) (beside : Kind → Kind → Type 0) → AreBeside l beside → (seen : List ℕ) (n : ℕ) (d : Draft) (lines : List (List ℕ)) (kind : Kind) (m : ℕ) → lines_after l.grammar n d lines ≡ Err (At kind m) → All (IsBehind m (beside kind)) (faults_after l seen n d lines)
+pub all_after : {Kind Draft Value : Type 0} (l : Lint Kind Draft Value) (beside : Kind → Kind → Type 0) → AreBeside l beside → (seen : List ℕ) (n : ℕ) (d : Draft) (lines : List (List ℕ)) (kind : Kind) (m : ℕ) → lines_after l.grammar n d lines ≡ Err (At kind m) → All (IsBehind m (beside kind)) (faults_after l seen n d lines)
 unfolding faults_after lines_after
-all_behind {Kind = Kind} {Value = Value} l beside are seen n d [] kind m e = go (l.grammar.finish d) e
+all_after {Kind = Kind} {Value = Value} l beside are seen n d [] kind m e = go (l.grammar.finish d) e
   where
     go : (r : Result Value Kind) → on_line n r ≡ Err (At kind m) → All (IsBehind m (beside kind)) (end_faults seen n (l.end_others d) r)
     go (Ok v) e = absurd cc
@@ -84,7 +84,7 @@ all_behind {Kind = Kind} {Value = Value} l beside are seen n d [] kind m e = go 
         let here : n ≡ m = line_told {A = Value} n k kind m e in
         All-cons (IsBehind m (beside kind)) (told_here n k) (others_told seen n (l.end_others d)) (inr (here, subst (beside kind) same (are.itself kind)))
         (others_same (beside kind) seen n m (l.end_others d) here (are.at_end d kind))
-all_behind {Kind = Kind} {Draft = Draft} {Value = Value} l beside are seen n d (line ∷ lines) kind m e = go (l.grammar.line d line) e (λ x h. all_behind l beside are (with_words seen n line) (n + 1) x lines kind m h)
+all_after {Kind = Kind} {Draft = Draft} {Value = Value} l beside are seen n d (line ∷ lines) kind m e = go (l.grammar.line d line) e (λ x h. all_after l beside are (with_words seen n line) (n + 1) x lines kind m h)
   where
     go : (r : Result Draft Kind) → then_lines (on_line n r) (λ x. lines_after l.grammar (n + 1) x lines) ≡ Err (At kind m)
         → ((x : Draft) → lines_after l.grammar (n + 1) x lines ≡ Err (At kind m) → All (IsBehind m (beside kind)) (faults_after l (with_words seen n line) (n + 1) x lines))
@@ -99,7 +99,7 @@ all_behind {Kind = Kind} {Draft = Draft} {Value = Value} l beside are seen n d (
         let beside_it : All (λ other. beside kind other.0) others = subst (λ x. All (λ other. beside x other.0) others) (sym same) (are.others d line lines k) in
         All-append P (told seen n k (l.backs d line k)) _ (told_same (beside kind) seen n m k (l.backs d line k) here (subst (beside kind) same (are.itself kind)))
         (All-append P (others_told seen n others) _ (others_same (beside kind) seen n m others here beside_it)
-        (behind_later (beside kind) n m (faults_after l (with_words seen n line) (n + 1) left lines) here (all_from l (with_words seen n line) (n + 1) left lines)))
+        (after_later (beside kind) n m (faults_after l (with_words seen n line) (n + 1) left lines) here (all_from l (with_words seen n line) (n + 1) left lines)))
 
 -- ---- the same of what is said
 
@@ -110,7 +110,7 @@ pair_some : {Kind : Type 0} (k kind : Kind) (m n : ℕ) → k ≡ kind → m ≡
 pair_some {Kind = Kind} k kind m n same here = ap (λ (x : Kind). some_of x m) same ∙ ap (λ (x : ℕ). some_of kind x) here
 
 module _ {Kind : Type 0} (fault_of : Cause → Option (Kind × ℕ)) where
-  -- a fault is said before others, behind others, or in another order
+  -- a fault is said before others, after others, or in another order
   any_left : (f : Kind × ℕ) (xs ys : List Said) → Any (λ s. fault_of s.cause ≡ Some f) xs → Any (λ s. fault_of s.cause ≡ Some f) (xs ++ ys)
   any_left f xs ys h =
       let found = Contains-append_left xs ys h.1 (h.0, h.2, h.3) in
@@ -158,7 +158,7 @@ module _ {Kind : Type 0} (fault_of : Cause → Option (Kind × ℕ)) where
   readers_moved beside (Err Memory) xs ys moved h = h
   readers_moved beside (Err (At kind n)) xs ys moved h = least_moved (beside kind) xs ys kind n moved h
 
-  -- the faults of a part, where the first is the reader's, and all others are behind it
+  -- the faults of a part, where the first is the reader's, and all others are after it
   module _ (of : Kind → FaultKind) (is : (kind : Kind) (n : ℕ) → fault_of (Fault (of kind) n) ≡ Some (kind, n)) where
     pub least_said : (kinds : Kind → Type 0) (above : ℕ) (first : Told Kind) (others : List (Told Kind)) (kind : Kind) (n : ℕ) → kind ≡ first.kind → n ≡ first.line → All (IsBehind n kinds) (first ∷ others) → IsLeast fault_of kinds (said_faults of above (first ∷ others)) kind n
     least_said kinds above first others kind n same here behind =
@@ -195,8 +195,8 @@ module _ {X Kind : Type 0} (line_of : X → ℕ) (kind_of : X → Kind) where
   all_later n [] h = All-nil (λ x. n ≤ line_of x)
   all_later n (x ∷ xs) h = All-cons (λ y. n ≤ line_of y) x xs h.0 (all_later n xs (rise_sooner n (line_of x + 1) (map line_of xs) (omega (arith, h.0)) h.1))
 
-  rising_behind : (n : ℕ) (first : X) (others : List X) → Rise n (map line_of (first ∷ others)) → All (IsBehind (line_of first) (Same (kind_of first))) (map told_of (first ∷ others))
-  rising_behind n first others h =
+  rising_after : (n : ℕ) (first : X) (others : List X) → Rise n (map line_of (first ∷ others)) → All (IsBehind (line_of first) (Same (kind_of first))) (map told_of (first ∷ others))
+  rising_after n first others h =
       let P : Told Kind → Type 0 = IsBehind (line_of first) (Same (kind_of first)) in
       let later = all_later (line_of first + 1) others h.1 in
       All-cons P (told_of first) (map told_of others) (inr (refl, refl))
@@ -205,4 +205,4 @@ module _ {X Kind : Type 0} (line_of : X → ℕ) (kind_of : X → Kind) where
   pub least_of_rising : (fault_of : Cause → Option (Kind × ℕ)) (of : Kind → FaultKind) → ((kind : Kind) (n : ℕ) → fault_of (Fault (of kind) n) ≡ Some (kind, n)) → (above n : ℕ) (first : X) (others : List X) → Rise n (map line_of (first ∷ others)) → IsLeast fault_of (Same (kind_of first)) (map (λ x. said_told of above (told_of x)) (first ∷ others)) (kind_of first) (line_of first)
   least_of_rising fault_of of is above n first others h =
       subst (λ (xs : List Said). IsLeast fault_of (Same (kind_of first)) xs (kind_of first) (line_of first)) (map-map (said_told of above) told_of (first ∷ others))
-      (least_said fault_of of is (Same (kind_of first)) above (told_of first) (map told_of others) (kind_of first) (line_of first) refl refl (rising_behind n first others h))
+      (least_said fault_of of is (Same (kind_of first)) above (told_of first) (map told_of others) (kind_of first) (line_of first) refl refl (rising_after n first others h))

@@ -1,9 +1,9 @@
--- Going on behind the faults of a matrix.
+-- Going on after the faults of a matrix.
 use Rattle.std.proofs.Common.{◌≡◌, ℕ, ◌+◌, List, [], ◌∷◌, ◌++◌, append-nil, Option, Some, None, Result, Ok, Err, refl, sym, ap, subst, ◌∙◌}
-use Rattle.lu_component.specs.Component.{Declarations, IsComponent}
+use Rattle.lu_component.specs.Component.{Component, IsComponent}
 use Rattle.lu_test.specs.declared.matrix_fault.MatrixFaultKind.{MatrixFaultKind}
-use Rattle.lu_test.specs.MatrixText.{Drafted, HasRoom, finished, line_of, nothing}
-use Rattle.lu_test.specs.Signatures.{OpSignature, signatures}
+use Rattle.lu_test.specs.MatrixText.{MatrixDraft, HasRoom, finished, line_of, nothing}
+use Rattle.lu_test.specs.Signatures.{Signature, signatures}
 use Rattle.lu_text.specs.Faults.{fault_in, going_on}
 use Rattle.lu_test.proofs.Threads.{line_fits, line_limits, line_room, nothing_fits, nothing_limits}
 use Rattle.lu_test.proofs.MatrixLeft.{IsKept, mend_kept, mend_room}
@@ -16,57 +16,57 @@ use Rattle.lu_lint.specs.Lint.{end_told, told_on, told_beside, faults_after, wit
 use Rattle.lu_lint.proofs.Going as lines
 use Rattle.lu_lint.specs.Matrix.{FitsBy, fault_said, left_by, matrix_lint, matrix_mend}
 
--- there is room still behind a line
-pub room_kept : (all : List OpSignature) (d d1 next : Drafted) (fault : Option MatrixFaultKind) (line : List ℕ) → HasRoom d → (d1, fault) ≡ going_on d (line_of all d line) → next ≡ left_by d1 line fault → HasRoom next
+-- there is room still after a line
+pub room_kept : (all : List Signature) (d d1 next : MatrixDraft) (fault : Option MatrixFaultKind) (line : List ℕ) → HasRoom d → (d1, fault) ≡ going_on d (line_of all d line) → next ≡ left_by d1 line fault → HasRoom next
 room_kept all d d1 next fault line room e left = go (line_of all d line) refl e
   where
-    go : (r : Result Drafted MatrixFaultKind) → line_of all d line ≡ r → (d1, fault) ≡ going_on d r → HasRoom next
+    go : (r : Result MatrixDraft MatrixFaultKind) → line_of all d line ≡ r → (d1, fault) ≡ going_on d r → HasRoom next
     go (Ok y) read f =
-        let same : d1 ≡ y = ap (λ (x : Drafted × Option MatrixFaultKind). x.0) f in
-        let none : fault ≡ None = ap (λ (x : Drafted × Option MatrixFaultKind). x.1) f in
+        let same : d1 ≡ y = ap (λ (x : MatrixDraft × Option MatrixFaultKind). x.0) f in
+        let none : fault ≡ None = ap (λ (x : MatrixDraft × Option MatrixFaultKind). x.1) f in
         rw (left, none, same) (line_room all d room line y read)
     go (Err k) read f =
-        let same : d1 ≡ d = ap (λ (x : Drafted × Option MatrixFaultKind). x.0) f in
-        let some : fault ≡ Some k = ap (λ (x : Drafted × Option MatrixFaultKind). x.1) f in
+        let same : d1 ≡ d = ap (λ (x : MatrixDraft × Option MatrixFaultKind). x.0) f in
+        let some : fault ≡ Some k = ap (λ (x : MatrixDraft × Option MatrixFaultKind). x.1) f in
         rw (left, some, same) (mend_room d room line)
 
 -- the limits hold of what a line leaves
-step_kept : (c : Declarations) → IsComponent c → (d d1 next : Drafted) (fault : Option MatrixFaultKind) (line : List ℕ) → IsKept c d → (d1, fault) ≡ going_on d (line_of (signatures c.operations) d line) → next ≡ left_by d1 line fault → IsKept c next
+step_kept : (c : Component) → IsComponent c → (d d1 next : MatrixDraft) (fault : Option MatrixFaultKind) (line : List ℕ) → IsKept c d → (d1, fault) ≡ going_on d (line_of (signatures c.operations) d line) → next ≡ left_by d1 line fault → IsKept c next
 step_kept c is d d1 next fault line kept e left = go (line_of (signatures c.operations) d line) refl e
   where
-    go : (r : Result Drafted MatrixFaultKind) → line_of (signatures c.operations) d line ≡ r → (d1, fault) ≡ going_on d r → IsKept c next
+    go : (r : Result MatrixDraft MatrixFaultKind) → line_of (signatures c.operations) d line ≡ r → (d1, fault) ≡ going_on d r → IsKept c next
     go (Ok y) read f =
-        let same : d1 ≡ y = ap (λ (x : Drafted × Option MatrixFaultKind). x.0) f in
-        let none : fault ≡ None = ap (λ (x : Drafted × Option MatrixFaultKind). x.1) f in
+        let same : d1 ≡ y = ap (λ (x : MatrixDraft × Option MatrixFaultKind). x.0) f in
+        let none : fault ≡ None = ap (λ (x : MatrixDraft × Option MatrixFaultKind). x.1) f in
         rw (left, same, none) (record { limits = line_limits c is d kept.limits kept.fits line y read; fits = line_fits c is d kept.limits kept.fits line y read })
     go (Err k) read f =
-        let same : d1 ≡ d = ap (λ (x : Drafted × Option MatrixFaultKind). x.0) f in
-        let some : fault ≡ Some k = ap (λ (x : Drafted × Option MatrixFaultKind). x.1) f in
+        let same : d1 ≡ d = ap (λ (x : MatrixDraft × Option MatrixFaultKind). x.0) f in
+        let some : fault ≡ Some k = ap (λ (x : MatrixDraft × Option MatrixFaultKind). x.1) f in
         rw (left, same, some) (mend_kept c d kept line)
 
 -- and the calls are those of the component whose signatures these are
-pub fits_kept : (all : List OpSignature) (d d1 next : Drafted) (fault : Option MatrixFaultKind) (line : List ℕ) → FitsBy all d → (d1, fault) ≡ going_on d (line_of all d line) → next ≡ left_by d1 line fault → FitsBy all next
+pub fits_kept : (all : List Signature) (d d1 next : MatrixDraft) (fault : Option MatrixFaultKind) (line : List ℕ) → FitsBy all d → (d1, fault) ≡ going_on d (line_of all d line) → next ≡ left_by d1 line fault → FitsBy all next
 fits_kept all d d1 next fault line fits e left c is same =
     let before = fits c is same in
-    let kept = step_kept c is d d1 next fault line (record { limits = before.0; fits = before.1 }) (subst (λ (xs : List OpSignature). (d1, fault) ≡ going_on d (line_of xs d line)) same e) left in
+    let kept = step_kept c is d d1 next fault line (record { limits = before.0; fits = before.1 }) (subst (λ (xs : List Signature). (d1, fault) ≡ going_on d (line_of xs d line)) same e) left in
     (kept.limits, kept.fits)
 
 -- no line is read yet
-pub nothing_by : (all : List OpSignature) → FitsBy all nothing
+pub nothing_by : (all : List Signature) → FitsBy all nothing
 nothing_by all c is same = (nothing_limits, nothing_fits c)
 
 -- nothing is told beside the fault of a line
-alone : (all : List OpSignature) (seen : List ℕ) (n : ℕ) (d : Drafted) (line : List ℕ) (lines : List (List ℕ)) (fault : Option MatrixFaultKind) (above : ℕ) (before : List Said) → before ++ said_faults part.Matrix above (told_beside (matrix_lint all) seen n d line lines fault) ≡ before
+alone : (all : List Signature) (seen : List ℕ) (n : ℕ) (d : MatrixDraft) (line : List ℕ) (lines : List (List ℕ)) (fault : Option MatrixFaultKind) (above : ℕ) (before : List Said) → before ++ said_faults part.Matrix above (told_beside (matrix_lint all) seen n d line lines fault) ≡ before
 alone all seen n d line lines None above before = append-nil before
 alone all seen n d line lines (Some kind) above before = append-nil before
 
--- what stands behind the line says nothing of what it leaves
-pub left_same : (d : Drafted) (line : List ℕ) (lines : List (List ℕ)) (fault : Option MatrixFaultKind) → left_by d line fault ≡ lint.left_by matrix_mend d line lines fault
+-- what stands after the line says nothing of what it leaves
+pub left_same : (d : MatrixDraft) (line : List ℕ) (lines : List (List ℕ)) (fault : Option MatrixFaultKind) → left_by d line fault ≡ lint.left_by matrix_mend d line lines fault
 left_same d line lines None = refl
 left_same d line lines (Some kind) = refl
 
 -- a fault is said of its line
-said_here : (all : List OpSignature) (at : Position) (d : Drafted) (line : List ℕ) (fault : Option MatrixFaultKind) → fault_said at fault ≡ said_faults part.Matrix at.above (told_on (matrix_lint all) at.seen.items at.line d line fault)
+said_here : (all : List Signature) (at : Position) (d : MatrixDraft) (line : List ℕ) (fault : Option MatrixFaultKind) → fault_said at fault ≡ said_faults part.Matrix at.above (told_on (matrix_lint all) at.seen.items at.line d line fault)
 said_here all at d line None = refl
 said_here all at d line (Some kind) = refl
 
@@ -75,7 +75,7 @@ said_at_end at None = refl
 said_at_end at (Some kind) = refl
 
 -- a line is told or not, and the rest is read from the draft that it leaves
-pub goes_on : (all : List OpSignature) (at : Position) (d d1 next : Drafted) (fault : Option MatrixFaultKind) (line : List ℕ) (rest : List (List ℕ)) (before now total : List Said)
+pub goes_on : (all : List Signature) (at : Position) (d d1 next : MatrixDraft) (fault : Option MatrixFaultKind) (line : List ℕ) (rest : List (List ℕ)) (before now total : List Said)
     → (d1, fault) ≡ going_on d (line_of all d line) → next ≡ left_by d1 line fault → now ≡ before ++ fault_said at fault
     → before ++ said_faults part.Matrix at.above (faults_after (matrix_lint all) at.seen.items at.line d (line ∷ rest)) ≡ total → now ++ said_faults part.Matrix at.above (faults_after (matrix_lint all) (with_words at.seen.items at.line line) (at.line + 1) next rest) ≡ total
 goes_on all at d d1 next fault line rest before now total e left more so_far =
@@ -87,7 +87,7 @@ goes_on all at d d1 next fault line rest before now total e left more so_far =
     ∙ lines.goes_on l part.Matrix at.above at.seen.items at.line d d1 next fault line rest rest before total e (left ∙ left_same d1 line rest fault) refl so_far
 
 -- no line is left
-pub is_done : (all : List OpSignature) (at : Position) (n : ℕ) (d : Drafted) (before now total : List Said)
+pub is_done : (all : List Signature) (at : Position) (n : ℕ) (d : MatrixDraft) (before now total : List Said)
     → n ≡ at.line → now ≡ before ++ fault_said at (fault_in (finished d)) → before ++ said_faults part.Matrix at.above (faults_after (matrix_lint all) at.seen.items n d []) ≡ total → now ≡ total
 is_done all at n d before now total e more so_far =
     let fault = fault_in (finished d) in

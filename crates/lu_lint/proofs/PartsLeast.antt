@@ -11,11 +11,11 @@ use Rattle.lu_text.specs.declared.fault.Fault.{Fault as Refused}
 use Rattle.lu_text.specs.declared.fault.Fault.TheVariants.{At, Memory}
 use Rattle.lu_text.specs.Faults.{meaning_of}
 use Rattle.lu_text.specs.Lines.{kept_lines, lines_of, words_of}
-use Rattle.lu_component.specs.Component.{Declarations}
+use Rattle.lu_component.specs.Component.{Component}
 use Rattle.lu_lang.proofs.Understood.{faulty_meaning}
 use Rattle.lu_lang.specs.declared.fault.LangFaultKind.{LangFaultKind}
-use Rattle.lu_lang.specs.Draft.{Drafted, nothing}
-use Rattle.lu_lang.specs.Faulty.{Faulty}
+use Rattle.lu_lang.specs.Draft.{ComponentDraft, nothing}
+use Rattle.lu_lang.specs.Faulty.{FaultyDraft}
 use Rattle.lu_lang.specs.Grammar.{component_grammar}
 use Rattle.lu_test.specs.declared.schedule_fault.ScheduleFault.{ScheduleFault}
 use Rattle.lu_test.specs.Matrix.{Matrix}
@@ -49,7 +49,7 @@ use Rattle.lu_lint.specs.declared.component.ReadComponent.TheVariants as read
 use Rattle.lu_text.specs.Bundle.{meant_parts}
 use Rattle.lu_lint.specs.Bundle.{PartsSaid, component_read, component_said, is_blurred, matrix_read, matrix_said, separator_said, separators_from, warnings_said}
 use Rattle.lu_lint.specs.Component.{component_lint, jumps}
-use Rattle.lu_lint.specs.Further.{BehindMatrix, BehindThird, FourthSaid, fifth_said}
+use Rattle.lu_lint.specs.Further.{AfterMatrix, AfterThird, FourthSaid, fifth_said}
 use Rattle.lu_lint.specs.Least.{ComponentLeast, FourthLeast, FurtherLeast, LeastIsReaders, MatrixLeast, NoneSaid, PartsLeast, ReadersAreLeast, ReadsOrLeast, ReportLeast, Same, SameOrJump, ScheduleFirst, SpecificationLeast, ThirdLeast, component_fault, matrix_fault, report_fault, schedule_fault, specification_fault}
 use Rattle.lu_lint.specs.Lint.{Told, faults_in, told_here, with_words}
 use Rattle.lu_lint.specs.Matrix.{lint_of, matrix_lint}
@@ -61,7 +61,7 @@ use Rattle.lu_lint.specs.Third.{ReportSaid, SaidOfSome, SpecificationSaid, Third
 use Rattle.lu_lint.specs.Warnings.{draft_behind, line_hints, warned, warnings_after}
 use Rattle.lu_lint.proofs.Going.{component_agrees, matrix_agrees}
 use Rattle.lu_lint.proofs.KeptOrder.{IsOfKey, none_picked, picked_alike}
-use Rattle.lu_lint.proofs.LeastLines.{AreBeside, Rise, all_behind, least_left, least_moved, least_of_rising, least_right, readers_left, readers_moved, readers_right, readers_said, rise_sooner}
+use Rattle.lu_lint.proofs.LeastLines.{AreBeside, Rise, all_after, least_left, least_moved, least_of_rising, least_right, readers_left, readers_moved, readers_right, readers_said, rise_sooner}
 use Rattle.lu_lint.proofs.Moves.{schedule_agrees}
 
 -- ---- of which part a fault is
@@ -136,7 +136,7 @@ separators_are n (line ∷ lines) = of_both 0 (separator_said n line) (separator
     go true = All-cons (λ s. part_of s.cause ≡ 0) (record { place = n; cause = Separator }) [] refl (All-nil (λ s. part_of s.cause ≡ 0))
     go false = All-nil (λ s. part_of s.cause ≡ 0)
 
-lines_are : (c : Declarations) (seen : List ℕ) (n : ℕ) (d : Drafted) (lines : List (List ℕ)) → AreOf 0 (warnings_after c seen n d lines)
+lines_are : (c : Component) (seen : List ℕ) (n : ℕ) (d : ComponentDraft) (lines : List (List ℕ)) → AreOf 0 (warnings_after c seen n d lines)
 unfolding warnings_after
 lines_are c seen n d [] = All-nil (λ s. part_of s.cause ≡ 0)
 lines_are c seen n d (line ∷ lines) =
@@ -160,7 +160,7 @@ runs_are bound (read.Faulty f) m above text said h = of_none 0 said h
 runs_are bound (read.Sound c) None above text said h = of_none 0 said h
 runs_are bound (read.Sound c) (Some m) above text said h = subst (AreOf 0) (sym h.2) (All-map (λ s. part_of s.cause ≡ 0) _ h.0 (λ k d within. refl))
 
--- ---- what is said of the parts behind the matrix
+-- ---- what is said of the parts after the matrix
 
 specification_are : (m : Option Matrix) (above : ℕ) (text : List ℕ) (said : List Said) → SaidOfSome m above text said → AreOf 5 said
 specification_are None above text said h = of_none 5 said h
@@ -196,24 +196,24 @@ fifth_are : (above : ℕ) (texts : List (List ℕ)) → AreOf 0 (fifth_said abov
 fifth_are above [] = All-nil (λ s. part_of s.cause ≡ 0)
 fifth_are above (text ∷ texts) = All-cons (λ s. part_of s.cause ≡ 0) (record { place = above; cause = FifthPart }) [] refl (All-nil (λ s. part_of s.cause ≡ 0))
 
--- of the parts behind a schedule or a report only a specification's faults
+-- of the parts after a schedule or a report only a specification's faults
 fourth_not : (p : ℕ) → (5 ≡ p → ⊥) → (0 ≡ p → ⊥) → (m : Option Matrix) (above : ℕ) (texts : List (List ℕ)) (said : List Said) → FourthSaid m above texts said → AreNot p said
 fourth_not p five zero m above [] said h = not_none p said h
 fourth_not p five zero m above (text ∷ texts) said h =
     subst (AreNot p) (sym h.2) (not_both p h.0 (fifth_said (above_next above text) texts) (not_other p 5 h.0 five (specification_are m above text h.0 h.1)) (not_other p 0 _ zero (fifth_are (above_next above text) texts)))
 
--- of those behind a third part
-behind_third_not : (p : ℕ) → (5 ≡ p → ⊥) → (0 ≡ p → ⊥) → (6 ≡ p → ⊥) → (third : Third) (m : Option Matrix) (above : ℕ) (texts : List (List ℕ)) (said : List Said) → BehindThird third m above texts said → AreNot p said
-behind_third_not p five zero six Specification m above texts said h = not_other p 6 said six (subst (AreOf 6) (sym h) (histories_of_are m above texts))
-behind_third_not p five zero six Report m above texts said h = fourth_not p five zero m above texts said h
-behind_third_not p five zero six History m above texts said h = not_other p 6 said six (subst (AreOf 6) (sym h) (histories_of_are m above texts))
-behind_third_not p five zero six Schedule m above texts said h = fourth_not p five zero m above texts said h
+-- of those after a third part
+after_third_not : (p : ℕ) → (5 ≡ p → ⊥) → (0 ≡ p → ⊥) → (6 ≡ p → ⊥) → (third : Third) (m : Option Matrix) (above : ℕ) (texts : List (List ℕ)) (said : List Said) → AfterThird third m above texts said → AreNot p said
+after_third_not p five zero six Specification m above texts said h = not_other p 6 said six (subst (AreOf 6) (sym h) (histories_of_are m above texts))
+after_third_not p five zero six Report m above texts said h = fourth_not p five zero m above texts said h
+after_third_not p five zero six History m above texts said h = not_other p 6 said six (subst (AreOf 6) (sym h) (histories_of_are m above texts))
+after_third_not p five zero six Schedule m above texts said h = fourth_not p five zero m above texts said h
 
--- of the parts behind the matrix no fault of the component or the matrix is said
-further_not : (p : ℕ) → 0 < p → p < 3 → (m : Option Matrix) (above : ℕ) (parts : List (List ℕ)) (said : List Said) → BehindMatrix m above parts said → AreNot p said
+-- of the parts after the matrix no fault of the component or the matrix is said
+further_not : (p : ℕ) → 0 < p → p < 3 → (m : Option Matrix) (above : ℕ) (parts : List (List ℕ)) (said : List Said) → AfterMatrix m above parts said → AreNot p said
 further_not p some low m above [] said h = not_none p said h
 further_not p some low m above (text ∷ texts) said h =
-    subst (AreNot p) (sym h.2.2) (not_both p h.0 h.2.0 (third_not p low (third_of text) m above text h.0 h.1) (behind_third_not p (λ e. omega arith) (λ e. omega arith) (λ e. omega arith) (third_of text) m (above_next above text) texts h.2.0 h.2.1))
+    subst (AreNot p) (sym h.2.2) (not_both p h.0 h.2.0 (third_not p low (third_of text) m above text h.0 h.1) (after_third_not p (λ e. omega arith) (λ e. omega arith) (λ e. omega arith) (third_of text) m (above_next above text) texts h.2.0 h.2.1))
 
 -- ---- a specification and a report: their faults rise
 
@@ -287,19 +287,19 @@ component_beside = record {
 component_here : (text : List ℕ) → ComponentLeast text (said_of_text component_lint 0 text)
 component_here text =
     readers_said component_fault part.Component (λ k n. refl) SameOrJump 0 (meaning_of component_grammar text) (faults_in component_lint text) (component_agrees text)
-    (λ kind n e. all_behind component_lint SameOrJump component_beside [] 1 component_lint.grammar.nothing (lines_of text) kind n (faulty_meaning text ∙ e))
+    (λ kind n e. all_after component_lint SameOrJump component_beside [] 1 component_lint.grammar.nothing (lines_of text) kind n (faulty_meaning text ∙ e))
 
-matrix_beside : (c : Declarations) → AreBeside (lint_of c) Same
+matrix_beside : (c : Component) → AreBeside (lint_of c) Same
 matrix_beside c = record {
   itself = λ kind. refl;
   others = λ d line lines kind. All-nil (λ other. Same kind other.0);
   at_end = λ d kind. All-nil (λ other. Same kind other.0);
 }
 
-matrix_here : (c : Declarations) (above : ℕ) (text : List ℕ) → LeastIsReaders matrix_fault Same (meaning_of (matrix_grammar c) text) (said_of_text (lint_of c) above text)
+matrix_here : (c : Component) (above : ℕ) (text : List ℕ) → LeastIsReaders matrix_fault Same (meaning_of (matrix_grammar c) text) (said_of_text (lint_of c) above text)
 matrix_here c above text =
     readers_said matrix_fault part.Matrix (λ k n. refl) Same above (meaning_of (matrix_grammar c) text) (faults_in (lint_of c) text) (matrix_agrees c text)
-    (λ kind n e. all_behind (lint_of c) Same (matrix_beside c) [] 1 (lint_of c).grammar.nothing (lines_of text) kind n e)
+    (λ kind n e. all_after (lint_of c) Same (matrix_beside c) [] 1 (lint_of c).grammar.nothing (lines_of text) kind n e)
 
 specification_here : (m : Matrix) (above : ℕ) (text : List ℕ) (said : List Said) → SpecificationSaid m above text said → SpecificationLeast (Some m) text said
 specification_here m above text said h = subst (SpecificationLeast (Some m) text) (sym h.2) (go h.0 (given_told m text h.0 h.1) (given_rise m text h.0 h.1))
@@ -330,18 +330,18 @@ module _ {Kind : Type 0} (fault_of : Cause → Option (Kind × ℕ)) (reads : Ty
   either_moved xs ys moved (inl (read, others)) = inl (read, All-permutation (λ s. fault_of s.cause ≡ None) xs ys moved others)
   either_moved xs ys moved (inr (kind, n, refused, least)) = inr (kind, n, refused, least_moved fault_of (Same kind) xs ys kind n moved least)
 
--- a part's segment, between what is said before it and behind it
+-- a part's segment, between what is said before it and after it
 module _ {Kind : Type 0} (fault_of : Cause → Option (Kind × ℕ)) (reads : Type 0) (refuses : Kind → ℕ → Type 0) (first third behind runs found said : List Said) (parts : found ≡ (first ++ (third ++ behind)) ++ runs) (moved : IsPermutation found said) where
   of_third : NoneSaid fault_of first → NoneSaid fault_of behind → NoneSaid fault_of runs → ReadsOrLeast fault_of reads refuses third → ReadsOrLeast fault_of reads refuses said
-  of_third none_first none_behind none_runs h =
+  of_third none_first none_after none_runs h =
       either_moved fault_of reads refuses found said moved
       (subst (ReadsOrLeast fault_of reads refuses) (sym parts)
       (either_left fault_of reads refuses (first ++ (third ++ behind)) runs none_runs
       (either_right fault_of reads refuses first (third ++ behind) none_first
-      (either_left fault_of reads refuses third behind none_behind h))))
+      (either_left fault_of reads refuses third behind none_after h))))
 
-  of_behind : NoneSaid fault_of first → NoneSaid fault_of third → NoneSaid fault_of runs → ReadsOrLeast fault_of reads refuses behind → ReadsOrLeast fault_of reads refuses said
-  of_behind none_first none_third none_runs h =
+  of_after : NoneSaid fault_of first → NoneSaid fault_of third → NoneSaid fault_of runs → ReadsOrLeast fault_of reads refuses behind → ReadsOrLeast fault_of reads refuses said
+  of_after none_first none_third none_runs h =
       either_moved fault_of reads refuses found said moved
       (subst (ReadsOrLeast fault_of reads refuses) (sym parts)
       (either_left fault_of reads refuses (first ++ (third ++ behind)) runs none_runs
@@ -360,13 +360,13 @@ with_fifth (Some m) text said fifth are h = either_left specification_fault _ _ 
 fourth_here : (m : Option Matrix) (above : ℕ) (text : List ℕ) (texts : List (List ℕ)) (said : List Said) → FourthSaid m above (text ∷ texts) said → SpecificationLeast m text said
 fourth_here m above text texts said h = subst (SpecificationLeast m text) (sym h.2) (with_fifth m text h.0 (fifth_said (above_next above text) texts) (fifth_are (above_next above text) texts) (some_here m above text h.0 h.1))
 
-no_fourth_behind_specification : (m : Option Matrix) (texts : List (List ℕ)) (said : List Said) → FourthLeast Specification m texts said
-no_fourth_behind_specification m [] said = tt
-no_fourth_behind_specification m (text ∷ texts) said = tt
+no_fourth_after_specification : (m : Option Matrix) (texts : List (List ℕ)) (said : List Said) → FourthLeast Specification m texts said
+no_fourth_after_specification m [] said = tt
+no_fourth_after_specification m (text ∷ texts) said = tt
 
-no_fourth_behind_history : (m : Option Matrix) (texts : List (List ℕ)) (said : List Said) → FourthLeast History m texts said
-no_fourth_behind_history m [] said = tt
-no_fourth_behind_history m (text ∷ texts) said = tt
+no_fourth_after_history : (m : Option Matrix) (texts : List (List ℕ)) (said : List Said) → FourthLeast History m texts said
+no_fourth_after_history m [] said = tt
+no_fourth_after_history m (text ∷ texts) said = tt
 
 abbrev of_schedule : Said → Option ScheduleFault
 of_schedule s = schedule_fault s.cause
@@ -383,41 +383,41 @@ picked_all above (fault ∷ faults) = ap (λ (fs : List ScheduleFault). fault �
 
 module _ (first third behind runs found said : List Said) (parts : found ≡ (first ++ (third ++ behind)) ++ runs) (moved : IsPermutation found said) (stable : IsStableByKey (λ s. s.place) nat_cmp found said) (not_first : (p : ℕ) → 3 ≤ p → AreNot p first) (are_runs : AreOf 0 runs) where
   specification_third : (m : Option Matrix) (text : List ℕ) → AreNot 5 behind → SpecificationLeast m text third → SpecificationLeast m text said
-  specification_third None text not_behind h = tt
-  specification_third (Some m) text not_behind h =
+  specification_third None text not_after h = tt
+  specification_third (Some m) text not_after h =
       of_third specification_fault _ _ first third behind runs found said parts moved
       (none_of specification_fault 5 no_specification first (not_first 5 (omega arith)))
-      (none_of specification_fault 5 no_specification behind not_behind)
+      (none_of specification_fault 5 no_specification behind not_after)
       (none_of specification_fault 5 no_specification runs (not_other 5 0 runs (λ e. omega arith) are_runs)) h
 
   specification_fourth : (m : Option Matrix) (text : List ℕ) → AreNot 5 third → SpecificationLeast m text behind → SpecificationLeast m text said
   specification_fourth None text not_third h = tt
   specification_fourth (Some m) text not_third h =
-      of_behind specification_fault _ _ first third behind runs found said parts moved
+      of_after specification_fault _ _ first third behind runs found said parts moved
       (none_of specification_fault 5 no_specification first (not_first 5 (omega arith)))
       (none_of specification_fault 5 no_specification third not_third)
       (none_of specification_fault 5 no_specification runs (not_other 5 0 runs (λ e. omega arith) are_runs)) h
 
   report_third : (text : List ℕ) → AreNot 4 behind → ReportLeast text third → ReportLeast text said
-  report_third text not_behind h =
+  report_third text not_after h =
       of_third report_fault _ _ first third behind runs found said parts moved
       (none_of report_fault 4 no_report first (not_first 4 (omega arith)))
-      (none_of report_fault 4 no_report behind not_behind)
+      (none_of report_fault 4 no_report behind not_after)
       (none_of report_fault 4 no_report runs (not_other 4 0 runs (λ e. omega arith) are_runs)) h
 
   -- the faults of a schedule stand on one line, so they are said in the order in which they are found
   schedule_third : (above : ℕ) (text : List ℕ) → AreNot 3 behind → third ≡ schedule_said above (schedule_faults text) → ScheduleFirst text said
-  schedule_third above text not_behind is =
+  schedule_third above text not_after is =
       let key = λ (s : Said). s.place in
       let place = line_below above 1 in
       let one : Said = record { place = place; cause = Separator } in
       let P : Said → Type 0 = IsOfKey key of_schedule place in
       let none_first = no_schedule_in first (not_first 3 (omega arith)) in
-      let none_behind = no_schedule_in behind not_behind in
+      let none_after = no_schedule_in behind not_after in
       let none_runs = no_schedule_in runs (not_other 3 0 runs (λ e. omega arith) are_runs) in
       let left : (xs : List Said) → All (λ s. of_schedule s ≡ None) xs → All P xs = λ xs none. All-weaker (λ s. of_schedule s ≡ None) P (λ s e. inl e) xs none in
       let here : All P third = subst (All P) (sym is) (All-map P _ (schedule_told (schedule_faults text)) (told_on_first above (schedule_faults text))) in
-      let all : All P found = subst (All P) (sym parts) (All-append P (first ++ (third ++ behind)) runs (All-append P first (third ++ behind) (left first none_first) (All-append P third behind here (left behind none_behind))) (left runs none_runs)) in
+      let all : All P found = subst (All P) (sym parts) (All-append P (first ++ (third ++ behind)) runs (All-append P first (third ++ behind) (left first none_first) (All-append P third behind here (left behind none_after))) (left runs none_runs)) in
       let same : filter_map of_schedule said ≡ schedule_faults text =
       picked_alike key of_schedule place one found said refl moved stable all
       ∙ (ap (filter_map of_schedule) parts
@@ -427,16 +427,16 @@ module _ (first third behind runs found said : List Said) (parts : found ≡ (fi
       ∙ (filter_map-append of_schedule first (third ++ behind)
       ∙ (ap (λ (xs : List ScheduleFault). xs ++ filter_map of_schedule (third ++ behind)) (none_picked key of_schedule first none_first)
       ∙ (filter_map-append of_schedule third behind
-      ∙ (ap (λ (xs : List ScheduleFault). filter_map of_schedule third ++ xs) (none_picked key of_schedule behind none_behind)
+      ∙ (ap (λ (xs : List ScheduleFault). filter_map of_schedule third ++ xs) (none_picked key of_schedule behind none_after)
       ∙ (append-nil (filter_map of_schedule third)
       ∙ (ap (filter_map of_schedule) is ∙ picked_all above (schedule_faults text))))))))))) in
       subst (AgreeOn _) (sym same) (schedule_agrees text)
 
-  -- a third part that is this, and the one behind it
-  third_least : (third_is : Third) (m : Option Matrix) (above : ℕ) (text : List ℕ) (texts : List (List ℕ)) → ThirdSaid third_is m above text third → BehindThird third_is m (above_next above text) texts behind → ThirdLeast third_is m text said × FourthLeast third_is m texts said
+  -- a third part that is this, and the one after it
+  third_least : (third_is : Third) (m : Option Matrix) (above : ℕ) (text : List ℕ) (texts : List (List ℕ)) → ThirdSaid third_is m above text third → AfterThird third_is m (above_next above text) texts behind → ThirdLeast third_is m text said × FourthLeast third_is m texts said
   third_least Specification m above text texts t b =
-      (specification_third m text (not_other 5 6 behind (λ e. omega arith) (subst (AreOf 6) (sym b) (histories_of_are m (above_next above text) texts))) (some_here m above text third t), no_fourth_behind_specification m texts said)
-  third_least History m above text texts t b = (tt, no_fourth_behind_history m texts said)
+      (specification_third m text (not_other 5 6 behind (λ e. omega arith) (subst (AreOf 6) (sym b) (histories_of_are m (above_next above text) texts))) (some_here m above text third t), no_fourth_after_specification m texts said)
+  third_least History m above text texts t b = (tt, no_fourth_after_history m texts said)
   third_least Report m above text texts t b =
       (report_third text (fourth_not 4 (λ e. omega arith) (λ e. omega arith) m (above_next above text) texts behind b) (report_here above text third t), fourth texts b)
     where
@@ -453,12 +453,12 @@ module _ (first third behind runs found said : List Said) (parts : found ≡ (fi
 -- ---- all parts
 
 lines_not : (p : ℕ) → (0 ≡ p → ⊥) → (1 ≡ p → ⊥) → (2 ≡ p → ⊥) → (n : ℕ) (lines : List (List ℕ)) (component : List ℕ) (behind : List Said) → AreOf 2 behind → AreNot p (separators_from n lines ++ (component_said component ++ behind))
-lines_not p zero one two n lines component behind are_behind =
+lines_not p zero one two n lines component behind are_after =
     let warned = warnings_said (component_read component) (lines_of component) in
     not_both p (separators_from n lines) (component_said component ++ behind) (not_other p 0 _ zero (separators_are n lines))
     (not_both p (component_said component) behind
     (not_both p (said_of_text component_lint 0 component) warned (not_other p 1 _ one (faults_of part.Component 1 (λ k n. refl) 0 (faults_in component_lint component))) (not_other p 0 _ zero (warnings_are (component_read component) (lines_of component))))
-    (not_other p 2 behind two are_behind))
+    (not_other p 2 behind two are_after))
 
 matrix_left : (c : ReadComponent) (text : List ℕ) (xs ys : List Said) → AreNot 2 ys → MatrixLeast c text xs → MatrixLeast c text (xs ++ ys)
 matrix_left (read.Faulty f) text xs ys are h = tt
@@ -476,7 +476,7 @@ judged_here : (c : ReadComponent) (above : ℕ) (text : List ℕ) → MatrixLeas
 judged_here (read.Faulty f) above text = tt
 judged_here (read.Sound c) above text = matrix_here c above text
 
-module _ (component : List ℕ) (lines : List (List ℕ)) (behind further runs found said : List Said) (parts : found ≡ ((separators_from 1 lines ++ (component_said component ++ behind)) ++ further) ++ runs) (moved : IsPermutation found said) (are_behind : AreOf 2 behind) (are_runs : AreOf 0 runs) where
+module _ (component : List ℕ) (lines : List (List ℕ)) (behind further runs found said : List Said) (parts : found ≡ ((separators_from 1 lines ++ (component_said component ++ behind)) ++ further) ++ runs) (moved : IsPermutation found said) (are_after : AreOf 2 behind) (are_runs : AreOf 0 runs) where
   component_least : AreNot 1 further → ComponentLeast component said
   component_least not_further =
       let r = meaning_of component_grammar component in
@@ -489,7 +489,7 @@ module _ (component : List ℕ) (lines : List (List ℕ)) (behind further runs f
       (readers_left component_fault SameOrJump r ((separators ++ ((told ++ warned) ++ behind)) ++ further) runs (none runs (not_other 1 0 runs (λ e. omega arith) are_runs))
       (readers_left component_fault SameOrJump r (separators ++ ((told ++ warned) ++ behind)) further (none further not_further)
       (readers_right component_fault SameOrJump r separators ((told ++ warned) ++ behind) (none separators (not_other 1 0 separators (λ e. omega arith) (separators_are 1 lines)))
-      (readers_left component_fault SameOrJump r (told ++ warned) behind (none behind (not_other 1 2 behind (λ e. omega arith) are_behind))
+      (readers_left component_fault SameOrJump r (told ++ warned) behind (none behind (not_other 1 2 behind (λ e. omega arith) are_after))
       (readers_left component_fault SameOrJump r told warned (none warned (not_other 1 0 warned (λ e. omega arith) (warnings_are (component_read component) (lines_of component)))) (component_here component)))))))
 
   matrix_least : (matrix : List ℕ) → behind ≡ matrix_said (component_read component) (above_next 0 component) matrix → AreNot 2 further → MatrixLeast (component_read component) matrix said
@@ -506,14 +506,14 @@ module _ (component : List ℕ) (lines : List (List ℕ)) (behind further runs f
       (matrix_right c matrix separators ((told ++ warned) ++ behind) (not_other 2 0 separators (λ e. omega arith) (separators_are 1 lines))
       (matrix_right c matrix (told ++ warned) behind (not_both 2 told warned (not_other 2 1 told (λ e. omega arith) (faults_of part.Component 1 (λ k n. refl) 0 (faults_in component_lint component))) (not_other 2 0 warned (λ e. omega arith) (warnings_are c (lines_of component)))) here)))))
 
--- the parts behind the matrix
-further_least : (m : Option Matrix) (above : ℕ) (texts : List (List ℕ)) (first further runs found said : List Said) → found ≡ (first ++ further) ++ runs → IsPermutation found said → IsStableByKey (λ s. s.place) nat_cmp found said → ((p : ℕ) → 3 ≤ p → AreNot p first) → AreOf 0 runs → BehindMatrix m above texts further → FurtherLeast m texts said
+-- the parts after the matrix
+further_least : (m : Option Matrix) (above : ℕ) (texts : List (List ℕ)) (first further runs found said : List Said) → found ≡ (first ++ further) ++ runs → IsPermutation found said → IsStableByKey (λ s. s.place) nat_cmp found said → ((p : ℕ) → 3 ≤ p → AreNot p first) → AreOf 0 runs → AfterMatrix m above texts further → FurtherLeast m texts said
 further_least m above [] first further runs found said parts moved stable not_first are_runs h = tt
 further_least m above (text ∷ texts) first further runs found said parts moved stable not_first are_runs h =
     let all : found ≡ (first ++ (h.0 ++ h.2.0)) ++ runs = parts ∙ ap (λ (xs : List Said). (first ++ xs) ++ runs) h.2.2 in
     third_least first h.0 h.2.0 runs found said all moved stable not_first are_runs (third_of text) m above text texts h.1 h.2.1
 
--- the same, part behind part
+-- the same, part after part
 in_order : (a b m f r : List Said) → a ++ (b ++ (m ++ (f ++ r))) ≡ ((a ++ (b ++ m)) ++ f) ++ r
 in_order a b m f r =
     ap (λ (x : List Said). a ++ x) (sym (append_assoc b m (f ++ r)))
@@ -537,11 +537,11 @@ by_parts bound (component ∷ matrix ∷ rest) lines found said h moved stable =
     let first = separators_from 1 lines ++ (component_said component ++ behind) in
     let all : found ≡ (first ++ further) ++ runs =
     h.2 ∙ (ap (λ (x : List Said). separators_from 1 lines ++ x) (h.1.2 ∙ ap (λ (x : List Said). component_said component ++ x) told.4) ∙ in_order (separators_from 1 lines) (component_said component) behind further runs) in
-    let are_behind = matrix_are c (above_next 0 component) matrix in
+    let are_after = matrix_are c (above_next 0 component) matrix in
     let are_runs = runs_are bound c m (above_next 0 component) matrix runs told.3 in (
-      component_least component lines behind further runs found said all moved are_behind are_runs (further_not 1 (omega arith) (omega arith) m above rest further told.2),
-      matrix_least component lines behind further runs found said all moved are_behind are_runs matrix refl (further_not 2 (omega arith) (omega arith) m above rest further told.2),
-      further_least m above rest first further runs found said all moved stable (λ p le. lines_not p (λ e. omega arith) (λ e. omega arith) (λ e. omega arith) 1 lines component behind are_behind) are_runs told.2,
+      component_least component lines behind further runs found said all moved are_after are_runs (further_not 1 (omega arith) (omega arith) m above rest further told.2),
+      matrix_least component lines behind further runs found said all moved are_after are_runs matrix refl (further_not 2 (omega arith) (omega arith) m above rest further told.2),
+      further_least m above rest first further runs found said all moved stable (λ p le. lines_not p (λ e. omega arith) (λ e. omega arith) (λ e. omega arith) 1 lines component behind are_after) are_runs told.2,
     )
 
 pub readers_are_least : ReadersAreLeast

@@ -1,7 +1,7 @@
 -- A schedule that is cut, move after move, and its serial operations.
 use Rattle.std.proofs.Common.{◌≡◌, ℕ, ◌+◌, ◌<◌, ◌≤◌, List, [], ◌∷◌, ◌++◌, length, get_or, take, Option, sym, ap, subst, ◌∙◌, append_assoc, append-nil}
 use Rattle.std.proofs.lemmas.List.{take_more, take_all}
-use Rattle.lu_component.specs.Component.{Declarations}
+use Rattle.lu_component.specs.Component.{Component}
 use Rattle.lu_test.specs.declared.schedule.Move.{Move}
 use Rattle.lu_test.specs.Matrix.{Matrix}
 use Rattle.lu_machine.specs.declared.event.Event.{Event}
@@ -25,7 +25,7 @@ can_move start u v i d now h same can within leads =
 pub moved : (start : State) (u : List Move) (i : ℕ) (d : Move) (now new : State) (h next : List Event) (event : Option Event) → i < length u → Leads start (take i u) now h → Step now (get_or u i d) new event → next ≡ h ++ with_event event [] → Leads start (take (i + 1) u) new next
 moved start u i d now new h next event within leads step more = rw (more, take_more u i d within) (child_leads start (take i u) now h leads (get_or u i d) new event step)
 
-pub played_all : (c : Declarations) (matrix : Matrix) (start : State) (u v : List Move) (i : ℕ) (now : State) (h : List Event) → IsStart c matrix start → u ≡ v → length u ≤ i → Leads start (take i u) now h → FromEachStart c matrix (ShowsHistory v h)
+pub played_all : (c : Component) (matrix : Matrix) (start : State) (u v : List Move) (i : ℕ) (now : State) (h : List Event) → IsStart c matrix start → u ≡ v → length u ≤ i → Leads start (take i u) now h → FromEachStart c matrix (ShowsHistory v h)
 played_all c matrix start u v i now h starts same past leads = λ s is.
     (let e : start ≡ s = start_same c matrix start s starts is in
     let whole : take i u ≡ v = take_all i u past ∙ same in
@@ -42,6 +42,6 @@ entries_more h i d before next within is more = rw (take_more h i d within) (mor
 pub entries_all : (h : List Event) (i : ℕ) (entries : List SerialOp) → length h ≤ i → entries ≡ entries_of (take i h) → entries ≡ entries_of h
 entries_all h i entries past is = is ∙ ap entries_of (take_all i h past)
 
-pub cut_shown : (c : Declarations) (matrix : Matrix) (u : List Move) (history : List Event) (hints : List SerialHint) → FromEachStart c matrix (ShowsHistory u history) → hints ≡ cut_hints history → FromEachStart c matrix (HintsOfCut u hints)
+pub cut_shown : (c : Component) (matrix : Matrix) (u : List Move) (history : List Event) (hints : List SerialHint) → FromEachStart c matrix (ShowsHistory u history) → hints ≡ cut_hints history → FromEachStart c matrix (HintsOfCut u hints)
 cut_shown c matrix u history hints plays is = λ s start.
     (let played = plays s start in (played.0, history, played.1, is))

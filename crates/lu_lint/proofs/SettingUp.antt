@@ -5,7 +5,7 @@ use Rattle.std.proofs.lemmas.Bool.{cases_lt, le-ltb}
 use Rattle.std.proofs.lemmas.List.{get_or-replicate, length-replicate, replicate-append-replicate, take-replicate}
 use Rattle.std.proofs.lemmas.List.Elements.{All-cons, All-head, All-nil}
 use Rattle.std.proofs.lemmas.Grind.{flat_map-append}
-use Rattle.lu_component.specs.Component.{Declarations}
+use Rattle.lu_component.specs.Component.{Component}
 use Rattle.lu_test.specs.declared.matrix.Call.{Call}
 use Rattle.lu_test.specs.declared.schedule.Move.{Move}
 use Rattle.lu_test.specs.Matrix.{IsCallOf, IsMatrix, IsOf, Matrix, alone, calls_of}
@@ -23,7 +23,7 @@ use Rattle.lu_lint.specs.declared.remark.RunHint.{RunHint}
 use Rattle.lu_lint.specs.Runs.{SetupRuns, event_hints, setup_hints}
 
 -- the setup as a matrix of its own can run
-pub can_start : (c : Declarations) (matrix m : Matrix) → m ≡ alone matrix.setup → IsOf matrix c → CanRun c m
+pub can_start : (c : Component) (matrix m : Matrix) → m ≡ alone matrix.setup → IsOf matrix c → CanRun c m
 can_start c matrix m is of =
     subst (CanRun c) (sym is) (record {
       of = (All-nil (IsCallOf c), All-cons (λ (x : List Call). All (IsCallOf c) x) matrix.setup [] of.0 (All-nil (λ (x : List Call). All (IsCallOf c) x)));
@@ -31,7 +31,7 @@ can_start c matrix m is of =
     })
 
 -- and there runs start in the empty state
-pub starts_empty : (c : Declarations) (calls : List Call) (m : Matrix) (s : State) → m ≡ alone calls → IsStart c m s → s ≡ empty_state c (alone calls)
+pub starts_empty : (c : Component) (calls : List Call) (m : Matrix) (s : State) → m ≡ alone calls → IsStart c m s → s ≡ empty_state c (alone calls)
 starts_empty c calls m s is start =
     let at : IsStart c (alone calls) s = subst (λ (x : Matrix). IsStart c x s) is start in
     at.is ∙ ap (λ (x : State). at_rest c (alone calls) x.cells x.locks) at.made
@@ -43,7 +43,7 @@ record FirstMoves (s : State) (most : ℕ) (end : State) : Type 0 where
   history : List Event
   leads : Leads s (replicate moves first_move) end history
 
-all_leads : (c : Declarations) (calls : List Call) (k : ℕ) (end : State) → MakesAll c calls k end → FirstMoves (empty_state c (alone calls)) (257 * k) end
+all_leads : (c : Component) (calls : List Call) (k : ℕ) (end : State) → MakesAll c calls k end → FirstMoves (empty_state c (alone calls)) (257 * k) end
 all_leads c calls zero end made = record { moves = 0; few = omega arith; history = []; leads = (made, refl) }
 all_leads c calls (suc k) end made =
     let rest = all_leads c calls k made.0 made.1 in
@@ -70,7 +70,7 @@ no_move_left s k at over = by_threads s.threads refl at
         let first : progress_of x ≡ (k, false) = ap (λ (ps : List (ℕ × Bool)). get_or ps 0 (0, true)) same in
         by_activity x x.activity refl (ap (λ (xs : List Thread). slice_get xs 0) is) (ap (λ (p : ℕ × Bool). p.0) first) (ap (λ (p : ℕ × Bool). p.1) first)
 
-made_all : (c : Declarations) (calls : List Call) (end : State) → MakesAll c calls (length calls) end → IsFeasible end first_move → ⊥
+made_all : (c : Component) (calls : List Call) (end : State) → MakesAll c calls (length calls) end → IsFeasible end first_move → ⊥
 made_all c calls end made feasible =
     let is = after c calls (length calls) end made in
     let count : call_count end 0 ≡ length calls = ap (λ (m : Matrix). length (calls_of m 0)) is.matrix in
@@ -86,7 +86,7 @@ longer_goes_on s n i end now g h whole part less =
     subst (λ (m : Move). IsFeasible now m) (get_or-replicate n i first_move first_move less) f
 
 -- as many moves as can be made, or as a setup takes at most
-pub is_run : (c : Declarations) (matrix : Matrix) (m : Matrix) (i : ℕ) (now : State) (h : List Event) → m ≡ alone matrix.setup → IsMatrix m → Settles c matrix → Leads (empty_state c (alone matrix.setup)) (replicate i first_move) now h → (IsFeasible now first_move → 2056 ≤ i) → SetupRuns c matrix i h
+pub is_run : (c : Component) (matrix : Matrix) (m : Matrix) (i : ℕ) (now : State) (h : List Event) → m ≡ alone matrix.setup → IsMatrix m → Settles c matrix → Leads (empty_state c (alone matrix.setup)) (replicate i first_move) now h → (IsFeasible now first_move → 2056 ≤ i) → SetupRuns c matrix i h
 is_run c matrix m i now h is limits settles leads stops =
     let s = empty_state c (alone matrix.setup) in
     let start = (start_there c matrix settles).1 in
@@ -106,14 +106,14 @@ is_run c matrix m i now h is limits settles leads stops =
 -- ---- the loop
 
 -- after so many moves
-abbrev pub IsSettingUp : Declarations → List Call → ℕ → State → List RunHint → Type 0
+abbrev pub IsSettingUp : Component → List Call → ℕ → State → List RunHint → Type 0
 IsSettingUp c calls moves now hints =
     (h : List Event) × Leads (empty_state c (alone calls)) (replicate moves first_move) now h × (hints ≡ setup_hints h)
 
-pub at_first : (c : Declarations) (calls : List Call) (now : State) (hints : List RunHint) → now ≡ empty_state c (alone calls) → hints ≡ [] → IsSettingUp c calls 0 now hints
+pub at_first : (c : Component) (calls : List Call) (now : State) (hints : List RunHint) → now ≡ empty_state c (alone calls) → hints ≡ [] → IsSettingUp c calls 0 now hints
 at_first c calls now hints is none = ([], (is, refl), none)
 
-pub one_further : (c : Declarations) (calls : List Call) (i : ℕ) (now new : State) (event : Option Event) (hints next : List RunHint) → IsSettingUp c calls i now hints → Step now first_move new event → next ≡ hints ++ flat_map event_hints (with_event event []) → IsSettingUp c calls (i + 1) new next
+pub one_further : (c : Component) (calls : List Call) (i : ℕ) (now new : State) (event : Option Event) (hints next : List RunHint) → IsSettingUp c calls i now hints → Step now first_move new event → next ≡ hints ++ flat_map event_hints (with_event event []) → IsSettingUp c calls (i + 1) new next
 one_further c calls i now new event hints next (h, leads, is) step more =
     let s = empty_state c (alone calls) in
     let on = leads_on s (replicate i first_move) (replicate 1 first_move) now new h (with_event event []) leads (new, event, [], step, (refl, refl), refl) in

@@ -10,7 +10,7 @@ use Rattle.lu_trie.specs.Branches.{Branch, IsBranching, branches_of, joined, mem
 use Rattle.lu_spec.proofs.Sets.{joined_next}
 use Rattle.lu_lint.specs.declared.remark.Ending.{Ending}
 use Rattle.lu_lint.specs.declared.remark.SerialHint.{SerialHint}
-use Rattle.lu_lint.specs.Runs.{ending_of, hint_of, hints_behind, history_hints, op_hints, with_set, with_firsts, with_hint}
+use Rattle.lu_lint.specs.Runs.{ending_of, hint_of, hints_after, history_hints, op_hints, with_set, with_firsts, with_hint}
 
 -- ---- the first of each call and ending
 
@@ -29,16 +29,16 @@ firsts-append told (x ∷ xs) ys = firsts-append (with_hint told x) xs ys
 
 -- ---- the operations of a history
 
-pub op_further : (h : List SerialOp) (i : ℕ) (d : SerialOp) (told next total : List SerialHint) → i < length h → next ≡ with_firsts told (op_hints (take i h) (get_or h i d)) → with_firsts told (hints_behind (take i h) (drop i h)) ≡ total → with_firsts next (hints_behind (take (i + 1) h) (drop (i + 1) h)) ≡ total
-unfolding hints_behind
+pub op_further : (h : List SerialOp) (i : ℕ) (d : SerialOp) (told next total : List SerialHint) → i < length h → next ≡ with_firsts told (op_hints (take i h) (get_or h i d)) → with_firsts told (hints_after (take i h) (drop i h)) ≡ total → with_firsts next (hints_after (take (i + 1) h) (drop (i + 1) h)) ≡ total
+unfolding hints_after
 op_further h i d told next total within more so_far =
     let op = get_or h i d in
-    let rest = hints_behind (take i h ++ op ∷ []) (drop (i + 1) h) in
+    let rest = hints_after (take i h ++ op ∷ []) (drop (i + 1) h) in
     let split : with_firsts told (op_hints (take i h) op ++ rest) ≡ total = rw (drop_more h i d within) at so_far in
     rw (more, take_more h i d within) (sym (firsts-append told (op_hints (take i h) op) rest) ∙ split)
 
-pub no_more : (h : List SerialOp) (i : ℕ) (told total : List SerialHint) → length h ≤ i → with_firsts told (hints_behind (take i h) (drop i h)) ≡ total → told ≡ total
-unfolding hints_behind with_firsts
+pub no_more : (h : List SerialOp) (i : ℕ) (told total : List SerialHint) → length h ≤ i → with_firsts told (hints_after (take i h) (drop i h)) ≡ total → told ≡ total
+unfolding hints_after with_firsts
 no_more h i told total past so_far = rw (drop_all i h past) at so_far
 
 -- ---- the histories below a place

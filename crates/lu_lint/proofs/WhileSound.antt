@@ -6,10 +6,10 @@ use Rattle.std.specs.Result.{result_ok}
 use Rattle.lu_text.specs.declared.fault.Fault.{Fault}
 use Rattle.lu_text.specs.declared.fault.Fault.TheVariants.{At}
 use Rattle.lu_text.specs.Faults.{Grammar, fault_in, going_on, lines_after, meaning_of, on_line, says, then_lines}
-use Rattle.lu_component.specs.Component.{Declarations}
+use Rattle.lu_component.specs.Component.{Component}
 use Rattle.lu_lang.specs.declared.fault.LangFaultKind.{LangFaultKind}
-use Rattle.lu_lang.specs.Draft.{Drafted}
-use Rattle.lu_lang.specs.Faulty.{Faulty}
+use Rattle.lu_lang.specs.Draft.{ComponentDraft}
+use Rattle.lu_lang.specs.Faulty.{FaultyDraft}
 use Rattle.lu_lang.specs.Grammar.{component_grammar, line_of}
 use Rattle.lu_lang.specs.Meant.{faulty_grammar, mend_faulty, read_as as meant_as, with_draft}
 use Rattle.lu_lang.specs.Sound.{IsSoundDraft}
@@ -19,7 +19,7 @@ use Rattle.lu_test.specs.declared.matrix.Call.{Call}
 use Rattle.lu_test.specs.declared.matrix_fault.MatrixFaultKind.TheVariants.{Limit}
 use Rattle.lu_test.specs.Matrix.{IsOf, Matrix, matrix_with}
 use Rattle.lu_test.specs.MatrixText.{finished, grammar_by}
-use Rattle.lu_test.specs.Signatures.{OpSignature}
+use Rattle.lu_test.specs.Signatures.{Signature}
 use Rattle.lu_test.specs.MatrixText as matrix
 use Rattle.lu_lint.specs.declared.component.ReadComponent.{ReadComponent}
 use Rattle.lu_lint.specs.declared.remark.Said.{Said}
@@ -63,40 +63,40 @@ reads_on {Kind = Kind} {Draft = Draft} g mend true none n d d1 next fault line b
 -- ---- a component
 
 -- while no line has had a fault, what is declared obeys the rules of components
-abbrev pub KeepsRules : Bool → Faulty → Type 0
+abbrev pub KeepsRules : Bool → FaultyDraft → Type 0
 KeepsRules sound f = sound ≡ true → IsSoundDraft f.draft
 
-pub rules_on : (sound none : Bool) (f f1 next : Faulty) (fault : Option LangFaultKind) (line : List ℕ) (behind whole rest : List (List ℕ)) → whole ≡ line ∷ rest → behind ≡ rest → is_some fault ≡ not none → (f1, fault) ≡ going_on f (faulty_grammar.line f line) → next ≡ left_by mend_faulty f1 line behind fault → KeepsRules sound f → KeepsRules (sound && none) next
+pub rules_on : (sound none : Bool) (f f1 next : FaultyDraft) (fault : Option LangFaultKind) (line : List ℕ) (behind whole rest : List (List ℕ)) → whole ≡ line ∷ rest → behind ≡ rest → is_some fault ≡ not none → (f1, fault) ≡ going_on f (faulty_grammar.line f line) → next ≡ left_by mend_faulty f1 line behind fault → KeepsRules sound f → KeepsRules (sound && none) next
 rules_on false none f f1 next fault line behind whole rest cut same is e left h k = absurd cc
 rules_on true none f f1 next fault line behind whole rest cut same is e left h k = go (line_of f.draft (meant_as f line)) refl e (sym (free (is_some fault) none is) ∙ k)
   where
-    go : (r : Result Drafted LangFaultKind) → line_of f.draft (meant_as f line) ≡ r → (f1, fault) ≡ going_on f (with_draft f r) → is_none fault ≡ true → IsSoundDraft next.draft
+    go : (r : Result ComponentDraft LangFaultKind) → line_of f.draft (meant_as f line) ≡ r → (f1, fault) ≡ going_on f (with_draft f r) → is_none fault ≡ true → IsSoundDraft next.draft
     go (Ok d) read g free =
-        let same : f1 ≡ record f { draft = d } = ap (λ (x : Faulty × Option LangFaultKind). x.0) g in
-        let free : fault ≡ None = ap (λ (x : Faulty × Option LangFaultKind). x.1) g in
+        let same : f1 ≡ record f { draft = d } = ap (λ (x : FaultyDraft × Option LangFaultKind). x.0) g in
+        let free : fault ≡ None = ap (λ (x : FaultyDraft × Option LangFaultKind). x.1) g in
         rw (left, free, same) (line_keeps f.draft (h refl) (meant_as f line) d read)
     go (Err kind) read g free =
-        let some : fault ≡ Some kind = ap (λ (x : Faulty × Option LangFaultKind). x.1) g in
+        let some : fault ≡ Some kind = ap (λ (x : FaultyDraft × Option LangFaultKind). x.1) g in
         absurd (let free = rw some at free in cc)
 
 -- no line is left
-pub component_done : (sound : Bool) (n : ℕ) (f left : Faulty) (all : Result Declarations (Fault LangFaultKind)) → Reads faulty_grammar sound n f [] all → f ≡ left → read_as f sound ≡ read_or_left all left
+pub component_done : (sound : Bool) (n : ℕ) (f left : FaultyDraft) (all : Result Component (Fault LangFaultKind)) → Reads faulty_grammar sound n f [] all → f ≡ left → read_as f sound ≡ read_or_left all left
 unfolding lines_after
 component_done false n f left all h same = go all h
   where
-    go : (r : Result Declarations (Fault LangFaultKind)) → result_ok r ≡ None → read_as f false ≡ read_or_left r left
+    go : (r : Result Component (Fault LangFaultKind)) → result_ok r ≡ None → read_as f false ≡ read_or_left r left
     go (Ok c) k = absurd cc
     go (Err e) k = rw same refl
 component_done true n f left all h same = rw (← h, ← same) (go (component_grammar.finish f.draft))
   where
-    go : (r : Result Declarations LangFaultKind) → read_or_left r f ≡ read_or_left (on_line n r) f
+    go : (r : Result Component LangFaultKind) → read_or_left r f ≡ read_or_left (on_line n r) f
     go (Ok c) = refl
     go (Err kind) = refl
 
 -- what is said of a component, and what it is read as
 pub of_component : (text : List ℕ) (lines : List (List ℕ)) (c : ReadComponent) (all one two : List Said) → lines ≡ lines_of text → (one ≡ all ++ said_of_lines component_lint 0 lines) × (c ≡ read_of_lines lines) → two ≡ one ++ warnings_said c lines → (two ≡ all ++ component_said text) × (c ≡ component_read text)
 of_component text lines c all one two is e more =
-    let read : c ≡ component_read text = e.1 ∙ (ap read_of_lines is ∙ ap (λ (r : Result Declarations (Fault LangFaultKind)). read_or_left r (faulty_of_lines (lines_of text))) (faulty_meaning text)) in
+    let read : c ≡ component_read text = e.1 ∙ (ap read_of_lines is ∙ ap (λ (r : Result Component (Fault LangFaultKind)). read_or_left r (faulty_of_lines (lines_of text))) (faulty_meaning text)) in
     let told : two ≡ all ++ (said_of_lines component_lint 0 lines ++ warnings_said c lines) = two_more all one two _ _ e.0 more in (
       told
           ∙ (ap (λ (x : List (List ℕ)). all ++ (said_of_lines component_lint 0 x ++ warnings_said c x)) is
@@ -106,7 +106,7 @@ of_component text lines c all one two is e more =
 
 -- ---- a matrix
 
-pub matrix_done : (g : Grammar MatrixFaultKind matrix.Drafted Matrix) (sound : Bool) (n : ℕ) (d : matrix.Drafted) (all : Result Matrix (Fault MatrixFaultKind)) → g.finish d ≡ finished d → Reads g sound n d [] all → matrix_if d sound ≡ result_ok all
+pub matrix_done : (g : Grammar MatrixFaultKind matrix.MatrixDraft Matrix) (sound : Bool) (n : ℕ) (d : matrix.MatrixDraft) (all : Result Matrix (Fault MatrixFaultKind)) → g.finish d ≡ finished d → Reads g sound n d [] all → matrix_if d sound ≡ result_ok all
 unfolding lines_after
 matrix_done g false n d all is h = sym h
 matrix_done g true n d all is h = rw (← h, is) (go (finished d))
@@ -116,7 +116,7 @@ matrix_done g true n d all is h = rw (← h, is) (go (finished d))
     go (Err kind) = refl
 
 -- the matrix of a component that lines without a fault left
-pub made : (c : Declarations) (d : matrix.Drafted) (setup : List Call) (new : Option Matrix) → fault_in (finished d) ≡ None → setup ≡ unwrap_or d.setup [] → IfSome new (λ m. m ≡ matrix_with setup d.threads) → (IsOf (matrix_with setup d.threads) c → IsSome new) → IsOf (matrix.matrix_of d) c → new ≡ matrix_if d true
+pub made : (c : Component) (d : matrix.MatrixDraft) (setup : List Call) (new : Option Matrix) → fault_in (finished d) ≡ None → setup ≡ unwrap_or d.setup [] → IfSome new (λ m. m ≡ matrix_with setup d.threads) → (IsOf (matrix_with setup d.threads) c → IsSome new) → IsOf (matrix.matrix_of d) c → new ≡ matrix_if d true
 made c d setup new none is calls of fits = go (length d.threads == 0) none new calls (of (subst (λ (xs : List Call). IsOf (matrix_with xs d.threads) c) (sym is) fits))
   where
     left : Matrix
@@ -128,7 +128,7 @@ made c d setup new none is calls of fits = go (length d.threads == 0) none new c
     go false none (Some m) calls some = ap (λ (x : Matrix). Some x) (calls ∙ ap (λ (xs : List Call). matrix_with xs d.threads) is)
 
 -- one line more of a matrix
-pub matrix_on : (all : List OpSignature) (sound none : Bool) (n : ℕ) (d d1 next : matrix.Drafted) (fault : Option MatrixFaultKind) (line : List ℕ) (rest : List (List ℕ)) (meant : Result Matrix (Fault MatrixFaultKind))
+pub matrix_on : (all : List Signature) (sound none : Bool) (n : ℕ) (d d1 next : matrix.MatrixDraft) (fault : Option MatrixFaultKind) (line : List ℕ) (rest : List (List ℕ)) (meant : Result Matrix (Fault MatrixFaultKind))
     → is_some fault ≡ not none → (d1, fault) ≡ going_on d (matrix.line_of all d line) → next ≡ left_matrix d1 line fault → Reads (grammar_by all) sound n d (line ∷ rest) meant → Reads (grammar_by all) (sound && none) (n + 1) next rest meant
 matrix_on all sound none n d d1 next fault line rest meant is e left h =
     reads_on (grammar_by all) matrix_mend sound none n d d1 next fault line [] rest meant is e (left ∙ left_same d1 line [] fault) h

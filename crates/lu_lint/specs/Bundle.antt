@@ -12,9 +12,9 @@ use Rattle.lu_lint.specs.declared.remark.Said.{Said}
 use Rattle.lu_lint.specs.declared.remark.Cause.TheVariants.{Separator}
 use Rattle.lu_test.specs.Matrix.{Matrix}
 use Rattle.lu_test.specs.MatrixText.{matrix_grammar}
-use Rattle.lu_lint.specs.Further.{BehindMatrix}
+use Rattle.lu_lint.specs.Further.{AfterMatrix}
 use Rattle.lu_lint.specs.Component.{component_lint, faulty_of_lines, read_of_lines, read_or_left}
-use Rattle.lu_lang.specs.Faulty.{Faulty}
+use Rattle.lu_lang.specs.Faulty.{FaultyDraft}
 use Rattle.lu_lint.specs.Matrix.{lint_of, matrix_lint}
 use Rattle.lu_lint.specs.declared.component.ReadComponent.{ReadComponent}
 use Rattle.lu_lint.specs.declared.component.ReadComponent.TheVariants as read
@@ -52,17 +52,17 @@ abbrev pub matrix_read : ReadComponent → List ℕ → Option Matrix
 matrix_read (read.Faulty f) text = None
 matrix_read (read.Sound c) text = result_ok (meaning_of (matrix_grammar c) text)
 
--- what is said of a matrix behind a component with faults: by the signatures that it was to have,
+-- what is said of a matrix after a component with faults: by the signatures that it was to have,
 -- where these are no more than a component may have
-abbrev pub said_behind_faulty : Faulty → ℕ → List ℕ → List Said
-said_behind_faulty f above text =
+abbrev pub said_after_faulty : FaultyDraft → ℕ → List ℕ → List Said
+said_after_faulty f above text =
     if nat_le (length (signatures_meant f)) 16
     then said_of_text (matrix_lint (signatures_meant f)) above text
     else []
 
 -- what is said of a matrix by its component
 abbrev pub matrix_said : ReadComponent → ℕ → List ℕ → List Said
-matrix_said (read.Faulty f) above text = said_behind_faulty f above text
+matrix_said (read.Faulty f) above text = said_after_faulty f above text
 matrix_said (read.Sound c) above text = said_of_text (lint_of c) above text
 
 -- where it succeeds, the matrix is linted: that is said of it, and it is read, where it and its
@@ -89,25 +89,25 @@ abbrev pub LintsComponentLines : {E Y Z : Type 0} → Result (Vec Remark Z × Re
 LintsComponentLines result before lines =
     SaysAndReads result before (said_of_lines component_lint 0 lines) (read_of_lines lines)
 
--- what is said on a matrix, before which so many lines stand: of it, of the parts behind it, and
+-- what is said on a matrix, before which so many lines stand: of it, of the parts after it, and
 -- by runs
 abbrev pub OnMatrix : ℕ → ReadComponent → ℕ → List ℕ → List (List ℕ) → List Said → Type 0
 OnMatrix bound c above matrix parts said =
     (further : List Said) × (runs : List Said)
-    × BehindMatrix (matrix_read c matrix) (above_next above matrix) parts further
+    × AfterMatrix (matrix_read c matrix) (above_next above matrix) parts further
     × RunsSaid bound c (matrix_read c matrix) above matrix runs
     × (said ≡ matrix_said c above matrix ++ (further ++ runs))
 
--- what is said of the parts behind a component, before which so many lines stand
-abbrev pub BehindComponent : ℕ → ReadComponent → ℕ → List (List ℕ) → List Said → Type 0
-BehindComponent bound c above [] said = said ≡ []
-BehindComponent bound c above (matrix ∷ parts) said = OnMatrix bound c above matrix parts said
+-- what is said of the parts after a component, before which so many lines stand
+abbrev pub AfterComponent : ℕ → ReadComponent → ℕ → List (List ℕ) → List Said → Type 0
+AfterComponent bound c above [] said = said ≡ []
+AfterComponent bound c above (matrix ∷ parts) said = OnMatrix bound c above matrix parts said
 
 -- what is said of the parts
 abbrev pub PartsSaid : ℕ → List (List ℕ) → List Said → Type 0
 PartsSaid bound [] said = said ≡ []
 PartsSaid bound (component ∷ parts) said =
-    SaysFurther (BehindComponent bound (component_read component) (above_next 0 component) parts)
+    SaysFurther (AfterComponent bound (component_read component) (above_next 0 component) parts)
     (component_said component) said
 
 -- what is said of a bundle, with this bound of serial runs

@@ -1,4 +1,4 @@
--- The parts of a bundle behind its matrix.
+-- The parts of a bundle after its matrix.
 use Rattle.std.specs.Prelude.{◌≡◌, ℕ, List, [], ◌∷◌, ◌++◌, Option}
 use Rattle.lu_test.specs.Matrix.{Matrix}
 use Rattle.lu_lint.specs.declared.remark.Said.{Said}
@@ -8,34 +8,34 @@ use Rattle.lu_lint.specs.declared.third.Third.TheVariants.{Specification, Report
 use Rattle.lu_lint.specs.Said.{SaysFurther, above_next}
 use Rattle.lu_lint.specs.Third.{SaidOfSome, ThirdSaid, histories_of, third_of}
 
--- where parts stand behind the fourth, that is said of the line before them
+-- where parts stand after the fourth, that is said of the line before them
 abbrev pub fifth_said : ℕ → List (List ℕ) → List Said
 fifth_said above [] = []
 fifth_said above (text ∷ texts) = record { place = above; cause = FifthPart } ∷ []
 
--- what is said of a fourth part, which is to be a specification, and that parts stand behind it
+-- what is said of a fourth part, which is to be a specification, and that parts stand after it
 abbrev pub FourthSaid : Option Matrix → ℕ → List (List ℕ) → List Said → Type 0
 FourthSaid matrix above [] said = said ≡ []
 FourthSaid matrix above (text ∷ texts) said =
     (first : List Said) × SaidOfSome matrix above text first
     × (said ≡ first ++ fifth_said (above_next above text) texts)
 
--- What is said of the parts behind a third part. Behind a schedule or a report, a specification may
--- stand; behind a specification or a recorded history, recorded histories.
-abbrev pub BehindThird : Third → Option Matrix → ℕ → List (List ℕ) → List Said → Type 0
-BehindThird Specification matrix above texts said = said ≡ histories_of matrix above texts
-BehindThird History matrix above texts said = said ≡ histories_of matrix above texts
-BehindThird Report matrix above texts said = FourthSaid matrix above texts said
-BehindThird Schedule matrix above texts said = FourthSaid matrix above texts said
+-- What is said of the parts after a third part. After a schedule or a report, a specification may
+-- stand; after a specification or a recorded history, recorded histories.
+abbrev pub AfterThird : Third → Option Matrix → ℕ → List (List ℕ) → List Said → Type 0
+AfterThird Specification matrix above texts said = said ≡ histories_of matrix above texts
+AfterThird History matrix above texts said = said ≡ histories_of matrix above texts
+AfterThird Report matrix above texts said = FourthSaid matrix above texts said
+AfterThird Schedule matrix above texts said = FourthSaid matrix above texts said
 
--- what is said of a third part that is to be this, and of the parts behind it
+-- what is said of a third part that is to be this, and of the parts after it
 abbrev pub FromThird : Third → Option Matrix → ℕ → List ℕ → List (List ℕ) → List Said → Type 0
 FromThird third matrix above text texts said =
     (first : List Said) × ThirdSaid third matrix above text first
-    × SaysFurther (BehindThird third matrix (above_next above text) texts) first said
+    × SaysFurther (AfterThird third matrix (above_next above text) texts) first said
 
--- what is said of the parts behind a matrix that is read or not
-abbrev pub BehindMatrix : Option Matrix → ℕ → List (List ℕ) → List Said → Type 0
-BehindMatrix matrix above [] said = said ≡ []
-BehindMatrix matrix above (text ∷ texts) said =
+-- what is said of the parts after a matrix that is read or not
+abbrev pub AfterMatrix : Option Matrix → ℕ → List (List ℕ) → List Said → Type 0
+AfterMatrix matrix above [] said = said ≡ []
+AfterMatrix matrix above (text ∷ texts) said =
     FromThird (third_of text) matrix above text texts said

@@ -1,6 +1,6 @@
 -- What lint and the readers say of one text.
 use Rattle.std.specs.Prelude.{ℕ, List, None}
-use Rattle.lu_component.specs.Component.{Declarations}
+use Rattle.lu_component.specs.Component.{Component}
 use Rattle.lu_text.specs.Faults.{meaning_of}
 use Rattle.lu_lang.specs.Grammar.{component_grammar}
 use Rattle.lu_test.specs.MatrixText.{matrix_grammar}
@@ -18,7 +18,7 @@ ComponentAgrees =
 
 -- the same for a matrix of any component
 abbrev pub MatrixAgrees : Type 0
-MatrixAgrees = (c : Declarations) (text : List ℕ)
+MatrixAgrees = (c : Component) (text : List ℕ)
     → AgreeOnText (meaning_of (matrix_grammar c) text) (faults_in (lint_of c) text)
 
 -- the same for a schedule

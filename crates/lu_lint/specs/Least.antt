@@ -61,12 +61,12 @@ schedule_fault cause = None
 abbrev pub NoneSaid : {Kind : Type 0} → (Cause → Option (Kind × ℕ)) → List Said → Type 0
 NoneSaid fault_of said = All (λ s. fault_of s.cause ≡ None) said
 
--- a fault of the part is of a line behind line n; or it is of line n, and one of these kinds
+-- a fault of the part is of a line after line n; or it is of line n, and one of these kinds
 abbrev pub IsNotBefore : {Kind : Type 0} → ℕ → (Kind → Type 0) → Option (Kind × ℕ) → Type 0
 IsNotBefore n kinds None = Unit {0}
 IsNotBefore n kinds (Some fault) = (n < fault.1) ⊎ (fault.1 ≡ n) × kinds fault.0
 
--- This fault of line n of the part is said. Each other fault of the part is of a line behind line
+-- This fault of line n of the part is said. Each other fault of the part is of a line after line
 -- n; or it is of line n too, and one of these kinds.
 pub record IsLeast {Kind : Type 0} (fault_of : Cause → Option (Kind × ℕ)) (kinds : Kind → Type 0)
     (said : List Said) (kind : Kind) (n : ℕ) : Type 0 where
@@ -139,7 +139,7 @@ ThirdLeast Report matrix text said = ReportLeast text said
 ThirdLeast Schedule matrix text said = ScheduleFirst text said
 ThirdLeast History matrix text said = Unit {0}
 
--- of the part behind it, where that is a specification
+-- of the part after it, where that is a specification
 abbrev pub FourthLeast : Third → Option Matrix → List (List ℕ) → List Said → Type 0
 FourthLeast third matrix [] said = Unit {0}
 FourthLeast Report matrix (text ∷ texts) said = SpecificationLeast matrix text said
@@ -147,7 +147,7 @@ FourthLeast Schedule matrix (text ∷ texts) said = SpecificationLeast matrix te
 FourthLeast Specification matrix (text ∷ texts) said = Unit {0}
 FourthLeast History matrix (text ∷ texts) said = Unit {0}
 
--- of the parts behind a matrix that is read or not
+-- of the parts after a matrix that is read or not
 abbrev pub FurtherLeast : Option Matrix → List (List ℕ) → List Said → Type 0
 FurtherLeast matrix [] said = Unit {0}
 FurtherLeast matrix (text ∷ texts) said =

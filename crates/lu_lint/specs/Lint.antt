@@ -13,8 +13,8 @@ pub record Told (Kind : Type 0) : Type 0 where
   pub line : ℕ
   pub place : ℕ
 
--- How a text is read behind its first fault. A line that has a fault leaves `mend` of the draft
--- before it, of the line, and of the lines behind it. Each message stands one of `backs` lines with
+-- How a text is read after its first fault. A line that has a fault leaves `mend` of the draft
+-- before it, of the line, and of the lines after it. Each message stands one of `backs` lines with
 -- words before the line; one stands on the line itself where that is empty. Beside the fault
 -- `others` are told, each a kind, and by how many lines with words its message stands before the
 -- line; and `end_others` beside a fault of the end. `of` says of which part such a fault is.
@@ -83,7 +83,7 @@ abbrev pub end_faults : {Kind A : Type 0} → List ℕ → ℕ → List (Kind ×
 end_faults seen n others (Ok x) = []
 end_faults seen n others (Err kind) = told_here n kind ∷ others_told seen n others
 
--- the draft from which the lines behind a line are read, where the line left this or has a fault
+-- the draft from which the lines after a line are read, where the line left this or has a fault
 abbrev pub left_by : {Kind Draft : Type 0} → (Draft → List ℕ → List (List ℕ) → Draft) → Draft
     → List ℕ
     → List (List ℕ)
@@ -92,7 +92,7 @@ abbrev pub left_by : {Kind Draft : Type 0} → (Draft → List ℕ → List (Lis
 left_by mend d line lines None = d
 left_by mend d line lines (Some kind) = mend d line lines
 
--- what a line gives, which is line n, and then the lines behind it: from the next draft, or, where
+-- what a line gives, which is line n, and then the lines after it: from the next draft, or, where
 -- the line has a fault, that fault, the others beside it, and then the lines from what it leaves
 abbrev pub then_faults : {Kind Draft Value : Type 0} → Lint Kind Draft Value → List ℕ → ℕ → Draft
     → List ℕ
@@ -105,7 +105,7 @@ then_faults l seen n d line lines (Err kind) rest =
     told seen n kind (l.backs d line kind)
     ++ (others_told seen n (l.others d line lines kind) ++ rest (l.mend d line lines))
 
--- the faults of these lines, which begin with line n, behind this draft
+-- the faults of these lines, which begin with line n, after this draft
 unfoldable pub faults_after : {Kind Draft Value : Type 0} → Lint Kind Draft Value → List ℕ → ℕ
     → Draft
     → List (List ℕ)
@@ -134,16 +134,16 @@ AgreeOnText (Err e) [] = ⊥
 AgreeOnText (Err e) (first ∷ others) = e ≡ At first.kind first.line
 
 -- the draft that these lines leave, with faults or without
-abbrev pub left_behind : {Kind Draft Value : Type 0} → Lint Kind Draft Value → Draft → List ℕ
+abbrev pub left_after : {Kind Draft Value : Type 0} → Lint Kind Draft Value → Draft → List ℕ
     → List (List ℕ)
     → Result Draft Kind
     → Draft
-left_behind l d line lines (Ok next) = next
-left_behind l d line lines (Err kind) = l.mend d line lines
+left_after l d line lines (Ok next) = next
+left_after l d line lines (Err kind) = l.mend d line lines
 
 unfoldable pub draft_after : {Kind Draft Value : Type 0} → Lint Kind Draft Value → Draft
     → List (List ℕ)
     → Draft
 draft_after l d [] = d
 draft_after l d (line ∷ lines) =
-    draft_after l (left_behind l d line lines (l.grammar.line d line)) lines
+    draft_after l (left_after l d line lines (l.grammar.line d line)) lines

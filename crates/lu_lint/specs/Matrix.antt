@@ -1,13 +1,13 @@
 -- The faults of a matrix's text: each message stands on its fault's line.
 use Rattle.std.specs.Prelude.{◌≡◌, ℕ, Bool, List, [], ◌∷◌, ◌++◌, Option, Some, None, Result, IfOk, Vec, if◌then◌else◌}
 use Rattle.std.specs.Result.{result_ok}
-use Rattle.lu_component.specs.Component.{Declarations, IsComponent}
+use Rattle.lu_component.specs.Component.{Component, IsComponent}
 use Rattle.lu_text.specs.Faults.{meaning_of_lines}
 use Rattle.lu_test.specs.declared.matrix_fault.MatrixFaultKind.{MatrixFaultKind}
 use Rattle.lu_test.specs.Matrix.{IsOf, Matrix}
-use Rattle.lu_test.specs.MatrixText.{Drafted, IsDraft, finished, grammar_by, matrix_of}
+use Rattle.lu_test.specs.MatrixText.{MatrixDraft, IsDraft, finished, grammar_by, matrix_of}
 use Rattle.lu_test.specs.MatrixGoing.{mend}
-use Rattle.lu_test.specs.Signatures.{OpSignature, signatures}
+use Rattle.lu_test.specs.Signatures.{Signature, signatures}
 use Rattle.lu_lint.specs.declared.matrix.LeftLines.{LeftLines}
 use Rattle.lu_lint.specs.declared.remark.Position.{Position}
 use Rattle.lu_lint.specs.declared.remark.Remark.{Remark}
@@ -16,12 +16,12 @@ use Rattle.lu_lint.specs.declared.remark.FaultKind.TheVariants as part
 use Rattle.lu_lint.specs.Lint.{Lint, told_here}
 use Rattle.lu_lint.specs.Said.{said_of, said_of_lines, said_told}
 
--- what a line with a fault leaves, whatever stands behind it
-abbrev pub matrix_mend : Drafted → List ℕ → List (List ℕ) → Drafted
+-- what a line with a fault leaves, whatever stands after it
+abbrev pub matrix_mend : MatrixDraft → List ℕ → List (List ℕ) → MatrixDraft
 matrix_mend d line lines = mend d line
 
 -- how a matrix is read whose calls are judged by these signatures
-abbrev pub matrix_lint : List OpSignature → Lint MatrixFaultKind Drafted Matrix
+abbrev pub matrix_lint : List Signature → Lint MatrixFaultKind MatrixDraft Matrix
 matrix_lint all =
     record {
       grammar = grammar_by all;
@@ -33,11 +33,11 @@ matrix_lint all =
     }
 
 -- how a matrix of a component is read
-abbrev pub lint_of : Declarations → Lint MatrixFaultKind Drafted Matrix
+abbrev pub lint_of : Component → Lint MatrixFaultKind MatrixDraft Matrix
 lint_of c = matrix_lint (signatures c.operations)
 
--- the draft from which the lines behind a line are read, where the line left this or has a fault
-abbrev pub left_by : Drafted → List ℕ → Option MatrixFaultKind → Drafted
+-- the draft from which the lines after a line are read, where the line left this or has a fault
+abbrev pub left_by : MatrixDraft → List ℕ → Option MatrixFaultKind → MatrixDraft
 left_by d line None = d
 left_by d line (Some kind) = mend d line
 
@@ -47,20 +47,20 @@ fault_said at None = []
 fault_said at (Some kind) = said_told part.Matrix at.above (told_here at.line kind) ∷ []
 
 -- the matrix of what lines left that have no fault, or have some
-abbrev pub matrix_if : Drafted → Bool → Option Matrix
+abbrev pub matrix_if : MatrixDraft → Bool → Option Matrix
 matrix_if d sound = if sound then result_ok (finished d) else None
 
 -- the calls are those of any component whose operations have these signatures
-abbrev pub FitsBy : List OpSignature → Drafted → Type 0
+abbrev pub FitsBy : List Signature → MatrixDraft → Type 0
 FitsBy all d =
-    (c : Declarations) → IsComponent c → all ≡ signatures c.operations
+    (c : Component) → IsComponent c → all ≡ signatures c.operations
     → IsDraft d × IsOf (matrix_of d) c
 
 -- where it succeeds, the lines of a matrix are linted by these signatures: that is said of them, and
 -- they leave a draft, of which the matrix is made where they have no fault
 abbrev pub LintsMatrixLines : {E Y Z : Type 0} → Result (Vec Remark Z × LeftLines) E
     → Vec Remark Y
-    → List OpSignature
+    → List Signature
     → ℕ
     → List (List ℕ)
     → Type 0

@@ -6,7 +6,7 @@ use Rattle.std.specs.Option.{unwrap_or}
 use Rattle.std.specs.Str.{bytes_eq}
 use Rattle.lu_text.specs.Lines.{lines_of, words_of}
 use Rattle.lu_text.specs.Words.{Word}
-use Rattle.lu_component.specs.Component.{Declarations}
+use Rattle.lu_component.specs.Component.{Component}
 use Rattle.lu_test.specs.declared.schedule.Move.{Move}
 use Rattle.lu_test.specs.Matrix.{IsOf, Matrix, alone}
 use Rattle.lu_machine.specs.declared.event.Event.{Event}
@@ -50,13 +50,13 @@ abbrev pub setup_hints : List Event → List RunHint
 setup_hints history = flat_map event_hints history
 
 -- so many moves, each of thread 0 and pick 0, are the setup's, and this is their history
-abbrev pub SetupRuns : Declarations → Matrix → ℕ → List Event → Type 0
+abbrev pub SetupRuns : Component → Matrix → ℕ → List Event → Type 0
 SetupRuns c matrix moves history =
     (end : State) × SetsUp c matrix end
     × Leads (empty_state c (alone matrix.setup)) (replicate moves first_move) end history
 
 -- what the setup's run shows
-abbrev pub ShownBySetup : Declarations → Matrix → List RunHint → Type 0
+abbrev pub ShownBySetup : Component → Matrix → List RunHint → Type 0
 ShownBySetup c matrix hints =
     (moves : ℕ) × (history : List Event) × SetupRuns c matrix moves history
     × (hints ≡ setup_hints history)
@@ -73,7 +73,7 @@ ending_of (Ret n) = None
 ending_of Trap = Some Trapped
 ending_of Stuck = Some Blocked
 
--- the next operation of thread t behind these ends so
+-- the next operation of thread t after these ends so
 abbrev pub hint_of : List SerialOp → ℕ → Ending → SerialHint
 hint_of before t ending =
     record { thread = t; call = operation_count t before; ending = ending; behind = before }
@@ -82,18 +82,18 @@ abbrev pub hint_if : List SerialOp → ℕ → Option Ending → List SerialHint
 hint_if before t None = []
 hint_if before t (Some ending) = hint_of before t ending ∷ []
 
--- what there is to say of an operation behind these
+-- what there is to say of an operation after these
 abbrev pub op_hints : List SerialOp → SerialOp → List SerialHint
 op_hints before op = hint_if before op.thread (ending_of op.outcome)
 
--- of each of the operations behind these
-unfoldable pub hints_behind : List SerialOp → List SerialOp → List SerialHint
-hints_behind before [] = []
-hints_behind before (op ∷ ops) = op_hints before op ++ hints_behind (before ++ op ∷ []) ops
+-- of each of the operations after these
+unfoldable pub hints_after : List SerialOp → List SerialOp → List SerialHint
+hints_after before [] = []
+hints_after before (op ∷ ops) = op_hints before op ++ hints_after (before ++ op ∷ []) ops
 
 -- of each operation of a history
 abbrev pub history_hints : List SerialOp → List SerialHint
-history_hints history = hints_behind [] history
+history_hints history = hints_after [] history
 
 abbrev pub same_ending : Ending → Ending → Bool
 same_ending Trapped Trapped = true
@@ -118,13 +118,13 @@ with_firsts told (hint ∷ hints) = with_firsts (with_hint told hint) hints
 abbrev pub set_hints : List (List SerialOp) → List SerialHint
 set_hints histories = with_firsts [] (flat_map history_hints histories)
 
--- these hints with those of the set's histories, each behind the path
+-- these hints with those of the set's histories, each after the path
 abbrev pub with_set : List SerialHint → List SerialOp → List (List SerialOp) → List SerialHint
 with_set told path set = with_firsts told (flat_map (λ h. history_hints (path ++ h)) set)
 
 -- ---- a schedule that is cut
 
--- a call behind these operations that is cut
+-- a call after these operations that is cut
 abbrev pub last_hints : List SerialOp → Option Event → List SerialHint
 last_hints before None = []
 last_hints before (Some (Call t k)) = hint_of before t Cut ∷ []
@@ -170,7 +170,7 @@ ShownSerially bound hints s =
     ShownBySet s bound hints ⊎ ShownByCut s bound hints ⊎ ShownByNone s bound hints
 
 -- where it succeeds, its items are shown from each start
-abbrev pub ShowsFromEachStart : {T E Z : Type 0} → Result (Vec T Z) E → Declarations → Matrix
+abbrev pub ShowsFromEachStart : {T E Z : Type 0} → Result (Vec T Z) E → Component → Matrix
     → (List T → State → Type 0)
     → Type 0
 ShowsFromEachStart result c matrix P = IfOk result (λ v. FromEachStart c matrix (P v.items))
@@ -178,7 +178,7 @@ ShowsFromEachStart result c matrix P = IfOk result (λ v. FromEachStart c matrix
 -- ---- a component and a matrix
 
 -- the setup settles: its run, and the serial runs, show these
-pub record AreShownHints (c : Declarations) (matrix : Matrix) (bound : ℕ) (hints : List RunHint)
+pub record AreShownHints (c : Component) (matrix : Matrix) (bound : ℕ) (hints : List RunHint)
     : Type 0 where
   pub first : List RunHint
   pub serial : List SerialHint
@@ -187,11 +187,11 @@ pub record AreShownHints (c : Declarations) (matrix : Matrix) (bound : ℕ) (hin
   pub all : hints ≡ first ++ map Serial serial
 
 -- a call of the setup does not end
-abbrev pub IsSetupHint : Declarations → Matrix → List RunHint → Type 0
+abbrev pub IsSetupHint : Component → Matrix → List RunHint → Type 0
 IsSetupHint c matrix hints = (k : ℕ) × IsUnsettledAt c matrix k × (hints ≡ SetupGoesOn k ∷ [])
 
 -- what runs of a component and a matrix show
-abbrev pub Show : Declarations → Matrix → ℕ → List RunHint → Type 0
+abbrev pub Show : Component → Matrix → ℕ → List RunHint → Type 0
 Show c matrix bound hints = IsSetupHint c matrix hints ⊎ AreShownHints c matrix bound hints
 
 -- ---- lines
@@ -236,7 +236,7 @@ all_shown above text hints =
     hints
 
 -- what runs of the component and the matrix of this text show is said
-abbrev pub RunsOf : ℕ → Declarations → Matrix → ℕ → List ℕ → List Said → Type 0
+abbrev pub RunsOf : ℕ → Component → Matrix → ℕ → List ℕ → List Said → Type 0
 RunsOf bound c matrix above text said =
     (hints : List RunHint) × Show c matrix bound hints
     × (said ≡ all_shown above text hints)

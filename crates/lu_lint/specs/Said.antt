@@ -15,7 +15,7 @@ use Rattle.lu_lint.specs.Lint.{Lint, Told, faults_in, faults_of_lines}
 abbrev pub said_of : List Remark → List Said
 said_of remarks = map (λ r. r.said) remarks
 
--- where it succeeds, these are said too, behind what was said before
+-- where it succeeds, these are said too, after what was said before
 abbrev pub SaysAlso : {E Y Z : Type 0} → Result (Vec Remark Z) E → Vec Remark Y → List Said
     → Type 0
 SaysAlso result before said =
@@ -30,7 +30,7 @@ SaysAndReads result before said value =
     IfOk result
     (λ (next, read). (said_of next.items ≡ said_of before.items ++ said) × (read ≡ value))
 
--- these are said behind what was said before, and this is known of them
+-- these are said after what was said before, and this is known of them
 abbrev pub SaysFurther : (List Said → Type 0) → List Said → List Said → Type 0
 SaysFurther P before after = (said : List Said) × P said × (after ≡ before ++ said)
 
@@ -45,7 +45,7 @@ SaysSuch result before P =
 abbrev pub line_below : ℕ → ℕ → ℕ
 line_below above n = min (above + n) (2 ^ 64 - 1)
 
--- the number of lines before the part behind this one
+-- the number of lines before the part after this one
 abbrev pub above_next : ℕ → List ℕ → ℕ
 above_next above part = line_below above (length (kept_lines part) + 1)
 

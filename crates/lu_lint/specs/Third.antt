@@ -96,7 +96,7 @@ abbrev pub histories_of : Option Matrix → ℕ → List (List ℕ) → List Sai
 histories_of None above texts = []
 histories_of (Some matrix) above texts = histories_said matrix above texts
 
--- what is said of a third part, behind a matrix that is read or not
+-- what is said of a third part, after a matrix that is read or not
 abbrev pub ThirdSaid : Third → Option Matrix → ℕ → List ℕ → List Said → Type 0
 ThirdSaid Specification matrix above text said = SaidOfSome matrix above text said
 ThirdSaid Report matrix above text said = ReportSaid above text said

@@ -5,14 +5,14 @@ use Rattle.std.specs.Option.{option_map, unwrap_or}
 use Rattle.std.specs.Str.{bytes_eq}
 use Rattle.lu_text.specs.Lines.{words_of}
 use Rattle.lu_text.specs.Words.{Word}
-use Rattle.lu_component.specs.Component.{Declarations}
+use Rattle.lu_component.specs.Component.{Component}
 use Rattle.lu_component.specs.declared.instr.Instr.{Instr}
 use Rattle.lu_component.specs.declared.instr.Instr.TheVariants.{Set, Compute, Load, Store, Cas, Lock, Unlock, Await, AwaitNot, Return}
 use Rattle.lu_component.specs.declared.instr.Arithmetic.TheVariants.{Eq, Lt}
 use Rattle.lu_lang.specs.declared.draft.Label.{Label}
 use Rattle.lu_lang.specs.declared.draft.Statement.{Statement}
 use Rattle.lu_lang.specs.declared.draft.Statement.TheVariants.{Plain, Jump, JumpIfZero}
-use Rattle.lu_lang.specs.Draft.{Begun, Drafted, nothing}
+use Rattle.lu_lang.specs.Draft.{OpenOp, ComponentDraft, nothing}
 use Rattle.lu_text.specs.Faults.{going_on}
 use Rattle.lu_lang.specs.Grammar.{component_grammar, label_used}
 use Rattle.lu_lint.specs.declared.remark.Said.{Said}
@@ -38,10 +38,10 @@ names_lock k (Unlock lock) = lock == k
 names_lock k _ = false
 
 -- array k of the component
-abbrev pub is_array_named : Declarations → ℕ → Bool
+abbrev pub is_array_named : Component → ℕ → Bool
 is_array_named c k = list_any (λ op. list_any (names_array k) op.code) c.operations
 
-abbrev pub is_lock_named : Declarations → ℕ → Bool
+abbrev pub is_lock_named : Component → ℕ → Bool
 is_lock_named c k = list_any (λ op. list_any (names_lock k) op.code) c.operations
 
 -- ---- an operation, at its `end`
@@ -62,7 +62,7 @@ abbrev pub holds_where : List Bool → Option ℕ → Bool
 holds_where row None = false
 holds_where row (Some place) = holds_at row place
 
--- at the place behind this one
+-- at the place after this one
 abbrev pub holds_behind : List Bool → ℕ → Bool
 holds_behind row place = holds_at (drop 1 row) place
 
@@ -71,26 +71,26 @@ plain_returns (Return v) next = true
 plain_returns _ next = next
 
 -- a return is reached from the statement at this place, where this row says from which others
-abbrev pub returns_by : Begun → List Bool → ℕ → Statement → Bool
+abbrev pub returns_by : OpenOp → List Bool → ℕ → Statement → Bool
 returns_by b row place (Plain instr) = plain_returns instr (holds_behind row place)
 returns_by b row place (Jump label) = holds_where row (place_named b.labels label)
 returns_by b row place (JumpIfZero v label) =
     holds_where row (place_named b.labels label) || holds_behind row place
 
-abbrev pub next_returns : Begun → List Bool → List Bool
+abbrev pub next_returns : OpenOp → List Bool → List Bool
 next_returns b row = map (λ s. returns_by b row s.0 s.1) (enumerate_from 0 b.statements)
 
 -- from which places a return is reached by at most so many instructions
-unfoldable pub returns_within : Begun → ℕ → List Bool
+unfoldable pub returns_within : OpenOp → ℕ → List Bool
 returns_within b zero = map (λ s. false) b.statements
 returns_within b (suc n) = next_returns b (returns_within b n)
 
 -- a return is reached from the first instruction, by one way or another
-abbrev pub can_return : Begun → Bool
+abbrev pub can_return : OpenOp → Bool
 can_return b = holds_at (returns_within b (length b.statements)) 0
 
 -- no return is reached; the hint stands on the `op` line
-abbrev pub return_hints : Begun → List FoundHint
+abbrev pub return_hints : OpenOp → List FoundHint
 return_hints b = if can_return b then [] else found (length b.statements + 1) NoReturn ∷ []
 
 abbrev pub jumps_to_label : Word → Option Word → Bool
@@ -105,7 +105,7 @@ is_jumped_to statements name = list_any (λ s. jumps_to_label name (label_used s
 abbrev pub is_unused : List Statement → Label → Bool
 is_unused statements label = not (is_jumped_to statements label.name)
 
-abbrev pub label_hints : Begun → List FoundHint
+abbrev pub label_hints : OpenOp → List FoundHint
 label_hints b =
     map (λ label. found (length b.statements - label.place) UnusedLabel)
     (filter (is_unused b.statements) b.labels)
@@ -156,17 +156,17 @@ abbrev pub spins_where : List Statement → ℕ → Option ℕ → Bool
 spins_where statements i None = false
 spins_where statements i (Some t) = spins_to statements i t
 
-abbrev pub spins_at : Begun → ℕ → Option Word → Bool
+abbrev pub spins_at : OpenOp → ℕ → Option Word → Bool
 spins_at b i None = false
 spins_at b i (Some name) = spins_where b.statements i (place_named b.labels name)
 
 -- a jump back without waiting
-abbrev pub spin_hints : Begun → List FoundHint
+abbrev pub spin_hints : OpenOp → List FoundHint
 spin_hints b =
     map (λ s. found (length b.statements - s.0) Spin)
     (filter (λ s. spins_at b s.0 (label_used s.1)) (enumerate_from 0 b.statements))
 
-abbrev pub end_hints : Begun → List FoundHint
+abbrev pub end_hints : OpenOp → List FoundHint
 end_hints b = return_hints b ++ (label_hints b ++ spin_hints b)
 
 -- ---- lines
@@ -175,7 +175,7 @@ abbrev pub unless : Bool → Hint → List FoundHint
 unless named hint = if named then [] else found 0 hint ∷ []
 
 -- by the first word of a line, where an operation is open or none
-abbrev pub state_hints : Declarations → Drafted → Option Begun → Word → List FoundHint
+abbrev pub state_hints : Component → ComponentDraft → Option OpenOp → Word → List FoundHint
 state_hints c d None word =
     if bytes_eq word (codes "word") then unless (is_array_named c (length d.arrays)) UnnamedArray
     else (if bytes_eq word (codes "lock")
@@ -183,29 +183,29 @@ state_hints c d None word =
     else [])
 state_hints c d (Some b) word = if bytes_eq word (codes "end") then end_hints b else []
 
-abbrev pub words_hints : Declarations → Drafted → List Word → List FoundHint
+abbrev pub words_hints : Component → ComponentDraft → List Word → List FoundHint
 words_hints c d [] = []
 words_hints c d (word ∷ words) = state_hints c d d.begun word
 
--- the hints at a line behind this draft
-abbrev pub line_hints : Declarations → Drafted → List ℕ → List FoundHint
+-- the hints at a line after this draft
+abbrev pub line_hints : Component → ComponentDraft → List ℕ → List FoundHint
 line_hints c d line = words_hints c d (words_of line)
 
 -- what is said of a hint at line n
 abbrev pub warned : List ℕ → ℕ → FoundHint → Said
 warned seen n f = record { place = line_before seen n f.back; cause = Warning f.hint }
 
--- the draft behind a line, which has no fault
-abbrev pub draft_behind : Drafted → List ℕ → Drafted
+-- the draft after a line, which has no fault
+abbrev pub draft_behind : ComponentDraft → List ℕ → ComponentDraft
 draft_behind d line = (going_on d (component_grammar.line d line)).0
 
 -- the warnings of these lines, of which the first is line n
-unfoldable pub warnings_after : Declarations → List ℕ → ℕ → Drafted → List (List ℕ) → List Said
+unfoldable pub warnings_after : Component → List ℕ → ℕ → ComponentDraft → List (List ℕ) → List Said
 warnings_after c seen n d [] = []
 warnings_after c seen n d (line ∷ lines) =
     map (warned seen n) (line_hints c d line)
     ++ warnings_after c (with_words seen n line) (n + 1) (draft_behind d line) lines
 
 -- the warnings of the lines of this component
-abbrev pub warnings_of_lines : Declarations → List (List ℕ) → List Said
+abbrev pub warnings_of_lines : Component → List (List ℕ) → List Said
 warnings_of_lines c lines = warnings_after c [] 1 nothing lines

@@ -19,7 +19,7 @@ fn is_blurred(line: &[u8]) -> bool
     is_meant_as_separator(line) && !is_separator(line)
 }
 
-/// The number of lines of the bundle before the part behind this one.
+/// The number of lines of the bundle before the part after this one.
 pub(crate) fn above_next(alloc: Global, above: usize, part: &[u8]) -> Result<usize, AllocError>
     ensures { IfOk result (λ n. n ≡ said.above_next above part.now) }
 {

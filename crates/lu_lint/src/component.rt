@@ -18,8 +18,8 @@ use crate::warning::with_warnings;
 use crate::words::Wording;
 use lu_component::Component;
 use lu_lang::{
-    Draft, FaultyDraft, LangFaultKind, end_fault, left_backs, meant_line, mended, message_backs,
-    open_backs, read_or_fault,
+    ComponentDraft, FaultyDraft, LangFaultKind, end_fault, left_backs, meant_line, mended,
+    message_backs, open_backs, read_or_fault,
 };
 use lu_text::lines_of;
 use std::alloc::{AllocError, Global};
@@ -41,7 +41,7 @@ fn with_jumps<W: Wording>(
     wording: &W,
     mut all: Vec<Remark>,
     at: &Position,
-    draft: &Draft,
+    draft: &ComponentDraft,
     kind: LangFaultKind,
     backs: &[usize],
 ) -> Result<Vec<Remark>, AllocError>
@@ -87,6 +87,7 @@ fn with_fault<W: Wording>(
         let all = with_remark(all, said(at, kind, at.line), words)?;
         return Ok(all);
     }
+    // For the proof: what this returns is looked at before it is returned.
     let all = with_jumps(alloc, wording, all, at, &draft.draft, kind, &backs)?;
     Ok(all)
 }
@@ -110,7 +111,7 @@ fn with_line<W: Wording>(
 }
 
 /// By how many lines with words the jumps to labels that are not there stand before a line that are
-/// told beside its fault; `lines` are those behind it.
+/// told beside its fault; `lines` are those after it.
 fn backs_beside(
     alloc: Global,
     draft: &FaultyDraft,
@@ -126,7 +127,7 @@ fn backs_beside(
     }
 }
 
-/// The draft from which the lines behind a line are read.
+/// The draft from which the lines after a line are read.
 fn left_by(
     alloc: Global,
     draft: FaultyDraft,
@@ -160,6 +161,7 @@ fn with_end<W: Wording>(
             let words = wording.component_end(alloc, &draft.draft)?;
             let all = with_remark(all, said(at, kind, at.line), words)?;
             let backs = open_backs(alloc, &draft.draft)?;
+            // For the proof: what this returns is looked at before it is returned.
             let all = with_jumps(
                 alloc,
                 wording,
@@ -186,11 +188,11 @@ pub(crate) enum ReadComponent {
 
 /// What is declared at the end of the text; or the draft, where its end has a fault.
 #[tactic(auto, using(lu_lang::proofs::Drafts::draft_component))]
-fn component_of(draft: Draft) -> Result<Component, Draft>
+fn component_of(draft: ComponentDraft) -> Result<Component, ComponentDraft>
     requires { IsSoundDraft draft }
     ensures { result ≡ spec.declared_or_left draft (component_grammar.finish draft) }
 {
-    let Draft {
+    let ComponentDraft {
         name,
         local,
         arrays,
@@ -206,7 +208,7 @@ fn component_of(draft: Draft) -> Result<Component, Draft>
             locks,
             operations,
         )),
-        (name, begun) => Err(Draft {
+        (name, begun) => Err(ComponentDraft {
             name,
             local,
             arrays,

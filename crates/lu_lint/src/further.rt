@@ -1,9 +1,9 @@
-//! The parts of a bundle behind its matrix.
+//! The parts of a bundle after its matrix.
 
 ghost use Rattle.std.specs.Prelude.{◌≡◌, ◌∷◌};
 ghost use Rattle.lu_text.specs.Lines.{texts};
 ghost use Rattle.lu_lint.specs.Further as spec;
-ghost use Rattle.lu_lint.specs.Further.{BehindMatrix, BehindThird, FourthSaid};
+ghost use Rattle.lu_lint.specs.Further.{AfterMatrix, AfterThird, FourthSaid};
 ghost use Rattle.lu_lint.specs.Said.{SaysAlso, SaysSuch};
 
 use crate::bundle::above_next;
@@ -14,7 +14,7 @@ use crate::words::Wording;
 use lu_test::Matrix;
 use std::alloc::{AllocError, Global};
 
-/// The remarks with one on the line before these parts, where they are parts behind the fourth.
+/// The remarks with one on the line before these parts, where they are parts after the fourth.
 fn with_fifth<W: Wording>(
     alloc: Global,
     wording: &W,
@@ -37,7 +37,7 @@ fn with_fifth<W: Wording>(
     }
 }
 
-/// The remarks with those on a fourth part, and on the line behind it where parts stand there.
+/// The remarks with those on a fourth part, and on the line after it where parts stand there.
 fn with_fourth_part<W: Wording>(
     alloc: Global,
     wording: &W,
@@ -51,11 +51,12 @@ fn with_fourth_part<W: Wording>(
 {
     let all = with_specification_of(alloc, wording, all, matrix, above, text)?;
     let above = above_next(alloc, above, text)?;
+    // For the proof: what this returns is looked at before it is returned.
     let all = with_fifth(alloc, wording, all, above, parts)?;
     Ok(all)
 }
 
-/// The remarks with those on the parts behind a schedule or a report.
+/// The remarks with those on the parts after a schedule or a report.
 fn with_fourth<W: Wording>(
     alloc: Global,
     wording: &W,
@@ -72,8 +73,8 @@ fn with_fourth<W: Wording>(
     }
 }
 
-/// The remarks with those on the parts behind a third part that is this.
-fn with_behind<W: Wording>(
+/// The remarks with those on the parts after a third part that is this.
+fn with_after<W: Wording>(
     alloc: Global,
     wording: &W,
     all: Vec<Remark>,
@@ -82,10 +83,11 @@ fn with_behind<W: Wording>(
     above: usize,
     parts: &[&[u8]],
 ) -> Result<Vec<Remark>, AllocError>
-    ensures { SaysSuch result all (BehindThird third matrix.now above (texts parts.now)) }
+    ensures { SaysSuch result all (AfterThird third matrix.now above (texts parts.now)) }
 {
     match third {
         Third::Specification | Third::History => {
+            // For the proof: what this returns is looked at before it is returned.
             let all = with_histories(alloc, wording, all, matrix, above, parts)?;
             Ok(all)
         }
@@ -93,7 +95,7 @@ fn with_behind<W: Wording>(
     }
 }
 
-/// The remarks with those on a third part and on the parts behind it.
+/// The remarks with those on a third part and on the parts after it.
 fn with_third_part<W: Wording>(
     alloc: Global,
     wording: &W,
@@ -103,16 +105,17 @@ fn with_third_part<W: Wording>(
     text: &[u8],
     parts: &[&[u8]],
 ) -> Result<Vec<Remark>, AllocError>
-    ensures { SaysSuch result all (BehindMatrix matrix.now above (text.now ∷ texts parts.now)) }
+    ensures { SaysSuch result all (AfterMatrix matrix.now above (text.now ∷ texts parts.now)) }
 {
     let third = third_of(alloc, text)?;
     let all = with_third(alloc, wording, all, third, matrix, above, text)?;
     let above = above_next(alloc, above, text)?;
-    let all = with_behind(alloc, wording, all, third, matrix, above, parts)?;
+    // For the proof: what this returns is looked at before it is returned.
+    let all = with_after(alloc, wording, all, third, matrix, above, parts)?;
     Ok(all)
 }
 
-/// The remarks with those on the parts behind a matrix that is read or not.
+/// The remarks with those on the parts after a matrix that is read or not.
 pub(crate) fn with_further<W: Wording>(
     alloc: Global,
     wording: &W,
@@ -121,7 +124,7 @@ pub(crate) fn with_further<W: Wording>(
     above: usize,
     parts: &[&[u8]],
 ) -> Result<Vec<Remark>, AllocError>
-    ensures { SaysSuch result all (BehindMatrix matrix.now above (texts parts.now)) }
+    ensures { SaysSuch result all (AfterMatrix matrix.now above (texts parts.now)) }
 {
     match parts.split_first() {
         None => Ok(all),

@@ -3,7 +3,7 @@
 ghost use Rattle.std.specs.Prelude.{◌≡◌, ◌≤◌, ◌∷◌, IfOk, string_bytes};
 ghost use Rattle.std.specs.List.Sorted.{IsNonDecreasingBy};
 ghost use Rattle.lu_text.specs.Lines.{texts};
-ghost use Rattle.lu_lint.specs.Bundle.{BehindComponent, BundleSaid, OnMatrix, IsSaidOf, PartsSaid};
+ghost use Rattle.lu_lint.specs.Bundle.{AfterComponent, BundleSaid, OnMatrix, IsSaidOf, PartsSaid};
 ghost use Rattle.lu_lint.specs.Messages.{remarks_text};
 ghost use Rattle.lu_lint.specs.Said as said;
 ghost use Rattle.lu_lint.specs.Said.{SaysSuch, said_of};
@@ -32,7 +32,7 @@ pub struct Linted {
     pub faults: bool,
 }
 
-/// The remarks with those on a matrix, before which `above` lines stand, on the parts behind it, and
+/// The remarks with those on a matrix, before which `above` lines stand, on the parts after it, and
 /// by runs.
 fn with_second<W: Wording>(
     alloc: Global,
@@ -51,12 +51,13 @@ fn with_second<W: Wording>(
     let (all, matrix) = with_matrix(alloc, wording, all, component, above, text)?;
     let behind = above_next(alloc, above, text)?;
     let all = with_further(alloc, wording, all, &matrix, behind, parts)?;
+    // For the proof: what this returns is looked at before it is returned.
     let all = with_runs(alloc, wording, all, component, &matrix, serial, above, text)?;
     Ok(all)
 }
 
-/// The remarks with those on the parts behind a component.
-fn with_behind<W: Wording>(
+/// The remarks with those on the parts after a component.
+fn with_after<W: Wording>(
     alloc: Global,
     wording: &W,
     all: Vec<Remark>,
@@ -67,7 +68,7 @@ fn with_behind<W: Wording>(
 ) -> Result<Vec<Remark>, AllocError>
     requires some { 1 ≤ serial }
     requires few { serial ≤ 256 }
-    ensures { SaysSuch result all (BehindComponent serial component.now above (texts parts.now)) }
+    ensures { SaysSuch result all (AfterComponent serial component.now above (texts parts.now)) }
 {
     match parts.split_first() {
         None => Ok(all),
@@ -77,7 +78,7 @@ fn with_behind<W: Wording>(
     }
 }
 
-/// The remarks with those on a component and on the parts behind it.
+/// The remarks with those on a component and on the parts after it.
 fn with_first<W: Wording>(
     alloc: Global,
     wording: &W,
@@ -92,7 +93,8 @@ fn with_first<W: Wording>(
 {
     let (all, component) = with_component(alloc, wording, all, text)?;
     let above = above_next(alloc, 0, text)?;
-    let all = with_behind(alloc, wording, all, serial, &component, above, parts)?;
+    // For the proof: what this returns is looked at before it is returned.
+    let all = with_after(alloc, wording, all, serial, &component, above, parts)?;
     Ok(all)
 }
 
@@ -128,6 +130,7 @@ fn remarks_on<W: Wording>(
     let lines = kept_lines(alloc, bundle)?;
     let parts = meant_parts(alloc, bundle)?;
     let all = with_separators(alloc, wording, Vec::new(alloc), &lines)?;
+    // For the proof: what this returns is looked at before it is returned.
     let all = with_parts(alloc, wording, all, serial, &parts)?;
     Ok(all)
 }
@@ -139,20 +142,20 @@ fn have_fault(remarks: &[Remark]) -> bool
     remarks.iter().any(|remark| remark.said.cause.is_fault())
 }
 
-/// Every fault of a bundle, in these words: of its component, of its matrix, of the parts behind these,
-/// and of the lines between its parts. Behind a component with faults the matrix is judged by the
+/// Every fault of a bundle, in these words: of its component, of its matrix, of the parts after these,
+/// and of the lines between its parts. After a component with faults the matrix is judged by the
 /// signatures of the operations that its lines were to declare.
 ///
 /// A third part is a specification where it begins with `lineup spec`, else a report where it
 /// begins with `lineup`, else a recorded history where its first word is `call`, `return` or
-/// `stuck`, and else a schedule. Behind a schedule or a report a specification may stand, and a
-/// part behind that is one too many; behind a specification or a recorded history all parts are
+/// `stuck`, and else a schedule. After a schedule or a report a specification may stand, and a
+/// part after that is one too many; after a specification or a recorded history all parts are
 /// recorded histories. Each fault of a schedule and of a report is told, and, where the matrix is
 /// read, each fault of a specification and the first of each recorded history. Of a part, the one
 /// with the least line of the part is that for which its reader refuses the text
 /// ([`agree`](crate::agree)).
 ///
-/// A line that is nearly `---` parts too, so that what stands behind it is not told for it. Where
+/// A line that is nearly `---` parts too, so that what stands after it is not told for it. Where
 /// the component is read, its warnings are said too, which are no faults.
 ///
 /// Where the matrix is read too, runs are made, and more warnings said: each call of the setup that

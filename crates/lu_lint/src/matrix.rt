@@ -5,7 +5,7 @@ ghost use Rattle.std.specs.Option.{unwrap_or};
 ghost use Rattle.lu_lint.specs.Lint.{told_here};
 ghost use Rattle.lu_lint.specs.Matrix as spec;
 ghost use Rattle.lu_lint.specs.Matrix.{FitsBy, LintsMatrixLines, fault_said, lint_of};
-ghost use Rattle.lu_lint.specs.Bundle.{LintsMatrix, said_behind_faulty};
+ghost use Rattle.lu_lint.specs.Bundle.{LintsMatrix, said_after_faulty};
 ghost use Rattle.lu_lint.specs.Runs.{AreTest};
 ghost use Rattle.lu_lint.specs.Said.{LintsText, SaysAlso, said_told};
 ghost use Rattle.lu_lint.specs.declared.remark.FaultKind.TheVariants as part;
@@ -22,15 +22,17 @@ use crate::signatures::signatures_meant;
 use crate::words::Wording;
 use lu_component::{Component, MOST_OPS};
 use lu_lang::FaultyDraft;
-use lu_test::{Calls, Draft, Matrix, MatrixFaultKind, Signature, end_fault, mended, signatures_of};
+use lu_test::{
+    Calls, Matrix, MatrixDraft, MatrixFaultKind, Signature, end_fault, mended, signatures_of,
+};
 use lu_text::lines_of;
 use std::alloc::{AllocError, Global};
 
 /// No line is read.
-fn no_lines(alloc: Global) -> Draft
+fn no_lines(alloc: Global) -> MatrixDraft
     ensures { result ≡ nothing }
 {
-    Draft {
+    MatrixDraft {
         setup: None,
         threads: Vec::new(alloc),
     }
@@ -49,7 +51,7 @@ fn said(above: usize, kind: MatrixFaultKind, line: usize) -> Said
 /// A line, and the draft before it.
 #[derive(Clone, Copy, Drop)]
 struct Next<'a> {
-    draft: &'a Draft,
+    draft: &'a MatrixDraft,
     text: &'a [u8],
 }
 
@@ -58,9 +60,9 @@ struct Next<'a> {
 fn read_line(
     alloc: Global,
     signatures: &[Signature<'_>],
-    mut draft: Draft,
+    mut draft: MatrixDraft,
     text: &[u8],
-) -> Result<(Draft, Option<MatrixFaultKind>), AllocError>
+) -> Result<(MatrixDraft, Option<MatrixFaultKind>), AllocError>
     requires { CanRead signatures.now draft }
     ensures { IfOk result (λ r.
         r ≡ going_on draft (line_of signatures.now draft text.now)) }
@@ -90,13 +92,13 @@ fn with_line<W: Wording>(
     }
 }
 
-/// The draft from which the lines behind a line are read.
+/// The draft from which the lines after a line are read.
 fn left_by(
     alloc: Global,
-    draft: Draft,
+    draft: MatrixDraft,
     fault: Option<MatrixFaultKind>,
     text: &[u8],
-) -> Result<Draft, AllocError>
+) -> Result<MatrixDraft, AllocError>
     ensures { IfOk result (λ next. next ≡ spec.left_by draft text.now fault) }
 {
     match fault {
@@ -111,7 +113,7 @@ fn with_end<W: Wording>(
     wording: &W,
     all: Vec<Remark>,
     at: &Position,
-    draft: &Draft,
+    draft: &MatrixDraft,
 ) -> Result<Vec<Remark>, AllocError>
     ensures { SaysAlso result all (fault_said at.now (fault_in (finished draft.now))) }
 {
@@ -137,7 +139,7 @@ fn setup_calls(alloc: Global, setup: Option<Calls>) -> Calls
 /// What lines leave, and whether they have no fault.
 #[derive(Drop)]
 pub(crate) struct LeftLines {
-    pub draft: Draft,
+    pub draft: MatrixDraft,
     pub sound: bool,
 }
 
@@ -153,7 +155,7 @@ fn matrix_of(alloc: Global, component: &Component, left: LeftLines) -> Option<Ma
     if !sound || end_fault(&draft).is_some() {
         return None;
     }
-    let Draft { setup, threads } = draft;
+    let MatrixDraft { setup, threads } = draft;
     Matrix::new(component, setup_calls(alloc, setup), threads)
 }
 
@@ -224,7 +226,7 @@ fn with_matrix_by<W: Wording>(
     above: usize,
     text: &[u8],
 ) -> Result<Vec<Remark>, AllocError>
-    ensures { SaysAlso result all (said_behind_faulty faulty.now above text.now) }
+    ensures { SaysAlso result all (said_after_faulty faulty.now above text.now) }
 {
     let signatures = signatures_meant(alloc, faulty)?;
     if signatures.len() > MOST_OPS {
@@ -252,7 +254,7 @@ fn with_matrix_of<W: Wording>(
     Ok((all, matrix_of(alloc, component, left)))
 }
 
-/// The remarks with those on the text of a matrix behind a component, before which `above` lines of
+/// The remarks with those on the text of a matrix after a component, before which `above` lines of
 /// the bundle stand: one on every fault, in the order of their lines; and the matrix, where it and
 /// the component have none.
 ///

@@ -170,7 +170,7 @@ pub enum Cause {
     /// A line that is nearly `---`, and parts nothing.
     Separator,
 
-    /// A line behind which a fifth part begins, where a bundle has four at most: `B1`.
+    /// A line after which a fifth part begins, where a bundle has four at most: `B1`.
     FifthPart,
 
     /// A warning by the text, which is no fault.

@@ -120,7 +120,7 @@ fn have_like(told: &[SerialHint], hint: &SerialHint) -> bool
     told.iter().any(|other| are_alike(hint, other))
 }
 
-/// That the next operation of the thread behind these ends so.
+/// That the next operation of the thread after these ends so.
 fn hint_of(
     alloc: Global,
     before: &[SerialOp],
@@ -148,7 +148,7 @@ fn with_hint(mut told: Vec<SerialHint>, hint: SerialHint) -> Result<Vec<SerialHi
     Ok(told)
 }
 
-/// The hints with that of an operation behind these, where it is told.
+/// The hints with that of an operation after these, where it is told.
 fn with_op(
     alloc: Global,
     told: Vec<SerialHint>,
@@ -225,6 +225,7 @@ fn set_hints(alloc: Global, set: &Trie<Global>) -> Result<Vec<SerialHint>, Alloc
     let _members = set.len();
     let tree = &set;
     let root = tree.root();
+    // For the proof: what this returns is looked at before it is returned.
     let hints = with_below(alloc, Vec::new(alloc), tree, root, &mut Vec::new(alloc))?;
     Ok(hints)
 }
@@ -283,7 +284,7 @@ fn entries_of(alloc: Global, history: &[Event]) -> Result<Vec<SerialOp>, AllocEr
     Ok(entries)
 }
 
-/// That the last event of a history is a call that is cut, behind these operations.
+/// That the last event of a history is a call that is cut, after these operations.
 fn last_hints(
     alloc: Global,
     before: &[SerialOp],
@@ -318,6 +319,7 @@ fn hints_of_cut(
     ensures { ShowsFromEachStart result component.now matrix.now (HintsOfCut schedule.now) }
 {
     let history = played(alloc, component, matrix, schedule)?;
+    // For the proof: what this returns is looked at before it is returned.
     let hints = cut_hints(alloc, &history)?;
     Ok(hints)
 }
@@ -366,6 +368,7 @@ fn settled_hints(
 {
     let setup = setup_hints(alloc, component, matrix)?;
     let serial = serial_hints(alloc, component, matrix, bound)?;
+    // For the proof: what this returns is looked at before it is returned.
     let hints = all_hints(setup, serial)?;
     Ok(hints)
 }

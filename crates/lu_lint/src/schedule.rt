@@ -96,6 +96,7 @@ fn with_words<W: Wording>(
     ensures { SaysAlso result all (schedule_said above (spec.words_faults (texts words.now))) }
 {
     let all = with_each(alloc, wording, all, above, first_words(words))?;
+    // For the proof: what this returns is looked at before it is returned.
     let all = with_length(alloc, wording, all, above, words)?;
     Ok(all)
 }

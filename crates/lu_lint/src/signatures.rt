@@ -5,7 +5,7 @@ ghost use Rattle.lu_text.specs.Results.{HasItems};
 ghost use Rattle.lu_lint.specs.Items.{Extends};
 ghost use Rattle.lu_lint.specs.Signatures as spec;
 
-use lu_component::{MOST_OPS, Op, operation_place};
+use lu_component::{MOST_OPS, Op, operation_number};
 use lu_lang::{FaultyDraft, OpenOp};
 use lu_test::Signature;
 use lu_text::Name;
@@ -51,7 +51,7 @@ fn with_open<'a>(
     }
 }
 
-/// The signatures with that of this operation, unless it is named again behind.
+/// The signatures with that of this operation, unless it is named again after.
 fn with_once<'a>(
     mut signatures: Vec<Signature<'a>>,
     faulty: &FaultyDraft,
@@ -63,7 +63,7 @@ fn with_once<'a>(
         (spec.signature_once faulty.now.meant begun.now op.entry.now behind.now) }
 {
     let name = op.name.as_bytes();
-    if operation_place(behind, name).is_some() || is_open_operation(begun, name) {
+    if operation_number(behind, name).is_some() || is_open_operation(begun, name) {
         return Ok(signatures);
     }
     signatures.push(signature_in(faulty, &op.name, op.args))?;
@@ -85,6 +85,7 @@ fn signatures_from<'a>(
         let (_, behind) = ops.split_at(before + 1);
         signatures = with_once(signatures, faulty, begun, op, behind)?;
     }
+    // For the proof: what this returns is looked at before it is returned.
     let signatures = with_open(signatures, faulty, begun)?;
     Ok(signatures)
 }

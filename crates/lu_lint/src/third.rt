@@ -130,6 +130,7 @@ fn with_report<W: Wording>(
 {
     let lines = kept_lines(alloc, text)?;
     let faults = report_faults(alloc, &lines)?;
+    // For the proof: what this returns is looked at before it is returned.
     let all = with_report_faults(alloc, wording, all, above, &lines, &faults)?;
     Ok(all)
 }
@@ -185,6 +186,7 @@ fn with_specification<W: Wording>(
     let lines = kept_lines(alloc, text)?;
     let free = has_free_entries(alloc, text)?;
     let faults = given_spec_faults(alloc, matrix, text)?;
+    // For the proof: what this returns is looked at before it is returned.
     let all = with_specification_faults(alloc, wording, all, matrix, above, free, &lines, &faults)?;
     Ok(all)
 }
@@ -206,7 +208,7 @@ pub(crate) fn with_specification_of<W: Wording>(
     }
 }
 
-/// The remarks with those on a schedule, which is what was said and the faults behind it.
+/// The remarks with those on a schedule, which is what was said and the faults after it.
 fn with_third_schedule<W: Wording>(
     alloc: Global,
     wording: &W,
@@ -216,6 +218,7 @@ fn with_third_schedule<W: Wording>(
 ) -> Result<Vec<Remark>, AllocError>
     ensures { SaysSuch result all (spec.ScheduleSaid above text.now) }
 {
+    // For the proof: what this returns is looked at before it is returned.
     let all = with_schedule(alloc, wording, all, above, text)?;
     Ok(all)
 }
@@ -231,11 +234,12 @@ fn with_third_history<W: Wording>(
 ) -> Result<Vec<Remark>, AllocError>
     ensures { SaysSuch result all (ThirdSaid History matrix.now above text.now) }
 {
+    // For the proof: what this returns is looked at before it is returned.
     let all = with_histories(alloc, wording, all, matrix, above, &[text])?;
     Ok(all)
 }
 
-/// The remarks with those on a third part that is to be this, behind a matrix that is read or not.
+/// The remarks with those on a third part that is to be this, after a matrix that is read or not.
 pub(crate) fn with_third<W: Wording>(
     alloc: Global,
     wording: &W,

@@ -13,7 +13,7 @@ ghost use Rattle.lu_text.specs.Lines.{texts};
 use crate::remark::{Cause, Hint, Position, Remark, Said, line_before, with_remark, with_words};
 use crate::words::Wording;
 use lu_component::{Arithmetic, Component, Instr};
-use lu_lang::{Draft, Label, OpenOp, Statement};
+use lu_lang::{ComponentDraft, Label, OpenOp, Statement};
 use lu_text::words_of;
 use std::alloc::{AllocError, Global};
 
@@ -119,7 +119,7 @@ fn behind(row: &[bool]) -> &[bool]
     }
 }
 
-/// Whether it is so at the place behind this one.
+/// Whether it is so at the place after this one.
 fn holds_behind(row: &[bool], place: usize) -> bool
     ensures { result ≡ spec.holds_behind row.now place }
 {
@@ -398,7 +398,7 @@ fn unless(alloc: Global, named: bool, hint: Hint) -> Result<Vec<FoundHint>, Allo
 fn outside_hints(
     alloc: Global,
     component: &Component,
-    draft: &Draft,
+    draft: &ComponentDraft,
     word: &[u8],
 ) -> Result<Vec<FoundHint>, AllocError>
     ensures { HasItems result (spec.state_hints component.now draft.now None word.now) }
@@ -418,7 +418,7 @@ fn outside_hints(
 fn state_hints(
     alloc: Global,
     component: &Component,
-    draft: &Draft,
+    draft: &ComponentDraft,
     word: &[u8],
 ) -> Result<Vec<FoundHint>, AllocError>
     ensures { HasItems result (spec.state_hints component.now draft.now draft.now.begun word.now) }
@@ -438,7 +438,7 @@ fn state_hints(
 fn words_hints(
     alloc: Global,
     component: &Component,
-    draft: &Draft,
+    draft: &ComponentDraft,
     words: &[&[u8]],
 ) -> Result<Vec<FoundHint>, AllocError>
     ensures { HasItems result (spec.words_hints component.now draft.now (texts words.now)) }
@@ -449,11 +449,11 @@ fn words_hints(
     }
 }
 
-/// The hints at a line behind this draft.
+/// The hints at a line after this draft.
 fn line_hints(
     alloc: Global,
     component: &Component,
-    draft: &Draft,
+    draft: &ComponentDraft,
     text: &[u8],
 ) -> Result<Vec<FoundHint>, AllocError>
     ensures { HasItems result (spec.line_hints component.now draft.now text.now) }
@@ -468,7 +468,7 @@ fn with_found<W: Wording>(
     wording: &W,
     mut all: Vec<Remark>,
     at: &Position,
-    draft: &Draft,
+    draft: &ComponentDraft,
     text: &[u8],
     hints: &[FoundHint],
 ) -> Result<Vec<Remark>, AllocError>
@@ -485,8 +485,12 @@ fn with_found<W: Wording>(
     Ok(all)
 }
 
-/// The draft behind a line, which has no fault.
-fn draft_behind(alloc: Global, mut draft: Draft, text: &[u8]) -> Result<Draft, AllocError>
+/// The draft after a line, which has no fault.
+fn draft_behind(
+    alloc: Global,
+    mut draft: ComponentDraft,
+    text: &[u8],
+) -> Result<ComponentDraft, AllocError>
     ensures { IfOk result (λ next. next ≡ spec.draft_behind draft text.now) }
 {
     draft.line(alloc, text)?;
@@ -507,7 +511,7 @@ pub(crate) fn with_warnings<W: Wording>(
 ) -> Result<Vec<Remark>, AllocError>
     ensures { SaysAlso result all (warnings_of_lines component.now (texts lines.now)) }
 {
-    let mut draft = Draft::new(alloc);
+    let mut draft = ComponentDraft::new(alloc);
     let mut seen = Vec::new(alloc);
     for (before, text) in lines.iter().enumerate() {
         let at = Position {

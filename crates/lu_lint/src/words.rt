@@ -2,20 +2,20 @@
 
 use crate::remark::{Hint, RunHint};
 use crate::runs::Test;
-use lu_lang::{Draft, LangFaultKind};
+use lu_lang::{ComponentDraft, LangFaultKind};
 use lu_recorded::RecordedFaultKind;
 use lu_report::ReportLineFault;
 use lu_spec::SpecLineFault;
-use lu_test::{Draft as MatrixDraft, Matrix, MatrixFaultKind, ScheduleFault, Signature};
+use lu_test::{Matrix, MatrixDraft, MatrixFaultKind, ScheduleFault, Signature};
 use std::alloc::{AllocError, Global};
 
 /// The words for what lint says. Each fails where there is no memory for them.
 pub trait Wording {
-    /// For a fault of a component's line, as it was meant, behind this draft.
+    /// For a fault of a component's line, as it was meant, after this draft.
     fn component_fault(
         &self,
         alloc: Global,
-        draft: &Draft,
+        draft: &ComponentDraft,
         kind: LangFaultKind,
         text: &[u8],
     ) -> Result<String, AllocError>;
@@ -25,14 +25,14 @@ pub trait Wording {
     fn missing_label(
         &self,
         alloc: Global,
-        draft: &Draft,
+        draft: &ComponentDraft,
         back: usize,
     ) -> Result<String, AllocError>;
 
-    /// For a fault at the end of a component, behind this draft.
-    fn component_end(&self, alloc: Global, draft: &Draft) -> Result<String, AllocError>;
+    /// For a fault at the end of a component, after this draft.
+    fn component_end(&self, alloc: Global, draft: &ComponentDraft) -> Result<String, AllocError>;
 
-    /// For a fault of a matrix's line, behind this draft, by the signatures of the operations.
+    /// For a fault of a matrix's line, after this draft, by the signatures of the operations.
     fn matrix_fault(
         &self,
         alloc: Global,
@@ -90,15 +90,15 @@ pub trait Wording {
     /// For a line that is nearly `---`.
     fn separator(&self, alloc: Global, line: &[u8]) -> Result<String, AllocError>;
 
-    /// For a part behind the fourth.
+    /// For a part after the fourth.
     fn fifth_part(&self, alloc: Global) -> Result<String, AllocError>;
 
-    /// For a warning that is found at a component's line behind this draft, and stands so many lines
+    /// For a warning that is found at a component's line after this draft, and stands so many lines
     /// with words before it.
     fn warning(
         &self,
         alloc: Global,
-        draft: &Draft,
+        draft: &ComponentDraft,
         text: &[u8],
         hint: Hint,
         back: usize,

@@ -9,7 +9,7 @@ use Rattle.lu_component.specs.declared.component.Array.{Array}
 use Rattle.lu_machine.specs.declared.program.Agenda.{Agenda}
 use Rattle.lu_machine.specs.declared.program.Task.{Task}
 use Rattle.lu_machine.specs.declared.span.Span.{Span}
-use Rattle.lu_component.specs.Component.{Declarations}
+use Rattle.lu_component.specs.Component.{Component}
 use Rattle.lu_machine.specs.States.{State, first_cell, cell_of}
 use Rattle.lu_machine.specs.Starts.{initial_cells}
 use Rattle.lu_machine.specs.Layout.{IsLaidOut, IsStanding, StandsIn, spans_of}
@@ -32,7 +32,7 @@ length-spans_of before (a ∷ arrays) = ap suc (length-spans_of (before + a.len)
 span_same : (m n : ℕ) (a b : Array) → m ≡ n → a ≡ b → ◌≡◌ {A = Option Span} (Some (record { first = m; len = a.len })) (Some (record { first = n; len = b.len }))
 span_same m n a b p q = rw (p, q) refl
 
--- the span of array w begins behind the cells of the arrays before it
+-- the span of array w begins after the cells of the arrays before it
 pub slice_get-spans_of : (before : ℕ) (arrays : List Array) (w : ℕ) (a : Array) → slice_get arrays w ≡ Some a → slice_get (spans_of before arrays) w ≡ Some (record { first = before + first_cell arrays w; len = a.len })
 slice_get-spans_of before [] w a is = cc
 slice_get-spans_of before (b ∷ arrays) zero a is =
@@ -51,11 +51,11 @@ cell_within (b ∷ arrays) (suc w) i a is h =
     omega (arith, first_cell-cons b arrays w, first_cell-cons b arrays (length arrays), cell_within arrays w i a is h)
 
 -- what the span of array w tells of its cell i
-pub record Tells (c : Declarations) (cells : List ℕ) (w i : ℕ) (span : Span) : Type 0 where
+pub record Tells (c : Component) (cells : List ℕ) (w i : ℕ) (span : Span) : Type 0 where
   pub inside : i < span.len → (cell_of c w i ≡ Some (span.first + i)) × (span.first + i < length cells)
   pub past : span.len ≤ i → cell_of c w i ≡ None
 
-array_tells : (c : Declarations) (cells : List ℕ) (w i : ℕ) (a : Array) (span : Span) → slice_get c.arrays w ≡ Some a → length cells ≡ first_cell c.arrays (length c.arrays) → span.first ≡ first_cell c.arrays w → span.len ≡ a.len → Tells c cells w i span
+array_tells : (c : Component) (cells : List ℕ) (w i : ℕ) (a : Array) (span : Span) → slice_get c.arrays w ≡ Some a → length cells ≡ first_cell c.arrays (length c.arrays) → span.first ≡ first_cell c.arrays w → span.len ≡ a.len → Tells c cells w i span
 unfolding cell_of
 array_tells c cells w i a span at many first len = record {
   inside = λ below. (
@@ -65,7 +65,7 @@ array_tells c cells w i a span at many first len = record {
   past = λ above. rw (at, le-ltb i a.len (omega arith)) refl;
 }
 
-pub span_tells : (c : Declarations) (spans : List Span) (cells : List ℕ) (w i : ℕ) (span : Span) → spans ≡ spans_of 0 c.arrays → length cells ≡ first_cell c.arrays (length c.arrays) → w < length c.arrays → span ≡ get_or spans w span → Tells c cells w i span
+pub span_tells : (c : Component) (spans : List Span) (cells : List ℕ) (w i : ℕ) (span : Span) → spans ≡ spans_of 0 c.arrays → length cells ≡ first_cell c.arrays (length c.arrays) → w < length c.arrays → span ≡ get_or spans w span → Tells c cells w i span
 span_tells c spans cells w i span are many below read =
     let none : Array = record { name = []; len = 0; init = 0 } in
     let a : Array = get_or c.arrays w none in
@@ -89,7 +89,7 @@ kept_tells spans rows agendas s w n i span keeps below same read =
 length-initial_cells-cons : (a : Array) (arrays : List Array) → length (initial_cells (a ∷ arrays)) ≡ a.len + length (initial_cells arrays)
 length-initial_cells-cons a arrays = rw (length-append, length-replicate) refl
 
--- the cells of all arrays are as many as stand before an array behind the last
+-- the cells of all arrays are as many as stand before an array after the last
 pub length-initial_cells : (arrays : List Array) → length (initial_cells arrays) ≡ first_cell arrays (length arrays)
 length-initial_cells [] = sym (first_cell-none [])
 length-initial_cells (a ∷ arrays) =
@@ -126,7 +126,7 @@ laid_more arrays many spans cells a laid below read =
     initial_cells-append arrays a = rw (flat_map-append, append-nil) refl
 
 -- a thread that stands elsewhere leaves the layout as it is
-pub laid_moved : (c : Declarations) (matrix : Matrix) (spans : List Span) (rows : List (List Task)) (agendas : List Agenda) (cells : List ℕ) (locks : List (Option ℕ)) (threads : List Thread) (t : ℕ) (now : Thread) → IsLaidOut c matrix spans rows agendas cells locks threads → IsStanding now → StandsIn c now → IsLaidOut c matrix spans rows agendas cells locks (slice_set threads t now)
+pub laid_moved : (c : Component) (matrix : Matrix) (spans : List Span) (rows : List (List Task)) (agendas : List Agenda) (cells : List ℕ) (locks : List (Option ℕ)) (threads : List Thread) (t : ℕ) (now : Thread) → IsLaidOut c matrix spans rows agendas cells locks threads → IsStanding now → StandsIn c now → IsLaidOut c matrix spans rows agendas cells locks (slice_set threads t now)
 laid_moved c matrix spans rows agendas cells locks threads t now laid stands in_code = record {
   component = laid.component;
   matrix_is = laid.matrix_is;

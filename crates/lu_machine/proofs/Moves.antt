@@ -7,7 +7,7 @@ use Rattle.std.specs.Option.{option_map_or}
 use Rattle.lu_component.specs.declared.component.Op.{Op}
 use Rattle.lu_component.specs.declared.instr.Instr.{Instr}
 use Rattle.lu_component.specs.declared.instr.Instr.TheVariants.{Set, Compute, Load, Store, Cas, Lock, Unlock, Await, AwaitNot, Pick, Jump, JumpIfZero, Return}
-use Rattle.lu_component.specs.Component.{Declarations, IsComponent, IsInstr, IsOp}
+use Rattle.lu_component.specs.Component.{Component, IsComponent, IsInstr, IsOp}
 use Rattle.lu_test.specs.declared.matrix.Call.{Call}
 use Rattle.lu_test.specs.declared.schedule.Move.{Move}
 use Rattle.lu_test.specs.Matrix.{Matrix, calls_of}
@@ -47,7 +47,7 @@ pub one_at_most : (b : Bool) → (if b then 1 else 0) ≤ 8
 one_at_most true = omega arith
 one_at_most false = omega arith
 
-pub instr_is : (c : Declarations) → IsComponent c → (op : ℕ) (o : Option Op) → slice_get c.operations op ≡ o → (blocked : Instr → Bool) (place : ℕ) (i : Option Instr) → instr_at c op place ≡ i → option_map_or (λ instr. if blocked instr then 0 else choices instr) i 0 ≤ 8
+pub instr_is : (c : Component) → IsComponent c → (op : ℕ) (o : Option Op) → slice_get c.operations op ≡ o → (blocked : Instr → Bool) (place : ℕ) (i : Option Instr) → instr_at c op place ≡ i → option_map_or (λ instr. if blocked instr then 0 else choices instr) i 0 ≤ 8
 unfolding instr_at
 instr_is c is op o at blocked place None e = omega arith
 instr_is c is op None at blocked place (Some instr) e = (let e' = rw at at e in cc)

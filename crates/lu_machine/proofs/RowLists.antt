@@ -7,7 +7,7 @@ use Rattle.std.proofs.lemmas.Option.{same_Some, slice_get_cases, slice_get_withi
 use Rattle.lu_component.specs.declared.component.Op.{Op}
 use Rattle.lu_component.specs.declared.instr.Instr.{Instr}
 use Rattle.lu_component.specs.declared.instr.Instr.TheVariants.{Set, Compute, Load, Store, Cas, Lock, Unlock, Await, AwaitNot, Pick, Jump, JumpIfZero, Return}
-use Rattle.lu_component.specs.Component.{Declarations, IsComponent, IsInstr, IsOp}
+use Rattle.lu_component.specs.Component.{Component, IsComponent, IsInstr, IsOp}
 use Rattle.lu_test.specs.declared.matrix.Call.{Call}
 use Rattle.lu_test.specs.Matrix.{IsCallOf, IsMatrix, IsOf, Matrix, calls_of}
 use Rattle.lu_machine.specs.declared.program.Agenda.{Agenda}
@@ -110,7 +110,7 @@ row_get f d (x ∷ xs) n zero e within = refl
 row_get f d (x ∷ xs) n (suc i) e within = row_get f d xs n i e (omega (arith, within))
 
 -- the task that stands at a place of an operation's row
-pub task_is : (c : Declarations) (op place : ℕ) (row : List Task) (task d : Task) → op < length c.operations → place ≤ 64 → row ≡ get_or (rows_of c) op row → task ≡ get_or row place d → task ≡ option_map_or task_of (instr_at c op place) no_task
+pub task_is : (c : Component) (op place : ℕ) (row : List Task) (task d : Task) → op < length c.operations → place ≤ 64 → row ≡ get_or (rows_of c) op row → task ≡ get_or row place d → task ≡ option_map_or task_of (instr_at c op place) no_task
 unfolding instr_at
 task_is c op place row task d within inside row_is is =
     elim (slice_get_cases c.operations op).1 [
@@ -125,7 +125,7 @@ task_is c op place row task d within inside row_is is =
         rw at (is ∙ ap (λ (x : List Task). get_or x place d) same ∙ there)
 
 -- a call of a thread stands as it is opened among those of all, and its operation is one of the component's
-pub record IsOpening (c : Declarations) (matrix : Matrix) (t k : ℕ) (frame : Frame) : Type 0 where
+pub record IsOpening (c : Component) (matrix : Matrix) (t k : ℕ) (frame : Frame) : Type 0 where
   pub call : Call
   pub at : slice_get (calls_of matrix t) k ≡ Some call
   pub is : frame ≡ opened call
@@ -144,14 +144,14 @@ call_at matrix t k left = by_thread (slice_get matrix.threads t) refl left
           | inr q ↦ absurd (omega (arith, below, q.0))
         ]
 
-of_within : (c : Declarations) (call : Call) → IsCallOf c call → call.op < length c.operations
+of_within : (c : Component) (call : Call) → IsCallOf c call → call.op < length c.operations
 of_within c call of = by_op (slice_get c.operations call.op) refl of
   where
     by_op : (o : Option Op) → slice_get c.operations call.op ≡ o → IsSomeAnd o (λ op. length call.args ≡ op.args) → call.op < length c.operations
     by_op None is h = absurd h
     by_op (Some op) is h = slice_get_within c.operations call.op op is
 
-pub opening_found : (c : Declarations) (matrix : Matrix) (t k i j : ℕ) (agendas : List Agenda) (agenda : Agenda) (frame d : Frame) → frame ≡ get_or agenda.frames j d → IsMatrix matrix → IsOf matrix c → k < length (calls_of matrix t) → i ≡ t → j ≡ k → agendas ≡ map agenda_of matrix.threads → agenda ≡ get_or agendas i agenda → IsOpening c matrix t k frame
+pub opening_found : (c : Component) (matrix : Matrix) (t k i j : ℕ) (agendas : List Agenda) (agenda : Agenda) (frame d : Frame) → frame ≡ get_or agenda.frames j d → IsMatrix matrix → IsOf matrix c → k < length (calls_of matrix t) → i ≡ t → j ≡ k → agendas ≡ map agenda_of matrix.threads → agenda ≡ get_or agendas i agenda → IsOpening c matrix t k frame
 opening_found c matrix t k i j agendas agenda frame d frame_is sound of left at_t at_k are agenda_is =
     let found = call_at matrix t k left in
     let calls = found.0 in

@@ -2,7 +2,7 @@
 use Rattle.std.proofs.Common.{◌≡◌, ℕ, zero, suc, ◌+◌, ◌<◌, ◌≤◌, ◌⊎◌, Bool, true, false, List, [], ◌∷◌, ◌++◌, length, replicate, map, get_or, Option, Some, None, slice_get, refl, sym, ◌∙◌, ap, subst, inl, inr, add-one, arith, rules}
 use Rattle.std.specs.Prelude.{MatchOption}
 use Rattle.std.proofs.lemmas.Bool.{cases_eq, cases_lt, lt-ltb}
-use Rattle.lu_component.specs.Component.{Declarations}
+use Rattle.lu_component.specs.Component.{Component}
 use Rattle.lu_test.specs.declared.matrix.Call.{Call}
 use Rattle.lu_test.specs.declared.schedule.Move.{Move}
 use Rattle.lu_test.specs.Matrix.{Matrix, IsOf, alone, calls_of, thread_count}
@@ -109,7 +109,7 @@ same_end (suc n) (suc m) k s a b g h p q at is =
 makes_same : (s : State) (k : ℕ) (a b : State) → Makes s k a → Makes s k b → a ≡ b
 makes_same s k a b p q = same_end (suc p.moves) (suc q.moves) k s a b p.history q.history p.leads q.leads p.ended q.ended
 
-makes_all_same : (c : Declarations) (calls : List Call) (k : ℕ) (a b : State) → MakesAll c calls k a → MakesAll c calls k b → a ≡ b
+makes_all_same : (c : Component) (calls : List Call) (k : ℕ) (a b : State) → MakesAll c calls k a → MakesAll c calls k b → a ≡ b
 makes_all_same c calls zero a b p q = p ∙ sym q
 makes_all_same c calls (suc k) a b p q =
     let same = makes_all_same c calls k p.0 q.0 p.1 q.1 in
@@ -117,12 +117,12 @@ makes_all_same c calls (suc k) a b p q =
 
 -- ---- the laws
 
-pub start_same : (c : Declarations) (matrix : Matrix) (a b : State) → IsStart c matrix a → IsStart c matrix b → a ≡ b
+pub start_same : (c : Component) (matrix : Matrix) (a b : State) → IsStart c matrix a → IsStart c matrix b → a ≡ b
 start_same c matrix a b p q =
     let same = makes_all_same c matrix.setup (length matrix.setup) p.end q.end p.made q.made in
     p.is ∙ (ap (λ (x : State). at_rest c matrix x.cells x.locks) same ∙ sym q.is)
 
-pub setups_alike : (c : Declarations) (matrix other : Matrix) (a b : State) → matrix.setup ≡ other.setup → IsStart c matrix a → IsStart c other b → (a.cells ≡ b.cells) × (a.locks ≡ b.locks)
+pub setups_alike : (c : Component) (matrix other : Matrix) (a b : State) → matrix.setup ≡ other.setup → IsStart c matrix a → IsStart c other b → (a.cells ≡ b.cells) × (a.locks ≡ b.locks)
 setups_alike c matrix other a b e p q =
     let there : SetsUp c matrix q.end = subst (λ (x : List Call). MakesAll c x (length x) q.end) (sym e) q.made in
     let same = makes_all_same c matrix.setup (length matrix.setup) p.end q.end p.made there in (
@@ -131,13 +131,13 @@ setups_alike c matrix other a b e p q =
     )
 
 -- a beginning of the calls that are made
-record Before (c : Declarations) (calls : List Call) (k : ℕ) : Type 0 where
+record Before (c : Component) (calls : List Call) (k : ℕ) : Type 0 where
   before : State
   end : State
   made : MakesAll c calls k before
   makes : Makes before k end
 
-before : (c : Declarations) (calls : List Call) (n k : ℕ) (end : State) → k < n → MakesAll c calls n end → Before c calls k
+before : (c : Component) (calls : List Call) (n k : ℕ) (end : State) → k < n → MakesAll c calls n end → Before c calls k
 before c calls zero k end h all = absurd (omega arith)
 before c calls (suc n) k end h all =
     elim (cases_lt k n) [
@@ -145,16 +145,16 @@ before c calls (suc n) k end h all =
       | inr past ↦ (let e : n ≡ k = omega arith in subst (Before c calls) e (record { before = all.0; end = end; made = all.1; makes = all.2 }))
     ]
 
-unsettled_before : (c : Declarations) (matrix : Matrix) (k n : ℕ) (end : State) → IsUnsettledAt c matrix k → k < n → MakesAll c matrix.setup n end → ⊥
+unsettled_before : (c : Component) (matrix : Matrix) (k n : ℕ) (end : State) → IsUnsettledAt c matrix k → k < n → MakesAll c matrix.setup n end → ⊥
 unsettled_before c matrix k n end h less all =
     let b = before c matrix.setup n k end less all in
     let same = makes_all_same c matrix.setup k b.before h.before b.made h.made in
     h.open_still b.end (subst (λ x. Makes x k b.end) same b.makes)
 
-pub never_both : (c : Declarations) (matrix : Matrix) (k : ℕ) → IsUnsettledAt c matrix k → Settles c matrix → ⊥
+pub never_both : (c : Component) (matrix : Matrix) (k : ℕ) → IsUnsettledAt c matrix k → Settles c matrix → ⊥
 never_both c matrix k h settles = settles k h
 
-pub one_unsettled : (c : Declarations) (matrix : Matrix) (i j : ℕ) → IsUnsettledAt c matrix i → IsUnsettledAt c matrix j → i ≡ j
+pub one_unsettled : (c : Component) (matrix : Matrix) (i j : ℕ) → IsUnsettledAt c matrix i → IsUnsettledAt c matrix j → i ≡ j
 one_unsettled c matrix i j p q =
     elim (cases_lt i j) [
       | inl less ↦ absurd (unsettled_before c matrix i j q.before p less q.made)
@@ -167,7 +167,7 @@ one_unsettled c matrix i j p q =
 -- ---- whether a setup settles
 
 -- where all these calls were made, each of them ends
-pub made_end : (c : Declarations) (calls : List Call) (end : State) → MakesAll c calls (length calls) end → AllEnd c calls
+pub made_end : (c : Component) (calls : List Call) (end : State) → MakesAll c calls (length calls) end → AllEnd c calls
 made_end c calls end made k h =
     let b = before c calls (length calls) k end h.there made in
     let same = makes_all_same c calls k b.before h.before b.made h.made in
@@ -301,7 +301,7 @@ makes_or_not s k =
     ]
 
 -- where each of these calls ends, the first k are made
-all_made : (c : Declarations) (calls : List Call) → AllEnd c calls → (k : ℕ) → k ≤ length calls → (end : State) × MakesAll c calls k end
+all_made : (c : Component) (calls : List Call) → AllEnd c calls → (k : ℕ) → k ≤ length calls → (end : State) × MakesAll c calls k end
 all_made c calls all zero few = (empty_state c (alone calls), refl)
 all_made c calls all (suc k) few =
     let b = all_made c calls all k (omega (arith, few)) in
@@ -310,12 +310,12 @@ all_made c calls all (suc k) few =
       | inr none ↦ absurd (all k (record { there = omega (arith, few); before = b.0; made = b.1; open_still = none }))
     ]
 
-pub start_there : (c : Declarations) (matrix : Matrix) → Settles c matrix → (s : State) × IsStart c matrix s
+pub start_there : (c : Component) (matrix : Matrix) → Settles c matrix → (s : State) × IsStart c matrix s
 start_there c matrix h =
     let made = all_made c matrix.setup h (length matrix.setup) (omega arith) in
     (at_rest c matrix made.0.cells made.0.locks, record { end = made.0; made = made.1; is = refl })
 
-pub settled_start : (c : Declarations) (matrix : Matrix) (s : State) → IsStart c matrix s → Settles c matrix
+pub settled_start : (c : Component) (matrix : Matrix) (s : State) → IsStart c matrix s → Settles c matrix
 settled_start c matrix s is = made_end c matrix.setup is.end is.made
 
 -- ---- a call, move after move
@@ -432,12 +432,12 @@ leads_keeps (m ∷ u) s end h p =
     (rest.0 ∙ moved.component, rest.1 ∙ moved.matrix)
 
 -- the calls that are made are of the component and the matrix of one thread, and no other is open
-pub record IsAfter (c : Declarations) (calls : List Call) (k : ℕ) (s : State) : Type 0 where
+pub record IsAfter (c : Component) (calls : List Call) (k : ℕ) (s : State) : Type 0 where
   pub component : s.component ≡ c
   pub matrix : s.matrix ≡ alone calls
   pub progress_is : progress s ≡ (k, false) ∷ []
 
-pub after : (c : Declarations) (calls : List Call) (k : ℕ) (s : State) → MakesAll c calls k s → IsAfter c calls k s
+pub after : (c : Component) (calls : List Call) (k : ℕ) (s : State) → MakesAll c calls k s → IsAfter c calls k s
 after c calls zero s is = record {
   component = ap (λ (x : State). x.component) is;
   matrix = ap (λ (x : State). x.matrix) is;
@@ -454,21 +454,21 @@ after c calls (suc k) s all =
 
 -- ---- the start
 
-pub start_component : (c : Declarations) (matrix : Matrix) (s : State) → IsStart c matrix s → s.component ≡ c
+pub start_component : (c : Component) (matrix : Matrix) (s : State) → IsStart c matrix s → s.component ≡ c
 start_component c matrix s is = ap (λ (x : State). x.component) is.is
 
-pub start_matrix : (c : Declarations) (matrix : Matrix) (s : State) → IsStart c matrix s → s.matrix ≡ matrix
+pub start_matrix : (c : Component) (matrix : Matrix) (s : State) → IsStart c matrix s → s.matrix ≡ matrix
 start_matrix c matrix s is = ap (λ (x : State). x.matrix) is.is
 
-pub start_threads : (c : Declarations) (matrix : Matrix) (s : State) → IsStart c matrix s → s.threads ≡ replicate (thread_count matrix) (record { done = 0; activity = Idle })
+pub start_threads : (c : Component) (matrix : Matrix) (s : State) → IsStart c matrix s → s.threads ≡ replicate (thread_count matrix) (record { done = 0; activity = Idle })
 start_threads c matrix s is = ap (λ (x : State). x.threads) is.is
 
 -- the start is at rest
-pub starts_at_rest : (c : Declarations) (matrix : Matrix) (s : State) → IsStart c matrix s → s ≡ at_rest c matrix s.cells s.locks
+pub starts_at_rest : (c : Component) (matrix : Matrix) (s : State) → IsStart c matrix s → s ≡ at_rest c matrix s.cells s.locks
 starts_at_rest c matrix s is = is.is ∙ sym (ap (λ (x : State). at_rest c matrix x.cells x.locks) is.is)
 
 -- with another matrix of the same setup it is at rest on the same cells and locks
-pub other_start : (c : Declarations) (matrix other : Matrix) (s : State) → IsStart c matrix s → other.setup ≡ matrix.setup → IsStart c other (at_rest c other s.cells s.locks)
+pub other_start : (c : Component) (matrix other : Matrix) (s : State) → IsStart c matrix s → other.setup ≡ matrix.setup → IsStart c other (at_rest c other s.cells s.locks)
 other_start c matrix other s is e = record {
   end = is.end;
   made = subst (λ (x : List Call). MakesAll c x (length x) is.end) (sym e) is.made;
@@ -476,20 +476,20 @@ other_start c matrix other s is e = record {
 }
 
 -- a setup settles in each matrix that has it
-pub settles_too : (c : Declarations) (matrix other : Matrix) → Settles c matrix → other.setup ≡ matrix.setup → Settles c other
+pub settles_too : (c : Component) (matrix other : Matrix) → Settles c matrix → other.setup ≡ matrix.setup → Settles c other
 settles_too c matrix other h e = subst (AllEnd c) (sym e) h
 
 -- the empty setup settles
-pub none_settles : (c : Declarations) (matrix : Matrix) → matrix.setup ≡ [] → Settles c matrix
+pub none_settles : (c : Component) (matrix : Matrix) → matrix.setup ≡ [] → Settles c matrix
 none_settles c matrix e = subst (AllEnd c) (sym e) (λ k h. omega (arith, h.there))
 
 -- so a matrix of the component can run that has the setup of one that can
-pub can_run_too : (c : Declarations) (matrix other : Matrix) → CanRun c matrix → IsOf other c → other.setup ≡ matrix.setup → CanRun c other
+pub can_run_too : (c : Component) (matrix other : Matrix) → CanRun c matrix → IsOf other c → other.setup ≡ matrix.setup → CanRun c other
 can_run_too c matrix other h of e = record { of = of; settles = settles_too c matrix other h.settles e }
 
 -- ---- what the machine that makes the setup's calls leaves
 
-pub sets_up : (c : Declarations) (matrix m : Matrix) (old new : State) (result : Option ℕ) → m ≡ alone matrix.setup → old ≡ empty_state c m
+pub sets_up : (c : Component) (matrix m : Matrix) (old new : State) (result : Option ℕ) → m ≡ alone matrix.setup → old ≡ empty_state c m
     → MatchOption result (MakesAll old.component (calls_of old.matrix 0) (call_count old 0) new) (IsFirstOpen old.component (calls_of old.matrix 0)) → Settles c matrix → SetsUp c matrix new
 sets_up c matrix m old new result one is made settles =
     let whole : old ≡ empty_state c (alone matrix.setup) = is ∙ ap (empty_state c) one in
@@ -500,7 +500,7 @@ sets_up c matrix m old new result one is made settles =
     by_result (Some k) h = absurd (never_both c matrix k h settles)
 
 -- it says whether the setup settles
-pub settles_or : (c : Declarations) (matrix m : Matrix) (old new : State) (result : Option ℕ) → m ≡ alone matrix.setup → old ≡ empty_state c m
+pub settles_or : (c : Component) (matrix m : Matrix) (old new : State) (result : Option ℕ) → m ≡ alone matrix.setup → old ≡ empty_state c m
     → MatchOption result (MakesAll old.component (calls_of old.matrix 0) (call_count old 0) new) (IsFirstOpen old.component (calls_of old.matrix 0)) → IsFirstUnsettled c matrix result
 settles_or c matrix m old new result one is made =
     let whole : old ≡ empty_state c (alone matrix.setup) = is ∙ ap (empty_state c) one in
@@ -511,7 +511,7 @@ settles_or c matrix m old new result one is made =
     by_result (Some k) h = h
 
 -- its cells and locks are as many as those of another machine of the component
-pub laid_out_too : (c d : Declarations) (m n : Matrix) (spans others : List Span) (rows before : List (List Task)) (agendas behind : List Agenda) (cells now : List ℕ) (locks free : List (Option ℕ)) (threads ts : List Thread) → d ≡ c → IsLaidOut c m spans rows agendas cells locks threads → IsLaidOut d n others before behind now free ts → IsLaidOut c m spans rows agendas now free threads
+pub laid_out_too : (c d : Component) (m n : Matrix) (spans others : List Span) (rows before : List (List Task)) (agendas behind : List Agenda) (cells now : List ℕ) (locks free : List (Option ℕ)) (threads ts : List Thread) → d ≡ c → IsLaidOut c m spans rows agendas cells locks threads → IsLaidOut d n others before behind now free ts → IsLaidOut c m spans rows agendas now free threads
 laid_out_too c d m n spans others rows before agendas behind cells now locks free threads ts same is other = record {
   component = is.component;
   matrix_is = is.matrix_is;
@@ -519,13 +519,13 @@ laid_out_too c d m n spans others rows before agendas behind cells now locks fre
   spans_are = is.spans_are;
   rows_are = is.rows_are;
   agendas_are = is.agendas_are;
-  cells_are = other.cells_are ∙ ap (λ (x : Declarations). first_cell x.arrays (length x.arrays)) same;
+  cells_are = other.cells_are ∙ ap (λ (x : Component). first_cell x.arrays (length x.arrays)) same;
   cells_fit = other.cells_fit;
-  locks_are = other.locks_are ∙ ap (λ (x : Declarations). length x.locks) same;
+  locks_are = other.locks_are ∙ ap (λ (x : Component). length x.locks) same;
   threads_are = is.threads_are;
   stand = is.stand;
   in_code = is.in_code;
 }
 
-pub takes_over : (c : Declarations) (m : Matrix) (machine setup new : State) → machine ≡ empty_state c m → setup ≡ new → let taken : State = record machine { cells = setup.cells; locks = setup.locks } in taken ≡ at_rest c m new.cells new.locks
+pub takes_over : (c : Component) (m : Matrix) (machine setup new : State) → machine ≡ empty_state c m → setup ≡ new → let taken : State = record machine { cells = setup.cells; locks = setup.locks } in taken ≡ at_rest c m new.cells new.locks
 takes_over c m machine setup new p q = rw (p, q) refl

@@ -8,7 +8,7 @@ use Rattle.lu_machine.specs.declared.thread.OperationBefore.{OperationBefore}
 use Rattle.lu_machine.specs.declared.undo.Shared.{Shared}
 use Rattle.lu_machine.specs.declared.undo.Shared.TheVariants.{Nothing, Cell, Owner}
 use Rattle.lu_machine.specs.declared.undo.Undo.{Undo}
-use Rattle.lu_component.specs.Component.{Declarations, IsRegister}
+use Rattle.lu_component.specs.Component.{Component, IsRegister}
 use Rattle.lu_machine.specs.Events.{IsEventInRange}
 use Rattle.lu_machine.specs.Layout.{WasIn}
 use Rattle.lu_machine.specs.States.{State, with_standing}
@@ -122,7 +122,7 @@ restored-component s mid undo back =
 
 pub shared_local : (s mid : State) (o : Shared) → with_shared mid o ≡ s → s.component.local ≡ 0 → mid.component.local ≡ 0
 shared_local s mid o back none =
-    ap (λ (c : Declarations). c.local) (sym (with_shared-component mid o) ∙ ap (λ (x : State). x.component) back) ∙ none
+    ap (λ (c : Component). c.local) (sym (with_shared-component mid o) ∙ ap (λ (x : State). x.component) back) ∙ none
 
 -- local instructions run only where all registers are kept
 pub kept_whole : (whole : Bool) (local : ℕ) → (whole ≡ false → local ≡ 0) → nat_lt 0 local ≡ true → whole ≡ true

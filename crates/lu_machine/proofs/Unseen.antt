@@ -30,14 +30,14 @@ local_unseen n s t end runs = by_thread (slice_get s.threads t) refl
         let on = ran n s t end standing stands runs in
         rw on.moved (record { cells = refl; locks = refl; others = λ i other. set_other s.threads t i on.now other })
 
--- without local instructions none runs behind the first step
+-- without local instructions none runs after the first step
 
-none_behind : (local counted : ℕ) → local ≡ 0 → local - counted ≡ 0
-none_behind local counted is = omega arith
+none_after : (local counted : ℕ) → local ≡ 0 → local - counted ≡ 0
+none_after local counted is = omega arith
 
 pub one_without_local : (s : State) (m : Move) (new : State) (event : Option Event) → s.component.local ≡ 0 → Step s m new event ↔ OneStep s m new event
 one_without_local s m new event is =
-    let none : more_local s m.thread ≡ 0 = none_behind s.component.local (if is_at_local s m.thread then 1 else 0) is in (
+    let none : more_local s m.thread ≡ 0 = none_after s.component.local (if is_at_local s m.thread then 1 else 0) is in (
       λ h.
           let same : new ≡ h.0 = subst (λ n. RunsOn n h.0 m.thread new) none h.2 in
           subst (λ x. OneStep s m x event) (sym same) h.1,

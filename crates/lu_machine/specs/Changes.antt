@@ -21,7 +21,7 @@ effect_of f (GoesTo place) = onward_at f place
 effect_of f (Sets place r n) = onward_at (record f { registers = slice_set f.registers r n }) place
 effect_of f (Finishes outcome) = Ends outcome
 
--- the place is one of code or right behind, and what is set is a register
+-- the place is one of code or right after, and what is set is a register
 abbrev pub IsChange : Change → Type 0
 IsChange (GoesTo place) = place ≤ 64
 IsChange (Sets place r n) = (place ≤ 64) × IsRegister r

@@ -1,6 +1,6 @@
 -- Laws of steps, starts and ends.
 use Rattle.std.specs.Prelude.{◌≡◌, ◌≢◌, ◌↔◌, ◌⊎◌, ℕ, Option, slice_get}
-use Rattle.lu_component.specs.Component.{Declarations}
+use Rattle.lu_component.specs.Component.{Component}
 use Rattle.lu_test.specs.declared.schedule.Move.{Move}
 use Rattle.lu_test.specs.Matrix.{Matrix}
 use Rattle.lu_machine.specs.declared.event.Event.{Event}
@@ -13,29 +13,29 @@ use Rattle.lu_machine.specs.Ends.{HasMove, HasStatus, HasNoMove, IsComplete}
 -- a component and a matrix start in at most one state
 abbrev pub OneStart : Type 0
 OneStart =
-    (c : Declarations) (matrix : Matrix) (a b : State) → IsStart c matrix a → IsStart c matrix b
+    (c : Component) (matrix : Matrix) (a b : State) → IsStart c matrix a → IsStart c matrix b
     → a ≡ b
 
 -- they start somewhere exactly where the setup settles
 abbrev pub StartsWhereSettled : Type 0
 StartsWhereSettled =
-    (c : Declarations) (matrix : Matrix) → Settles c matrix ↔ ((s : State) × IsStart c matrix s)
+    (c : Component) (matrix : Matrix) → Settles c matrix ↔ ((s : State) × IsStart c matrix s)
 
 -- where a call of the setup does not end, the setup does not settle
 abbrev pub NeverBoth : Type 0
 NeverBoth =
-    (c : Declarations) (matrix : Matrix) (k : ℕ) → IsUnsettledAt c matrix k → Settles c matrix → ⊥
+    (c : Component) (matrix : Matrix) (k : ℕ) → IsUnsettledAt c matrix k → Settles c matrix → ⊥
 
 -- at most one call of the setup is the first that does not end
 abbrev pub OneUnsettled : Type 0
 OneUnsettled =
-    (c : Declarations) (matrix : Matrix) (i j : ℕ) → IsUnsettledAt c matrix i
+    (c : Component) (matrix : Matrix) (i j : ℕ) → IsUnsettledAt c matrix i
     → IsUnsettledAt c matrix j → i ≡ j
 
 -- of two matrices with one setup, the cells and locks are the same at the start
 abbrev pub SetupsAlike : Type 0
 SetupsAlike =
-    (c : Declarations) (matrix other : Matrix) (a b : State) → matrix.setup ≡ other.setup →
+    (c : Component) (matrix other : Matrix) (a b : State) → matrix.setup ≡ other.setup →
     IsStart c matrix a → IsStart c other b → (a.cells ≡ b.cells) × (a.locks ≡ b.locks)
 
 -- a move leads to at most one state, with one event or none

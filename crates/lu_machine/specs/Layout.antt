@@ -2,7 +2,7 @@
 use Rattle.std.specs.Prelude.{◌≡◌, ℕ, ◌+◌, ◌^◌, ◌<◌, ◌≤◌, List, [], ◌∷◌, length, map, Option, Some, IfSome, slice_get, All}
 use Rattle.lu_component.specs.declared.component.Array.{Array}
 use Rattle.lu_component.specs.declared.instr.Instr.{Instr}
-use Rattle.lu_component.specs.Component.{Declarations, IsComponent, IsInstr}
+use Rattle.lu_component.specs.Component.{Component, IsComponent, IsInstr}
 use Rattle.lu_test.specs.Matrix.{IsMatrix, IsOf, Matrix, thread_count}
 use Rattle.lu_machine.specs.declared.span.Span.{Span}
 use Rattle.lu_machine.specs.declared.thread.Activity.{Activity}
@@ -15,7 +15,7 @@ use Rattle.lu_machine.specs.declared.program.Task.{Task}
 use Rattle.lu_machine.specs.States.{State, first_cell, instr_at}
 use Rattle.lu_machine.specs.Tasks.{agenda_of, rows_of}
 
--- where the cells of the arrays stand, behind so many others
+-- where the cells of the arrays stand, after so many others
 abbrev pub spans_of : ℕ → List Array → List Span
 spans_of before [] = []
 spans_of before (a ∷ arrays) =
@@ -30,26 +30,26 @@ HasRoom done (Open f) = done < 8
 abbrev pub IsStanding : Thread → Type 0
 IsStanding thread = HasRoom thread.done thread.activity
 
--- an open operation is one of the component's, at a place of its code or right behind
-abbrev pub IsInCode : Declarations → Activity → Type 0
+-- an open operation is one of the component's, at a place of its code or right after
+abbrev pub IsInCode : Component → Activity → Type 0
 IsInCode c Idle = Unit {0}
 IsInCode c (Open f) = (f.op < length c.operations) × (f.place ≤ 64)
 
 -- the operation that a thread has open, if it has one, is at such a place
-abbrev pub StandsIn : Declarations → Thread → Type 0
+abbrev pub StandsIn : Component → Thread → Type 0
 StandsIn c thread = IsInCode c thread.activity
 
 -- so was the operation of which this was kept
-abbrev pub WasIn : Declarations → OperationBefore → Type 0
+abbrev pub WasIn : Component → OperationBefore → Type 0
 WasIn c was = (was.op < length c.operations) × (was.place ≤ 64)
 
 -- where a thread is put back, of whose operation this was kept, it still stands in the component
 abbrev pub StaysIn : OperationBefore → Thread → Thread → Type 0
 StaysIn was after before =
-    (c : Declarations) → WasIn c was → StandsIn c after → StandsIn c before
+    (c : Component) → WasIn c was → StandsIn c after → StandsIn c before
 
 -- the operation of a thread that stood so, if one was open, is one of the component's
-abbrev pub StoodIn : Declarations → Thread → OperationBefore → Type 0
+abbrev pub StoodIn : Component → Thread → OperationBefore → Type 0
 StoodIn c standing was =
     (f : Frame) → standing.activity ≡ Open f → StandsIn c standing → WasIn c was
 
@@ -61,7 +61,7 @@ ThreadStoodIn s t was =
 
 -- a span for each array, a row of tasks for each operation, each thread's calls as they are opened,
 -- and as many cells, locks and threads as the component and the matrix have
-pub record IsLaidOut (c : Declarations) (matrix : Matrix) (spans : List Span)
+pub record IsLaidOut (c : Component) (matrix : Matrix) (spans : List Span)
     (rows : List (List Task)) (agendas : List Agenda)
     (cells : List ℕ) (locks : List (Option ℕ)) (threads : List Thread) : Type 0 where
   pub component : IsComponent c

@@ -4,7 +4,7 @@ use Rattle.std.specs.List.{slice_index_or}
 use Rattle.lu_component.specs.declared.component.Array.{Array}
 use Rattle.lu_component.specs.declared.instr.Instr.{Instr}
 use Rattle.lu_component.specs.declared.instr.Operand.{Operand}
-use Rattle.lu_component.specs.Component.{Declarations}
+use Rattle.lu_component.specs.Component.{Component}
 use Rattle.lu_test.specs.Matrix.{Matrix, calls_of}
 use Rattle.lu_machine.specs.declared.thread.Activity.{Activity}
 use Rattle.lu_machine.specs.declared.thread.Activity.TheVariants.{Idle, Open}
@@ -15,7 +15,7 @@ use Rattle.lu_machine.specs.Effects.{value_of}
 -- What is run, the value of each cell of the arrays (one array after the other), the owner of each
 -- lock, and where each thread stands.
 pub record State : Type 0 where
-  pub component : Declarations
+  pub component : Component
   pub matrix : Matrix
   pub cells : List ℕ
   pub locks : List (Option ℕ)
@@ -26,13 +26,13 @@ unfoldable pub first_cell : List Array → ℕ → ℕ
 first_cell arrays w = sum_by (λ a. a.len) (take w arrays)
 
 -- where cell i of array w stands among all cells: nowhere at or past the array's length
-unfoldable pub cell_of : Declarations → ℕ → ℕ → Option ℕ
+unfoldable pub cell_of : Component → ℕ → ℕ → Option ℕ
 cell_of c w i =
     option_and_then (λ a. if nat_lt i a.len then Some (first_cell c.arrays w + i) else None)
     (slice_get c.arrays w)
 
 -- the instruction at this place of the operation
-unfoldable pub instr_at : Declarations → ℕ → ℕ → Option Instr
+unfoldable pub instr_at : Component → ℕ → ℕ → Option Instr
 instr_at c op place = option_and_then (λ o. slice_get o.code place) (slice_get c.operations op)
 
 -- the instruction at the place of the operation f

@@ -4,7 +4,7 @@ use Rattle.std.specs.Option.{option_map, option_map_or}
 use Rattle.lu_component.specs.declared.instr.Instr.{Instr}
 use Rattle.lu_component.specs.declared.instr.Operand.{Operand}
 use Rattle.lu_component.specs.declared.instr.Instr.TheVariants.{Lock, Await, AwaitNot, Jump}
-use Rattle.lu_component.specs.Component.{Declarations, IsOperand}
+use Rattle.lu_component.specs.Component.{Component, IsOperand}
 use Rattle.lu_test.specs.declared.matrix.Call.{Call}
 use Rattle.lu_machine.specs.declared.thread.Frame.{Frame}
 use Rattle.lu_machine.specs.declared.program.Agenda.{Agenda}
@@ -26,20 +26,20 @@ wait_of _ = None
 abbrev pub task_of : Instr → Task
 task_of instr = record { picks = choices instr; wait = wait_of instr; instr = instr }
 
--- behind the code
+-- after the code
 abbrev pub no_task : Task
 no_task = record { picks = 0; wait = None; instr = Jump 0 }
 
--- a task for each instruction, and behind them no tasks, up to 65 in all
+-- a task for each instruction, and after them no tasks, up to 65 in all
 abbrev pub task_row : List Instr → List Task
 task_row code = map task_of code ++ replicate (65 - length code) no_task
 
 -- the tasks of each operation
-abbrev pub rows_of : Declarations → List (List Task)
+abbrev pub rows_of : Component → List (List Task)
 rows_of c = map (λ o. task_row o.code) c.operations
 
 -- the task at the place of the operation f
-abbrev pub task_at : Declarations → Frame → Task
+abbrev pub task_at : Component → Frame → Task
 task_at c f = option_map_or task_of (instr_at c f.op f.place) no_task
 
 -- whether the cell has the operand's value: none where its array has no such cell
@@ -65,7 +65,7 @@ IsAwaitable s (Unowned l) = l < length s.component.locks
 IsAwaitable s (Equal w i v) = (w < length s.component.arrays) × IsOperand i × IsOperand v
 IsAwaitable s (Differs w i v) = (w < length s.component.arrays) × IsOperand i × IsOperand v
 
--- behind the last call
+-- after the last call
 abbrev pub no_frame : Frame
 no_frame = record { op = 0; place = 0; registers = replicate 8 0 }
 

@@ -1,17 +1,17 @@
 -- A component with a matrix that it can run.
 use Rattle.std.specs.Prelude.{◌≡◌, ℕ, Result, MatchResult}
-use Rattle.lu_component.specs.Component.{Declarations, IsComponent}
+use Rattle.lu_component.specs.Component.{Component, IsComponent}
 use Rattle.lu_test.specs.Matrix.{IsMatrix, Matrix}
 use Rattle.lu_machine.specs.declared.test.Test.{Test}
 use Rattle.lu_machine.specs.States.{State}
 use Rattle.lu_machine.specs.Starts.{IsStart, IsUnsettledAt}
 
 -- the test is of this component and this matrix
-abbrev pub IsTestOf : Declarations → Matrix → Test → Type 0
+abbrev pub IsTestOf : Component → Matrix → Test → Type 0
 IsTestOf c matrix test = (test.component.now ≡ c) × (test.matrix.now ≡ matrix)
 
 -- the test of both, or the number of the first call of the setup that does not end
-abbrev pub IsTestOrUnsettled : Declarations → Matrix → Result Test ℕ → Type 0
+abbrev pub IsTestOrUnsettled : Component → Matrix → Result Test ℕ → Type 0
 IsTestOrUnsettled c matrix made = MatchResult made (IsTestOf c matrix) (IsUnsettledAt c matrix)
 
 -- a run of the test starts in the state s

@@ -73,7 +73,7 @@ impl<'a> Machine<'a> {
     ///
     /// # Errors
     ///
-    /// Want of memory.
+    /// Memory was refused.
     pub fn start(
         alloc: Global,
         component: &'a Component,
@@ -205,7 +205,7 @@ impl<'a> Machine<'a> {
     }
 
     /// The task at the operation's place. The operation is asked to be one of the component's, and
-    /// its place one of its code or right behind.
+    /// its place one of its code or right after.
     #[inline(always)]
     fn task(&self, frame: &Frame) -> &Task
         requires op { frame.now.op < length self.now.component.operations }
@@ -596,7 +596,7 @@ impl<'a> Machine<'a> {
     ///
     /// # Errors
     ///
-    /// Want of memory.
+    /// Memory was refused.
     pub fn position(&self, alloc: Global) -> Result<Position, AllocError>
         ensures here { IfOk result (λ p. at_position self.now p ≡ self.now) }
         ensures stands { IfOk result (CanStandAt self.now.component self.now.matrix) }
@@ -633,7 +633,7 @@ impl<'a> Machine<'a> {
         self.matrix
     }
 
-    /// Makes the first step of a move alone, the local instructions behind it left out: the thread
+    /// Makes the first step of a move alone, the local instructions after it left out: the thread
     /// opens its next call or carries out one instruction. Returns the event, if it has one. The
     /// move is asked to be feasible ([`Machine::feasible`]).
     pub fn step_once(&mut self, next: Move) -> Option<Event>

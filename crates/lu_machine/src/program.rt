@@ -10,7 +10,7 @@ use lu_component::{Component, Instr, Op, Operand};
 use lu_test::{Call, Calls, Matrix};
 use std::alloc::{AllocError, Global};
 
-/// The places of an operation's code, and one behind the last.
+/// The places of an operation's code, and one after the last.
 const PLACES: usize = 65;
 
 /// What an instruction waits for.
@@ -45,7 +45,7 @@ pub(crate) struct Task {
     pub(crate) instr: Instr,
 }
 
-/// What stands behind an operation's code: no pick.
+/// What stands after an operation's code: no pick.
 const NO_TASK: Task = Task {
     picks: 0,
     wait: None,

@@ -15,7 +15,7 @@ use std::alloc::{AllocError, Global};
 ///
 /// # Errors
 ///
-/// Want of memory.
+/// Memory was refused.
 pub fn settles(
     alloc: Global,
     component: &Component,

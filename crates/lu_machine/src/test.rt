@@ -33,7 +33,7 @@ impl<'a> Test<'a> {
     ///
     /// # Errors
     ///
-    /// Want of memory.
+    /// Memory was refused.
     pub fn of(
         alloc: Global,
         component: &'a Component,

@@ -1,7 +1,7 @@
 //! Where a thread stands.
 
 ghost use Rattle.std.specs.Prelude.{◌≡◌, ◌-◌, ◌<◌, ◌≤◌, ◌++◌, length, replicate, IfSome};
-ghost use Rattle.lu_component.specs.Component.{Declarations, IsRegister, IsOperand};
+ghost use Rattle.lu_component.specs.Component.{Component as AComponent, IsRegister, IsOperand};
 ghost use Rattle.lu_machine.specs.declared.thread.Activity.TheVariants.{Open};
 ghost use Rattle.lu_machine.specs.Changes.{IsChange, IsEventOf, IsThreadAfter, PutsBack, before, effect_of, whole_frame};
 ghost use Rattle.lu_machine.specs.Effects.{computed, onward, onward_with, value_of};
@@ -149,8 +149,8 @@ impl Thread {
         ensures stands { IsStanding self.new }
         ensures back { PutsBack WHOLE self.old change result self.new }
         ensures register { IsRegister result.register }
-        ensures in_code { (c : Declarations) → StandsIn c self.old → StandsIn c self.new }
-        ensures was_in { (c : Declarations) → StoodIn c self.old result }
+        ensures in_code { (c : AComponent) → StandsIn c self.old → StandsIn c self.new }
+        ensures was_in { (c : AComponent) → StoodIn c self.old result }
     {
         let Activity::Open(frame) = &mut self.activity else {
             return OperationBefore::NOTHING;

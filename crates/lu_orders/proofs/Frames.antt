@@ -4,7 +4,7 @@ use Rattle.std.proofs.lemmas.Option.{slice_get_within}
 use Rattle.std.specs.Option.{option_map_or}
 use Rattle.lu_component.specs.declared.instr.Instr.{Instr}
 use Rattle.lu_component.specs.declared.instr.Instr.TheVariants.{Set, Compute, Load, Store, Cas, Lock, Unlock, Await, AwaitNot, Pick, Jump, JumpIfZero, Return}
-use Rattle.lu_component.specs.Component.{Declarations}
+use Rattle.lu_component.specs.Component.{Component}
 use Rattle.lu_test.specs.Matrix.{Matrix}
 use Rattle.lu_test.specs.declared.schedule.Move.{Move}
 use Rattle.lu_machine.specs.declared.event.Event.{Event}
@@ -95,7 +95,7 @@ carries_reads s m f (Return v) new e is h = h.0
 -- a state by its parts
 state_is : (s r : State) → r.component ≡ s.component → r.matrix ≡ s.matrix → r.cells ≡ s.cells → r.locks ≡ s.locks → with_threads s r.threads ≡ r
 state_is s r c m a l =
-    ap (λ (x : Declarations). let y : State = record { component = x; matrix = s.matrix; cells = s.cells; locks = s.locks; threads = r.threads } in y) (sym c)
+    ap (λ (x : Component). let y : State = record { component = x; matrix = s.matrix; cells = s.cells; locks = s.locks; threads = r.threads } in y) (sym c)
     ∙ (ap (λ (x : Matrix). let y : State = record { component = r.component; matrix = x; cells = s.cells; locks = s.locks; threads = r.threads } in y) (sym m)
     ∙ (ap (λ (x : List ℕ). let y : State = record { component = r.component; matrix = r.matrix; cells = x; locks = s.locks; threads = r.threads } in y) (sym a)
     ∙ ap (λ (x : List (Option ℕ)). let y : State = record { component = r.component; matrix = r.matrix; cells = r.cells; locks = x; threads = r.threads } in y) (sym l)))
@@ -284,7 +284,7 @@ local_alike sees t s r same =
 -- and so is how many may follow
 pub more_alike : (sees : Bool) (t : ℕ) (s r : State) → IsSame sees t s r → more_local r t ≡ more_local s t
 more_alike sees t s r same =
-    ap (λ (x : Declarations). x.local - (if is_at_local r t then 1 else 0)) same.component
+    ap (λ (x : Component). x.local - (if is_at_local r t then 1 else 0)) same.component
     ∙ ap (λ (b : Bool). s.component.local - (if b then 1 else 0)) (local_alike sees t s r same)
 
 -- what running on gives in a state that is the same for the thread

@@ -6,7 +6,7 @@ use Rattle.std.proofs.lemmas.List.Concat.{flat_map-cons}
 use Rattle.std.proofs.lemmas.List.Elements.{Contains-append_cases}
 use Rattle.std.proofs.lemmas.List.Sums.{sum_by-append, sum_by-cons}
 use Rattle.atomic_table.specs.Seated.{TableId}
-use Rattle.lu_component.specs.Component.{Declarations}
+use Rattle.lu_component.specs.Component.{Component}
 use Rattle.lu_test.specs.declared.schedule.Move.{Move}
 use Rattle.lu_test.specs.Matrix.{Matrix}
 use Rattle.lu_machine.specs.declared.counts.Counts.{Counts}
@@ -26,7 +26,7 @@ use Rattle.lu_tree.specs.Trees.{Below}
 use Rattle.lu_tree.proofs.Covers.{first_of_cover, sums_of_cover}
 use Rattle.lu_board.specs.Close.{clean_by, found_by, skipped_by, given_by, SharesOut}
 use Rattle.lu_board.specs.Pieces.{count_of, without_first, once_below, HasEachOnce}
-use Rattle.lu_board.specs.Seats.{SeatModel}
+use Rattle.lu_board.specs.Seats.{Seat}
 use Rattle.lu_board.proofs.Counts.{Has, one_at, one_at-same, count_of-without_first, count_of-append, count_of-empty, contains-has, has-contains, once_below-suc, once_below-zero, once_below-lt}
 use Rattle.lu_parallel.specs.declared.works.FoundPiece.{FoundPiece}
 use Rattle.lu_parallel.specs.declared.works.Work.{Work}
@@ -175,7 +175,7 @@ count_four x a b c d =
 sums_join : (get : Counts → ℕ) (c : Counts) (cs numbers more : List Counts) → get c ≡ capped (sum_by get numbers) → capped (sum_by get cs) ≡ capped (sum_by get more) → capped (sum_by get (c ∷ cs)) ≡ capped (sum_by get (numbers ++ more))
 sums_join get c cs numbers more first rest = (let a = sum_by-cons get c cs in let b = sum_by-append get numbers more in omega arith)
 
-module _ (c : Declarations) (matrix : Matrix) (members : List (List SerialOp)) (s : State) (bound : ℕ) (pieces : List (List Move)) (board : TableId) (start : IsStart c matrix s) where
+module _ (c : Component) (matrix : Matrix) (members : List (List SerialOp)) (s : State) (bound : ℕ) (pieces : List (List Move)) (board : TableId) (start : IsStart c matrix s) where
   -- the numbers of all clean pieces
   record Numbered (works : List Work) : Type 0 where
     numbers : List Counts
@@ -191,7 +191,7 @@ module _ (c : Declarations) (matrix : Matrix) (members : List (List SerialOp)) (
       let rest = numbered ws (λ k d within. all (suc k) d (omega arith)) in
       record {
         numbers = first.numbers ++ rest.numbers;
-        zip = rw (flat_map-cons (λ (x : SeatModel). x.view.clean) w.seat (seats_of ws)) (zip_append (IsClean (IsMember members) s bound pieces) w.seat.view.clean first.numbers (clean_by (seats_of ws)) rest.numbers first.clean rest.zip);
+        zip = rw (flat_map-cons (λ (x : Seat). x.view.clean) w.seat (seats_of ws)) (zip_append (IsClean (IsMember members) s bound pieces) w.seat.view.clean first.numbers (clean_by (seats_of ws)) rest.numbers first.clean rest.zip);
         complete = sums_join (λ (x : Counts). x.complete) w.counts (counts_of_works ws) first.numbers rest.numbers (ap (λ (x : Counts). x.complete) first.sums) rest.complete;
         stuck = sums_join (λ (x : Counts). x.stuck) w.counts (counts_of_works ws) first.numbers rest.numbers (ap (λ (x : Counts). x.stuck) first.sums) rest.stuck;
         cut = sums_join (λ (x : Counts). x.cut) w.counts (counts_of_works ws) first.numbers rest.numbers (ap (λ (x : Counts). x.cut) first.sums) rest.cut;

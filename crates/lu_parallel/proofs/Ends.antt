@@ -7,7 +7,7 @@ use Rattle.atomic_table.specs.Seated.{TableId}
 use Rattle.lu_machine.specs.declared.counts.Counts.{Counts}
 use Rattle.lu_machine.specs.Sums.{plus, total}
 use Rattle.lu_board.specs.Close.{found_by}
-use Rattle.lu_board.specs.Seats.{SeatModel, IsSeatOf, IsDone}
+use Rattle.lu_board.specs.Seats.{Seat, IsSeatOf, IsDone}
 use Rattle.lu_parallel.specs.declared.works.FoundPiece.{FoundPiece}
 use Rattle.lu_parallel.specs.declared.works.Work.{Work}
 use Rattle.lu_parallel.specs.Works.{found_pieces, IsSpentWork}
@@ -32,7 +32,7 @@ has_tail x y xs has other = at has.0 has.1 has.2
 
 -- ---- the loops
 
-pub seats_step : (seats new all : List SeatModel) (rest more : List Work) (w : Work) → rest ≡ w ∷ more → new ≡ seats ++ w.seat ∷ [] → seats ++ seats_of rest ≡ all → new ++ seats_of more ≡ all
+pub seats_step : (seats new all : List Seat) (rest more : List Work) (w : Work) → rest ≡ w ∷ more → new ≡ seats ++ w.seat ∷ [] → seats ++ seats_of rest ≡ all → new ++ seats_of more ≡ all
 seats_step seats new all rest more w is pushed was = rw pushed (one_then seats (seats_of more) w.seat ∙ (ap (λ (x : List Work). seats ++ seats_of x) (sym is) ∙ was))
 
 pub counts_step : (counts after : Counts) (all : List Counts) (rest more : List Work) (w : Work) → rest ≡ w ∷ more → after ≡ plus counts w.counts → (done : List Counts) × (counts ≡ total done) × (done ++ counts_of_works rest ≡ all) → (done : List Counts) × (after ≡ total done) × (done ++ counts_of_works more ≡ all)
@@ -63,7 +63,7 @@ founds_pieces board (w ∷ ws) over =
     ap found_pieces (flat_map-cons (λ (y : Work). y.found.items) w ws)
     ∙ (map-append (λ (f : FoundPiece). f.piece) w.found.items (founds_of ws)
     ∙ (ap (λ (x : List ℕ). x ++ found_pieces (founds_of ws)) first ∙ (ap (λ (x : List ℕ). w.seat.view.found ++ x) rest
-    ∙ sym (flat_map-cons (λ (s : SeatModel). s.view.found) w.seat (seats_of ws)))))
+    ∙ sym (flat_map-cons (λ (s : Seat). s.view.found) w.seat (seats_of ws)))))
 
 pub none_given : (b : Bool) (given : List ℕ) → ((b ≡ true) ↔ (0 < length given)) → b ≡ false → given ≡ []
 none_given b [] d e = refl

@@ -7,11 +7,11 @@ use Rattle.lu_tree.specs.declared.found.Found.{Found}
 use Rattle.lu_tree.specs.declared.found.Found.TheVariants.{Clean, Bad, Abandoned}
 use Rattle.lu_board.specs.Close.{found_by, skipped_by, given_by}
 use Rattle.lu_board.specs.Pieces.{IsLeastPiece}
-use Rattle.lu_board.specs.Seats.{SeatModel}
+use Rattle.lu_board.specs.Seats.{Seat}
 use Rattle.lu_parallel.specs.declared.works.FoundPiece.{FoundPiece}
 use Rattle.lu_parallel.specs.declared.works.Work.{Work}
 
-abbrev pub seats_of : List Work → List SeatModel
+abbrev pub seats_of : List Work → List Seat
 seats_of works = map (λ w. w.seat) works
 
 abbrev pub counts_of_works : List Work → List Counts

@@ -1,6 +1,6 @@
 -- What a search of all schedules finds.
 use Rattle.std.specs.Prelude.{ℕ, List, Option, Some, None, Result, IfOk, IfSome}
-use Rattle.lu_component.specs.Component.{Declarations}
+use Rattle.lu_component.specs.Component.{Component}
 use Rattle.lu_test.specs.Matrix.{Matrix}
 use Rattle.lu_history.specs.declared.serial.SerialOp.{SerialOp}
 use Rattle.lu_witness.specs.Witnesses.{IsMember}
@@ -9,7 +9,7 @@ use Rattle.lu_machine.specs.Tests.{FromEachStartOf}
 use Rattle.lu_replay.specs.Reports.{IsFinding, IsFindingAgainst, IsReportAgainst}
 use Rattle.lu_report.specs.declared.report.Finding.{Finding}
 use Rattle.lu_report.specs.declared.report.Finding.TheVariants.{Pass, Fail}
-use Rattle.lu_parallel.specs.Ranges.{Choice}
+use Rattle.lu_parallel.specs.Ranges.{Options}
 use Rattle.lu_tree.specs.declared.found.Found.{Found}
 use Rattle.lu_tree.specs.declared.found.Found.TheVariants.{Clean, Bad, Abandoned}
 use Rattle.lu_tree.specs.declared.space.SearchSpace.{SearchSpace}
@@ -44,12 +44,12 @@ MayFindAgainst space members result =
     (λ s. IfOk result (λ found. IfSome found (IsFindingAgainst (IsMember members) s space.bound)))
 
 -- the report against the set with these members
-abbrev pub ReportsAgainst : {E : Type 0} → Declarations → Matrix → List (List SerialOp) → ℕ
+abbrev pub ReportsAgainst : {E : Type 0} → Component → Matrix → List (List SerialOp) → ℕ
     → Result Report E → Type 0
 ReportsAgainst c matrix members bound result =
     IfOk result (IsReportAgainst (IsMember members) c matrix bound)
 
 -- the same, within the bound that is asked for
-abbrev pub ReportsAsAsked : {E : Type 0} → Declarations → Matrix → List (List SerialOp) → Choice
+abbrev pub ReportsAsAsked : {E : Type 0} → Component → Matrix → List (List SerialOp) → Options
     → Result Report E → Type 0
 ReportsAsAsked c matrix members asked result = ReportsAgainst c matrix members asked.bound result

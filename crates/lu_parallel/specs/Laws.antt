@@ -1,7 +1,7 @@
 -- What works over the pieces of a cover come to.
 use Rattle.std.specs.Prelude.{ℕ, List, length, Some, IsSomeAnd, All}
 use Rattle.atomic_table.specs.Seated.{TableId}
-use Rattle.lu_component.specs.Component.{Declarations}
+use Rattle.lu_component.specs.Component.{Component}
 use Rattle.lu_test.specs.declared.schedule.Move.{Move}
 use Rattle.lu_test.specs.Matrix.{Matrix}
 use Rattle.lu_machine.specs.States.{State}
@@ -23,7 +23,7 @@ use Rattle.lu_parallel.specs.Conclusions.{IsConclusion, SkipsAbove, seats_of}
 -- The works of all seats of a board, over the pieces of a cover from the start s.
 pub record AreWorksOver (members : List (List SerialOp)) (s : State) (bound : ℕ)
     (works : List Work) : Type 0 where
-  pub component : Declarations
+  pub component : Component
   pub matrix : Matrix
   pub start : IsStart component matrix s
   pub pieces : List (List Move)

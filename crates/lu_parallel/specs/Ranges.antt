@@ -3,7 +3,7 @@ use Rattle.std.specs.Prelude.{ℕ, ◌≤◌}
 use Rattle.lu_report.specs.Limits.{IsSerialBound, most_moves}
 
 -- what is chosen for a check
-pub record Choice : Type 0 where
+pub record Options : Type 0 where
   pub bound : ℕ
   pub serial : ℕ
   pub workers : ℕ
@@ -11,7 +11,7 @@ pub record Choice : Type 0 where
   pub head_start : ℕ
 
 -- these numbers, and no head start
-abbrev pub choice : ℕ → ℕ → ℕ → ℕ → Choice
+abbrev pub choice : ℕ → ℕ → ℕ → ℕ → Options
 choice bound serial workers depth = record {
   bound = bound;
   serial = serial;
@@ -21,11 +21,11 @@ choice bound serial workers depth = record {
 }
 
 -- the same with so many looks of a head start
-abbrev pub with_head_start : ℕ → Choice → Choice
+abbrev pub with_head_start : ℕ → Options → Options
 with_head_start looks c = record c { head_start = looks }
 
 -- each number is within its range, and a head start has any
-pub record IsInRange (c : Choice) : Type 0 where
+pub record IsInRange (c : Options) : Type 0 where
   pub bound : c.bound ≤ most_moves
   pub serial : IsSerialBound c.serial
   pub workers : (1 ≤ c.workers) × (c.workers ≤ 16)

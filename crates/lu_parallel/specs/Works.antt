@@ -2,7 +2,7 @@
 use Rattle.std.specs.Prelude.{◌≡◌, ℕ, ◌≤◌, List, [], map, length, All, Result, IfOk, Vec}
 use Rattle.std.specs.List.{AllZip, slice_index_or}
 use Rattle.atomic_table.specs.Seated.{TableId}
-use Rattle.lu_component.specs.Component.{Declarations}
+use Rattle.lu_component.specs.Component.{Component}
 use Rattle.lu_test.specs.declared.schedule.Move.{Move}
 use Rattle.lu_test.specs.Matrix.{Matrix}
 use Rattle.lu_machine.specs.declared.counts.Counts.{Counts}
@@ -20,7 +20,7 @@ use Rattle.lu_tree.specs.declared.tables.Tables.{Tables}
 use Rattle.lu_tree.specs.declared.found.Found.{Found}
 use Rattle.lu_board.specs.declared.view.View.{View}
 use Rattle.lu_board.specs.Pieces.{without_first}
-use Rattle.lu_board.specs.Seats.{BoardModel, SeatModel, IsDone, IsSeatOf}
+use Rattle.lu_board.specs.Seats.{Board, Seat, IsDone, IsSeatOf}
 use Rattle.lu_board.specs.Views.{pieces_of as seat_pieces}
 use Rattle.lu_report.specs.Limits.{most_moves}
 use Rattle.lu_parallel.specs.declared.works.FoundPiece.{FoundPiece}
@@ -36,16 +36,16 @@ piece_at pieces i = slice_index_or pieces i []
 abbrev pub IsPiece : State → ℕ → List Move → Type 0
 IsPiece s bound p = (length p ≤ bound) × IsSchedule s p
 
-abbrev pub ArePieces : Declarations → Matrix → ℕ → List (List Move) → Type 0
+abbrev pub ArePieces : Component → Matrix → ℕ → List (List Move) → Type 0
 ArePieces c matrix bound pieces = FromEachStart c matrix (λ s. All (IsPiece s bound) pieces)
 
 -- an unspent seat of this board, without pieces
-abbrev pub IsFresh : TableId → SeatModel → Type 0
+abbrev pub IsFresh : TableId → Seat → Type 0
 IsFresh board seat = (seat.board ≡ board) × (seat.view.spent ≡ 0) × (seat_pieces seat.view ≡ [])
 
 -- what workers are lent: a matrix of the component, and as many pieces as the board has
-pub record IsJob (c : Declarations) (matrix : Matrix) (bound : ℕ) (pieces : List (List Move))
-    (board : BoardModel) : Type 0 where
+pub record IsJob (c : Component) (matrix : Matrix) (bound : ℕ) (pieces : List (List Move))
+    (board : Board) : Type 0 where
   pub of : CanRun c matrix
   pub few : bound ≤ most_moves
   pub schedules : ArePieces c matrix bound pieces
@@ -84,15 +84,15 @@ pub record IsSpentWork (board : TableId) (w : Work) : Type 0 where
   pub listed : found_pieces w.found.items ≡ w.seat.view.found
 
 -- a work that is over, and the clean and found pieces of its seat have their answers
-pub record IsWork (c : Declarations) (matrix : Matrix) (members : List (List SerialOp)) (bound : ℕ)
+pub record IsWork (c : Component) (matrix : Matrix) (members : List (List SerialOp)) (bound : ℕ)
     (pieces : List (List Move)) (board : TableId) (w : Work) : Type 0 where
   pub over : IsSpentWork board w
   pub holds : FromEachStart c matrix
       (λ s. IsTally (IsMember members) s bound pieces w.seat.view w.counts w.found.items)
 
 -- the same on this board, with the members of a tree
-abbrev pub Worked : {T : Type 0} → Declarations → Matrix → (T → List (List SerialOp)) → T → ℕ
-    → List (List Move) → BoardModel → Work → Type 0
+abbrev pub Worked : {T : Type 0} → Component → Matrix → (T → List (List SerialOp)) → T → ℕ
+    → List (List Move) → Board → Work → Type 0
 Worked c matrix members tree bound pieces board w =
     IsWork c matrix (members tree) bound pieces board.board w
 
@@ -126,8 +126,8 @@ IsFoundIn job members piece result =
     (IsFoundWatched (IsMember members) s job.space.bound (Below (piece_at job.pieces.now piece))))
 
 -- what is a tally of the seat before and is kept on is one of the seat after
-abbrev pub Tallied : {T G : Type 0} → Job T G → List (List SerialOp) → SeatModel → Worker
-    → SeatModel → Worker → Type 0
+abbrev pub Tallied : {T G : Type 0} → Job T G → List (List SerialOp) → Seat → Worker
+    → Seat → Worker → Type 0
 Tallied job members before old after new =
     FromEachStartOf job.space.test
     (λ s. IsTally (IsMember members) s job.space.bound job.pieces.now before.view old.counts
@@ -136,8 +136,8 @@ Tallied job members before old after new =
     new.found.items)
 
 -- what was found in the piece is on the tally
-abbrev pub IsNoted : {T G E : Type 0} → Job T G → ℕ → Result Found E → SeatModel → Worker
-    → SeatModel → Worker → Type 0
+abbrev pub IsNoted : {T G E : Type 0} → Job T G → ℕ → Result Found E → Seat → Worker
+    → Seat → Worker → Type 0
 IsNoted job piece found before old after new =
     (members : List (List SerialOp)) → IsFoundIn job members piece found
     → Tallied job members before old after new

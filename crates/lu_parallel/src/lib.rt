@@ -26,8 +26,8 @@ pub mod laws;
 mod one_thread;
 mod options;
 mod seat_watch;
-mod threads;
 mod worker;
+mod worker_threads;
 mod works;
 
 pub use checks::{check, check_against};

@@ -23,9 +23,9 @@ pub struct Options {
 }
 
 impl Model for Options {
-    ghost use Rattle.lu_parallel.specs.Ranges.{Choice, IsInRange, choice, with_head_start};
+    ghost use Rattle.lu_parallel.specs.Ranges.{Options as AnOptions, IsInRange, choice, with_head_start};
 
-    ghost Value = { Choice };
+    ghost Value = { AnOptions };
 
     ghost view = { λ o. with_head_start o.head_start
         (choice o.bounds.bound o.bounds.serial o.workers o.depth) };

@@ -3,7 +3,7 @@ use Rattle.std.proofs.Common.{◌≡◌, ℕ, ◌+◌, ◌*◌, ◌^◌, ◌<◌
 use Rattle.std.specs.Option.{option_map, option_map_or, unwrap_or}
 use Rattle.std.proofs.lemmas.Fmt.{length-decimal-le}
 use Rattle.std.proofs.lemmas.List.Elements.{All-head, All-tail}
-use Rattle.lu_component.specs.Component.{Declarations, IsComponent, IsOp}
+use Rattle.lu_component.specs.Component.{Component, IsComponent, IsOp}
 use Rattle.lu_component.specs.declared.component.Op.{Op}
 use Rattle.lu_test.specs.declared.matrix.Call.{Call}
 use Rattle.lu_test.specs.Matrix.{AreArguments, IsMatrix, Matrix, calls_of}
@@ -12,7 +12,7 @@ use Rattle.lu_machine.proofs.Moves.{all_at}
 use Rattle.lu_picture.specs.Shapes.{call_words, words_width}
 use Rattle.lu_picture.proofs.InRange.{row_there}
 
-name_letters : (c : Declarations) (op : ℕ) → IsComponent c → length (operation_name c.operations op) ≤ 32
+name_letters : (c : Component) (op : ℕ) → IsComponent c → length (operation_name c.operations op) ≤ 32
 name_letters c op limits = by_op (slice_get c.operations op) refl
   where
     by_op : (o : Option Op) → slice_get c.operations op ≡ o → length (unwrap_or (option_map (λ (x : Op). x.name) o) []) ≤ 32
@@ -29,14 +29,14 @@ arguments_letters (n ∷ rest) small =
     let sum = length-append (argument_text n) (arguments_text rest) in
     omega (arith, digits, others, sum)
 
-call_letters : (c : Declarations) (call : Call) → IsComponent c → AreArguments call.args → length (call_text c.operations call) ≤ 76
+call_letters : (c : Component) (call : Call) → IsComponent c → AreArguments call.args → length (call_text c.operations call) ≤ 76
 call_letters c call limits few =
     let name = name_letters c call.op limits in
     let arguments = arguments_letters call.args few.1 in
     let sum = length-append (operation_name c.operations call.op) (arguments_text call.args) in
     omega (arith, name, arguments, sum, few.0)
 
-pub call_words_letters : (c : Declarations) (matrix : Matrix) (t k : ℕ) → IsComponent c → IsMatrix matrix → length (call_words c matrix t k) ≤ 76
+pub call_words_letters : (c : Component) (matrix : Matrix) (t k : ℕ) → IsComponent c → IsMatrix matrix → length (call_words c matrix t k) ≤ 76
 call_words_letters c matrix t k limits is = by_call (slice_get (calls_of matrix t) k) refl
   where
     by_call : (o : Option Call) → slice_get (calls_of matrix t) k ≡ o → length (option_map_or (λ call. call_text c.operations call) o []) ≤ 76

@@ -11,7 +11,7 @@ use Rattle.lu_component.specs.declared.instr.Instr.{Instr}
 use Rattle.lu_component.specs.declared.instr.Instr.TheVariants.{Set, Compute, Load, Store, Cas, Lock, Unlock, Await, AwaitNot, Pick, Jump, JumpIfZero, Return}
 use Rattle.lu_component.specs.declared.instr.Operand.{Operand}
 use Rattle.lu_component.specs.declared.instr.Operand.TheVariants.{Reg, Num}
-use Rattle.lu_component.specs.Component.{Declarations, IsArray, IsComponent, IsOp}
+use Rattle.lu_component.specs.Component.{Component as AComponent, IsArray, IsComponent, IsOp}
 use Rattle.lu_component.specs.Operands.{arithmetic_word, operand_word, register_word}
 use Rattle.lu_text.specs.Names.{IsName}
 use Rattle.lu_lang.specs.ComponentText.{array_word, instr_words, label_text, label_word, leads_to, lock_word}
@@ -40,14 +40,14 @@ use Rattle.lu_history.specs.declared.serial.SerialOutcome.TheVariants.{Ret, Trap
 use Rattle.lu_witness.specs.Witnesses.{entries}
 use Rattle.lu_explain.specs.declared.explanation.Reason.{Reason}
 use Rattle.lu_explain.specs.declared.explanation.Reason.TheVariants.{After, Outcome, Nothing}
-use Rattle.lu_explain.specs.Explanations.{Explained, reason_of}
+use Rattle.lu_explain.specs.Explanations.{Explanation, reason_of}
 use Rattle.lu_history.specs.Text.{serial_outcome_text as ended_words}
-use Rattle.lu_explain.specs.Lines.{call_words as call_behind, operation_words, nothing_words, why_not, stuck_last}
+use Rattle.lu_explain.specs.Lines.{call_words as call_after, operation_words, nothing_words, why_not, stuck_last}
 use Rattle.lu_replay.specs.Text.{replay_text, status_text}
 use Rattle.lu_trace.specs.declared.wording.Wording.{Wording}
 use Rattle.lu_trace.specs.declared.wording.Wording.TheVariants.{Component}
 use Rattle.lu_trace.specs.Wordings.{goes_on_at, is_indexed, register_becomes}
-use Rattle.lu_trace.specs.Deeds.{awaited, cell_becomes, cell_is, cell_is_not, cell_word, deed, index_word, jump_deed, looked, named_cell, or_trap, owned_by, present, register_behind, loaded, seen, swap_of, swapped}
+use Rattle.lu_trace.specs.Deeds.{awaited, cell_becomes, cell_is, cell_is_not, cell_word, deed, index_word, jump_deed, looked, named_cell, or_trap, owned_by, present, register_after, loaded, seen, swap_of, swapped}
 use Rattle.lu_trace.specs.Lines.{call_words as call_said, code_of_operation, told_by, next_call, next_instr, next_move_words}
 use Rattle.lu_picture.specs.declared.mark.End.{End}
 use Rattle.lu_picture.specs.Reasons.{outcome_of, why_words}
@@ -57,21 +57,21 @@ use Rattle.lu_picture.proofs.Plain.{ArePlain, plain_append, plain_decimal, plain
 
 -- ---- names
 
-array_plain : (c : Declarations) (w : ℕ) → IsComponent c → IsPlain (array_word c w)
+array_plain : (c : AComponent) (w : ℕ) → IsComponent c → IsPlain (array_word c w)
 array_plain c w limits = by_array (slice_get c.arrays w) refl
   where
     by_array : (o : Option Array) → slice_get c.arrays w ≡ o → IsPlain (unwrap_or (option_map (λ (a : Array). a.name) o) [])
     by_array None at = refl
     by_array (Some a) at = plain_name a.name (all_at IsArray c.arrays w a limits.arrays at).name
 
-lock_plain : (c : Declarations) (l : ℕ) → IsComponent c → IsPlain (lock_word c l)
+lock_plain : (c : AComponent) (l : ℕ) → IsComponent c → IsPlain (lock_word c l)
 lock_plain c l limits = by_lock (slice_get c.locks l) refl
   where
     by_lock : (o : Option (List ℕ)) → slice_get c.locks l ≡ o → IsPlain (unwrap_or o [])
     by_lock None at = refl
     by_lock (Some name) at = plain_name name (all_at IsName c.locks l name limits.locks at)
 
-operation_plain : (c : Declarations) (op : ℕ) → IsComponent c → IsPlain (operation_name c.operations op)
+operation_plain : (c : AComponent) (op : ℕ) → IsComponent c → IsPlain (operation_name c.operations op)
 operation_plain c op limits = by_op (slice_get c.operations op) refl
   where
     by_op : (o : Option Op) → slice_get c.operations op ≡ o → IsPlain (unwrap_or (option_map (λ (x : Op). x.name) o) [])
@@ -84,11 +84,11 @@ operation_plain c op limits = by_op (slice_get c.operations op) refl
 argument_plain : (n : ℕ) → IsPlain (argument_text n)
 argument_plain n = plain_append (codes " ") (decimal n) refl (plain_decimal n)
 
-pub call_plain : (c : Declarations) (call : Call) → IsComponent c → IsPlain (call_text c.operations call)
+pub call_plain : (c : AComponent) (call : Call) → IsComponent c → IsPlain (call_text c.operations call)
 call_plain c call limits =
     plain_append (operation_name c.operations call.op) (arguments_text call.args) (operation_plain c call.op limits) (plain_each argument_text argument_plain call.args)
 
-calls_plain : (c : Declarations) (matrix : Matrix) (t k : ℕ) → IsComponent c → IsPlain (call_words c matrix t k)
+calls_plain : (c : AComponent) (matrix : Matrix) (t k : ℕ) → IsComponent c → IsPlain (call_words c matrix t k)
 calls_plain c matrix t k limits = by_call (slice_get (calls_of matrix t) k)
   where
     by_call : (o : Option Call) → IsPlain (option_map_or (λ call. call_text c.operations call) o [])
@@ -118,7 +118,7 @@ arithmetic_plain Lt = refl
 label_plain : (place : ℕ) → IsPlain (label_word place)
 label_plain place = plain_append (codes "L") (decimal place) refl (plain_decimal place)
 
-words_plain : (c : Declarations) (instr : Instr) → IsComponent c → ArePlain (instr_words c instr)
+words_plain : (c : AComponent) (instr : Instr) → IsComponent c → ArePlain (instr_words c instr)
 words_plain c (Set to v) limits = (refl, (register_plain to, (operand_plain v, tt)))
 words_plain c (Compute by to a b) limits =
     (arithmetic_plain by, (register_plain to, (operand_plain a, (operand_plain b, tt))))
@@ -143,7 +143,7 @@ label_text_plain : (code : List Instr) (place : ℕ) → IsPlain (label_text cod
 label_text_plain code place =
     plain_if (list_any (leads_to place) code) (label_word place ++ codes ": ") [] (plain_append (label_word place) (codes ": ") (label_plain place) refl) refl
 
-instr_plain : (c : Declarations) (f : Frame) (instr : Instr) → IsComponent c → IsPlain (told_by Component c f instr)
+instr_plain : (c : AComponent) (f : Frame) (instr : Instr) → IsComponent c → IsPlain (told_by Component c f instr)
 instr_plain c f instr limits =
     plain_three (label_text (code_of_operation c f.op) f.place) (join_with_byte 32 (instr_words c instr)) (codes "  # ") (label_text_plain (code_of_operation c f.op) f.place) (plain_joined (instr_words c instr) (words_plain c instr limits)) refl
 
@@ -157,12 +157,12 @@ index_plain : (indexed : Bool) (i : ℕ) → IsPlain (index_word indexed i)
 index_plain indexed i =
     plain_if indexed (codes "[" ++ decimal i ++ codes "]") [] (plain_three (codes "[") (decimal i) (codes "]") refl (plain_decimal i) refl) refl
 
-cell_plain : (how : Wording) (c : Declarations) (w i : ℕ) → IsComponent c → IsPlain (cell_word how c (record { array = w; index = i }))
+cell_plain : (how : Wording) (c : AComponent) (w i : ℕ) → IsComponent c → IsPlain (cell_word how c (record { array = w; index = i }))
 cell_plain how c w i limits =
     plain_append (array_word c w) (index_word (is_indexed how w) i) (array_plain c w limits) (index_plain (is_indexed how w) i)
 
 -- a cell, what is said of it, and a number
-cell_said : (how : Wording) (c : Declarations) (w i n : ℕ) (said : List ℕ) → IsComponent c → IsPlain said → IsPlain (cell_word how c (record { array = w; index = i }) ++ said ++ decimal n)
+cell_said : (how : Wording) (c : AComponent) (w i n : ℕ) (said : List ℕ) → IsComponent c → IsPlain said → IsPlain (cell_word how c (record { array = w; index = i }) ++ said ++ decimal n)
 cell_said how c w i n said limits p =
     plain_three (cell_word how c (record { array = w; index = i })) said (decimal n) (cell_plain how c w i limits) p (plain_decimal n)
 
@@ -174,16 +174,16 @@ look_plain : (s : State) (f : Frame) (w : ℕ) (i : Operand) → IsComponent s.c
 look_plain s f w i limits =
     or_trap_plain (cell_is Component s.component (named_cell f w i)) (λ n. cell_said Component s.component w (value_of f i) n (codes " is ") limits refl) (seen s f w i)
 
-swap_plain : (c : Declarations) (f : Frame) (to w : ℕ) (i expected desired : Operand) (n : ℕ) → IsComponent c → IsPlain (swapped Component c f (swap_of f to w i expected desired) n)
+swap_plain : (c : AComponent) (f : Frame) (to w : ℕ) (i expected desired : Operand) (n : ℕ) → IsComponent c → IsPlain (swapped Component c f (swap_of f to w i expected desired) n)
 swap_plain c f to w i expected desired n limits =
     let swap = swap_of f to w i expected desired in
     let becomes = cell_becomes Component c swap.cell swap.desired in
     let is = cell_is Component c swap.cell n in
-    plain_if (n == swap.expected) (becomes ++ register_behind Component f to 1) (is ++ register_behind Component f to 0) (two becomes 1 (cell_said Component c w (value_of f i) swap.desired (codes " = ") limits refl)) (two is 0 (cell_said Component c w (value_of f i) n (codes " is ") limits refl))
+    plain_if (n == swap.expected) (becomes ++ register_after Component f to 1) (is ++ register_after Component f to 0) (two becomes 1 (cell_said Component c w (value_of f i) swap.desired (codes " = ") limits refl)) (two is 0 (cell_said Component c w (value_of f i) n (codes " is ") limits refl))
   where
-    two : (a : List ℕ) (n : ℕ) → IsPlain a → IsPlain (a ++ register_behind Component f to n)
+    two : (a : List ℕ) (n : ℕ) → IsPlain a → IsPlain (a ++ register_after Component f to n)
     two a n p =
-        plain_append a (register_behind Component f to n) p (plain_append (codes ", ") (register_becomes Component f to n) refl (becomes_plain f to n))
+        plain_append a (register_after Component f to n) p (plain_append (codes ", ") (register_becomes Component f to n) refl (becomes_plain f to n))
 
 goes_on_plain : (f : Frame) (place : ℕ) → IsPlain (goes_on_at Component f place)
 goes_on_plain f place =
@@ -283,7 +283,7 @@ waits_plain how s t limits = by_thread (slice_get s.threads t)
 
 -- ---- the heading and the replay
 
-heading_plain : (c : Declarations) (n : ℕ) (status : Status) → IsComponent c → IsPlain (heading c n status)
+heading_plain : (c : AComponent) (n : ℕ) (status : Status) → IsComponent c → IsPlain (heading c n status)
 heading_plain c n status limits =
     plain_five c.name (codes ", ") (decimal n) (codes " moves, ") (status_words status) (plain_name c.name limits.name) refl (plain_decimal n) refl (stands status)
   where
@@ -318,28 +318,28 @@ ended_plain (Ret n) = plain_append (codes "ret ") (decimal n) refl (plain_decima
 ended_plain Trap = refl
 ended_plain Stuck = refl
 
-named_plain : (c : Declarations) (matrix : Matrix) (t k : ℕ) → IsComponent c → IsPlain (operation_words c matrix t k)
+named_plain : (c : AComponent) (matrix : Matrix) (t k : ℕ) → IsComponent c → IsPlain (operation_words c matrix t k)
 named_plain c matrix t k limits =
-    plain_three (codes "T") (decimal t) (option_map_or (call_behind c) (slice_get (calls_of matrix t) k) []) refl (plain_decimal t) (by_call (slice_get (calls_of matrix t) k))
+    plain_three (codes "T") (decimal t) (option_map_or (call_after c) (slice_get (calls_of matrix t) k) []) refl (plain_decimal t) (by_call (slice_get (calls_of matrix t) k))
   where
-    by_call : (o : Option Call) → IsPlain (option_map_or (call_behind c) o [])
+    by_call : (o : Option Call) → IsPlain (option_map_or (call_after c) o [])
     by_call None = refl
     by_call (Some call) =
         plain_append (codes " ") (call_text c.operations call) refl (call_plain c call limits)
 
-nothing_plain : (c : Declarations) (matrix : Matrix) (stuck : Option (ℕ × ℕ)) → IsComponent c → IsPlain (nothing_words c matrix stuck)
+nothing_plain : (c : AComponent) (matrix : Matrix) (stuck : Option (ℕ × ℕ)) → IsComponent c → IsPlain (nothing_words c matrix stuck)
 nothing_plain c matrix None limits = refl
 nothing_plain c matrix (Some (t, k)) limits =
     plain_three (codes ", but ") (operation_words c matrix t k) (codes " is stuck") refl (named_plain c matrix t k limits) refl
 
-reason_plain : (c : Declarations) (matrix : Matrix) (order : List SerialOp) (reason : Reason) → IsComponent c → IsPlain (why_not c matrix order reason)
+reason_plain : (c : AComponent) (matrix : Matrix) (order : List SerialOp) (reason : Reason) → IsComponent c → IsPlain (why_not c matrix order reason)
 reason_plain c matrix order (After a) limits =
     plain_three (codes ", but ") (operation_words c matrix a.t a.k) (codes " precedes it") refl (named_plain c matrix a.t a.k limits) refl
 reason_plain c matrix order (Outcome o) limits =
     plain_append (codes ", but serially ") (ended_words o) refl (ended_plain o)
 reason_plain c matrix order Nothing limits = nothing_plain c matrix (stuck_last order) limits
 
-why_plain : (c : Declarations) (matrix : Matrix) (why : Option Explained) (t k : ℕ) (end : Option End) → IsComponent c → IsPlain (why_words c matrix why t k end)
+why_plain : (c : AComponent) (matrix : Matrix) (why : Option Explanation) (t k : ℕ) (end : Option End) → IsComponent c → IsPlain (why_words c matrix why t k end)
 why_plain c matrix None t k end limits = refl
 why_plain c matrix (Some e) t k end limits =
     plain_if (k == length (entries t e.order)) (option_map_or said (reason_of e t) []) [] (by_reason (reason_of e t)) refl

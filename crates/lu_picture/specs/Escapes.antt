@@ -8,7 +8,7 @@ use Rattle.lu_machine.specs.declared.event.Outcome.{Outcome}
 use Rattle.lu_machine.specs.declared.event.Status.{Status}
 use Rattle.lu_machine.specs.States.{State}
 use Rattle.lu_history.specs.Text.{outcome_text}
-use Rattle.lu_explain.specs.Explanations.{Explained}
+use Rattle.lu_explain.specs.Explanations.{Explanation}
 use Rattle.lu_replay.specs.Text.{replay_text}
 use Rattle.lu_trace.specs.declared.wording.Wording.{Wording}
 use Rattle.lu_trace.specs.declared.wording.Wording.TheVariants.{Component}
@@ -33,7 +33,7 @@ pub record SaysPlain (s : State) : Type 0 where
   pub outcomes : (outcome : Outcome) → IsPlain (outcome_text outcome)
   pub steps : (m : Move) → IsPlain (step_words Component s m)
   pub waits : (how : Wording) (t : ℕ) → IsPlain (wait_words how s t)
-  pub why : (why : Option Explained) (t k : ℕ) (end : Option End)
+  pub why : (why : Option Explanation) (t k : ℕ) (end : Option End)
       → IsPlain (why_words s.component s.matrix why t k end)
 
 -- names are made of letters, digits and `_`, and all else is made of keywords and numbers

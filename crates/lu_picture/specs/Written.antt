@@ -4,66 +4,66 @@ use Rattle.std.specs.Prelude.{ℕ, List, length, Option, Result, IfOk, String, s
 use Rattle.std.specs.Option.{option_copied}
 use denote.Ref.{Bor}
 use Rattle.lu_text.specs.Writing.{Writes}
-use Rattle.lu_component.specs.Component.{Declarations}
+use Rattle.lu_component.specs.Component.{Component}
 use Rattle.lu_test.specs.declared.schedule.Move.{Move}
 use Rattle.lu_test.specs.Matrix.{Matrix}
 use Rattle.lu_machine.specs.declared.event.Status.{Status}
 use Rattle.lu_machine.specs.States.{State}
 use Rattle.lu_history.specs.declared.serial.SerialOutcome.{SerialOutcome}
-use Rattle.lu_explain.specs.Explanations.{Explained}
+use Rattle.lu_explain.specs.Explanations.{Explanation}
 use Rattle.lu_explain.specs.Results.{HasText}
 use Rattle.lu_trace.specs.declared.wording.Wording.{Wording}
 use Rattle.lu_picture.specs.declared.bars.Bar.{Bar}
 use Rattle.lu_picture.specs.declared.mark.End.{End}
 use Rattle.lu_picture.specs.declared.mark.Mark.{Mark}
-use Rattle.lu_picture.specs.Pictures.{Drawn, IsWordedPicture, body, picture}
+use Rattle.lu_picture.specs.Pictures.{Drawing, IsWordedPicture, body, picture}
 use Rattle.lu_picture.specs.Reasons.{reason_said, why_words}
 use Rattle.lu_picture.specs.Shapes.{bar, bar_by, bars}
 
 -- how call k of thread t ended and why it can't come next, by an explanation
-abbrev pub WritesReason : {T E Z : Type 0} → Result T E → String Z → String Z → State → Explained
+abbrev pub WritesReason : {T E Z : Type 0} → Result T E → String Z → String Z → State → Explanation
     → ℕ → ℕ → SerialOutcome → Type 0
 WritesReason result old new s e t k o =
     Writes result old new (reason_said s.component s.matrix e t k o)
 
 -- the same where there may be no explanation
 abbrev pub WritesWhy : {T E Z : Type 0} → Result T E → String Z → String Z → State
-    → Option (Bor Explained) → ℕ → ℕ → Option End → Type 0
+    → Option (Bor Explanation) → ℕ → ℕ → Option End → Type 0
 WritesWhy result old new s why t k end =
     Writes result old new (why_words s.component s.matrix (option_copied why) t k end)
 
 -- a bar, and what stands in it, above it and below
-abbrev pub WritesBar : {T E Z : Type 0} → Result T E → String Z → String Z → State → Drawn
-    → Option (Bor Explained) → Bar → Type 0
+abbrev pub WritesBar : {T E Z : Type 0} → Result T E → String Z → String Z → State → Drawing
+    → Option (Bor Explanation) → Bar → Type 0
 WritesBar result old new s d why b =
     Writes result old new (bar s d.edge d.marks (option_copied why) b)
 
 -- the bar that begins at a mark, if that is a call
-abbrev pub WritesBarAt : {T E Z : Type 0} → Result T E → String Z → String Z → State → Drawn
-    → Option (Bor Explained) → Mark → Type 0
+abbrev pub WritesBarAt : {T E Z : Type 0} → Result T E → String Z → String Z → State → Drawing
+    → Option (Bor Explanation) → Mark → Type 0
 WritesBarAt result old new s d why mark =
     Writes result old new (bar_by s d.edge d.marks (option_copied why) mark.left mark.event)
 
 -- the bars of all calls
-abbrev pub WritesBars : {T E Z : Type 0} → Result T E → String Z → String Z → State → Drawn
-    → Option (Bor Explained) → Type 0
+abbrev pub WritesBars : {T E Z : Type 0} → Result T E → String Z → String Z → State → Drawing
+    → Option (Bor Explanation) → Type 0
 WritesBars result old new s d why =
     Writes result old new (bars s d.edge d.marks (option_copied why) (length d.marks))
 
 -- all that stands below the head, of a run of n moves
 abbrev pub WritesBody : {T E Z : Type 0} → Result T E → String Z → String Z → Wording → ℕ → State
-    → Drawn → Option (Bor Explained) → Type 0
+    → Drawing → Option (Bor Explanation) → Type 0
 WritesBody result old new how n end d why =
     Writes result old new (body how n end d (option_copied why))
 
 -- the picture of a run of n moves, from what is drawn of them
 abbrev pub WritesWhole : {E Z : Type 0} → Result (String Z) E → Wording → ℕ → State → Status
-    → Drawn → Option (Bor Explained) → Type 0
+    → Drawing → Option (Bor Explanation) → Type 0
 WritesWhole result how n end status d why =
     HasText result (picture how n end status d (option_copied why))
 
 -- the picture of a schedule in these words
-abbrev pub Shows : {E Z : Type 0} → Result (String Z) E → Wording → Declarations → Matrix
-    → List Move → Option (Bor Explained) → Type 0
+abbrev pub Shows : {E Z : Type 0} → Result (String Z) E → Wording → Component → Matrix
+    → List Move → Option (Bor Explanation) → Type 0
 Shows result how c matrix u why =
     IfOk result (λ text. IsWordedPicture how c matrix u (option_copied why) (string_bytes text))

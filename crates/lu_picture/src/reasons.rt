@@ -65,7 +65,7 @@ fn outcome_of(end: Option<End>) -> SerialOutcome
 }
 
 /// Adds how call `k` of thread `t` ended and why it can't come next, where it is its thread's next
-/// behind the order.
+/// after the order.
 fn write_reason_of(
     text: &mut String,
     machine: &Machine<'_>,

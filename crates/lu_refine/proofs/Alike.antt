@@ -5,7 +5,7 @@ use Rattle.std.proofs.lemmas.Result.{IfErr-weaker, IfOk-weaker}
 use Rattle.std.proofs.Math.Nat.{pow-succ', pow-zero, suc-mul, zero-mul}
 use Rattle.std.proofs.lemmas.List.{get_or-replicate, length-replicate, replicate-append-replicate}
 use Rattle.std.proofs.lemmas.List.Elements.{All-cons, All-nil, All-replicate}
-use Rattle.lu_component.specs.Component.{Declarations}
+use Rattle.lu_component.specs.Component.{Component}
 use Rattle.lu_test.specs.declared.matrix.Call.{Call}
 use Rattle.lu_test.specs.Matrix.{Matrix, matrix_with}
 use Rattle.lu_report.specs.declared.report.Report.{Report}
@@ -118,7 +118,7 @@ alike_found asked (First matrix r) some is = record {
   before = λ other chosen earlier. passes_alike asked other some (is.before other (of_choice asked other some chosen) earlier);
 }
 
-pub alike_chosen : (c : Declarations) (setup candidates : List Call) (threads calls bound serial : ℕ) (result : Result Campaign CampaignFault) → AreEnough (length candidates) → IsGrid threads calls → IfOk result (IsThreadsAnswer (asked_for c setup (replicate threads candidates) calls bound serial)) → Runs c setup candidates threads calls bound serial result
+pub alike_chosen : (c : Component) (setup candidates : List Call) (threads calls bound serial : ℕ) (result : Result Campaign CampaignFault) → AreEnough (length candidates) → IsGrid threads calls → IfOk result (IsThreadsAnswer (asked_for c setup (replicate threads candidates) calls bound serial)) → Runs c setup candidates threads calls bound serial result
 alike_chosen c setup candidates threads calls bound serial result enough grid is =
     let asked = campaigned c setup candidates threads calls bound serial in
     IfOk-weaker result (IsThreadsAnswer (by_thread asked)) (IsCampaignAnswer asked) (λ found answer. (enough, grid, alike_found asked found enough.0 answer.1)) is

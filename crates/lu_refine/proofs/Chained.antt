@@ -7,7 +7,7 @@ use Rattle.std.proofs.lemmas.Option.{slice_get-get_or}
 use Rattle.std.proofs.lemmas.List.Edits.{length-remove}
 use Rattle.std.proofs.lemmas.List.Elements.{All-set, All-append, All-take, All-drop}
 use Rattle.std.proofs.lemmas.List.Sums.{sum_by-set}
-use Rattle.lu_component.specs.Component.{Declarations}
+use Rattle.lu_component.specs.Component.{Component}
 use Rattle.lu_test.specs.declared.matrix.Call.{Call}
 use Rattle.lu_test.specs.Matrix.{Matrix, IsCallOf, IsOf, calls_of, total_calls, without}
 use Rattle.lu_test.proofs.FewerCalls.{is_thread}
@@ -27,7 +27,7 @@ pub shrinks_here : (Fails : Matrix → Type 0) (matrix : Matrix) → Fails matri
 shrinks_here Fails matrix fails minimal = ([], (refl, fails, minimal))
 
 -- the calls are still calls of the component
-pub of_without : (c : Declarations) (matrix : Matrix) (t k : ℕ) → HasCallNumber matrix t k → IsOf matrix c → IsOf (without matrix t k) c
+pub of_without : (c : Component) (matrix : Matrix) (t k : ℕ) → HasCallNumber matrix t k → IsOf matrix c → IsOf (without matrix t k) c
 of_without c matrix t k there of =
     let within = is_thread matrix t k there in
     let old : calls_of matrix t ≡ get_or matrix.threads t [] = ap (λ (o : Option (List Call)). unwrap_or o []) (slice_get-get_or matrix.threads t [] within) in
@@ -40,7 +40,7 @@ of_without c matrix t k there of =
     )
 
 -- and it can run still
-pub runs_without : (c : Declarations) (matrix : Matrix) (t k : ℕ) → HasCallNumber matrix t k → CanRun c matrix → CanRun c (without matrix t k)
+pub runs_without : (c : Component) (matrix : Matrix) (t k : ℕ) → HasCallNumber matrix t k → CanRun c matrix → CanRun c (without matrix t k)
 runs_without c matrix t k there runs = can_run_too c matrix (without matrix t k) runs (of_without c matrix t k there runs.of) refl
 
 -- there is one call fewer
@@ -51,7 +51,7 @@ fewer matrix t k there =
     omega (arith, sum_by-set length matrix.threads t (remove (calls_of matrix t) k) [] within, length-remove (calls_of matrix t) k there, ap length old)
 
 -- a matrix whose report is no failure does not fail
-pub not_failing : (c : Declarations) (matrix : Matrix) (bound serial : ℕ) (r : Report) → Settles c matrix → IsReport c matrix bound serial r → (IsFailure r.finding → ⊥) → IsFailing c bound serial matrix → ⊥
+pub not_failing : (c : Component) (matrix : Matrix) (bound serial : ℕ) (r : Report) → Settles c matrix → IsReport c matrix bound serial r → (IsFailure r.finding → ⊥) → IsFailing c bound serial matrix → ⊥
 not_failing c matrix bound serial r settles report passes failing =
     let same : failing.0 ≡ r = one_report c matrix bound serial failing.0 r settles failing.1 report in
     passes (subst (λ (x : Report). IsFailure x.finding) same failing.2)
@@ -114,7 +114,7 @@ none_of_thread matrix u l Fails all none t k below there failing = elim (cases_l
       none t k (inr (same, omega (arith, there, all, ap (λ (i : ℕ). length (calls_of matrix i)) same))) there failing
 ]
 
-pub removal_of : (c : Declarations) (Fails : Matrix → Type 0) (matrix next : Matrix) → IsLeastRemoval Fails matrix next → CanRun c matrix → CanRun c next
+pub removal_of : (c : Component) (Fails : Matrix → Type 0) (matrix next : Matrix) → IsLeastRemoval Fails matrix next → CanRun c matrix → CanRun c next
 removal_of c Fails matrix next removal runs =
     subst (CanRun c) (sym removal.removed) (runs_without c matrix removal.thread removal.call removal.there runs)
 

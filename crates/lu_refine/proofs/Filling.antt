@@ -5,7 +5,7 @@ use Rattle.std.proofs.Math.Seq.{drop-cons}
 use Rattle.std.proofs.lemmas.List.{drop_all, length-map, length-replicate, length-take-le}
 use Rattle.std.proofs.lemmas.List.Elements.{All-append, All-cons, All-nil, All-replicate}
 use Rattle.std.proofs.lemmas.List.Sums.{sum_by-cons}
-use Rattle.lu_component.specs.Component.{Declarations}
+use Rattle.lu_component.specs.Component.{Component}
 use Rattle.lu_test.specs.declared.matrix.Call.{Call}
 use Rattle.lu_test.specs.Matrix.{AreArguments, AreThreads, IsCallOf, IsOf, Matrix}
 use Rattle.lu_machine.specs.Starts.{AllEnd, CanRun}
@@ -38,7 +38,7 @@ pub threads_from : (candidates : List (List Call)) (i : ℕ) (thread : List Call
 threads_from candidates i thread h is =
     rw (add-one i) (drop-cons candidates i thread h ∙ ap (λ (t : List Call). t ∷ drop (suc i) candidates) (sym is))
 
--- the bases so far, with those of the threads behind, are all
+-- the bases so far, with those of the threads after, are all
 abbrev pub AreFound : ℕ → List (List Call) → ℕ → List ℕ → Type 0
 AreFound calls candidates i found = found ++ bases calls (drop i candidates) ≡ bases calls candidates
 
@@ -58,7 +58,7 @@ found_all calls candidates i found h so_far =
 
 -- ---- the rows
 
--- a thread's numbers, and those of the threads behind it
+-- a thread's numbers, and those of the threads after it
 pub parts : (n base : ℕ) (behind choice : List ℕ) → IsChoiceIn (replicate n base ++ behind) choice → (n ≤ length choice) × AreBelow base (take n choice) × IsChoiceIn behind (drop n choice)
 parts zero base behind choice chosen = (omega arith, All-nil (λ m. m < base), chosen)
 parts (suc n) base behind [] chosen = absurd chosen
@@ -122,11 +122,11 @@ rows_limits calls candidates choice limits arguments chosen = record {
   arguments = rows_all (λ call. AreArguments call.args) calls candidates arguments choice chosen;
 }
 
-pub rows_of : (c : Declarations) (setup : List Call) (calls : ℕ) (candidates : List (List Call)) (choice : List ℕ) → All (IsCallOf c) setup → AllCallsOf c candidates → IsChoiceIn (bases calls candidates) choice → IsOf (rows_matrix setup calls candidates choice) c
+pub rows_of : (c : Component) (setup : List Call) (calls : ℕ) (candidates : List (List Call)) (choice : List ℕ) → All (IsCallOf c) setup → AllCallsOf c candidates → IsChoiceIn (bases calls candidates) choice → IsOf (rows_matrix setup calls candidates choice) c
 rows_of c setup calls candidates choice before of chosen = (before, rows_all (λ call. IsCallOf c call) calls candidates of choice chosen)
 
 -- and it can run where the setup does
-pub rows_run : (c : Declarations) (setup : List Call) (calls : ℕ) (candidates : List (List Call)) (choice : List ℕ) → All (IsCallOf c) setup → AllEnd c setup → AllCallsOf c candidates → IsChoiceIn (bases calls candidates) choice → CanRun c (rows_matrix setup calls candidates choice)
+pub rows_run : (c : Component) (setup : List Call) (calls : ℕ) (candidates : List (List Call)) (choice : List ℕ) → All (IsCallOf c) setup → AllEnd c setup → AllCallsOf c candidates → IsChoiceIn (bases calls candidates) choice → CanRun c (rows_matrix setup calls candidates choice)
 rows_run c setup calls candidates choice before ends of chosen = record { of = rows_of c setup calls candidates choice before of chosen; settles = ends }
 
 -- the same of a setup and rows that are these

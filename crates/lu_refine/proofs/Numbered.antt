@@ -158,7 +158,7 @@ choice_there (base ∷ bases) n h =
 -- ---- the choice at a place, position by position
 
 -- So many numbers are chosen, and what is left of the place is that of the others among the
--- positions behind: with any choice for these at that place they are the choice at the whole place.
+-- positions after: with any choice for these at that place they are the choice at the whole place.
 pub record IsPart (bases : List ℕ) (i round rest place : ℕ) (choice : List ℕ) : Type 0 where
   pub size : round ≡ choice_count (drop i bases)
   pub small : rest < round

@@ -1,6 +1,6 @@
 -- What campaigns answer in which each thread has candidates of its own, and slices of them.
 use Rattle.std.specs.Prelude.{◌≡◌, ℕ, ◌-◌, ◌<◌, ◌≤◌, min, List}
-use Rattle.lu_component.specs.Component.{Declarations}
+use Rattle.lu_component.specs.Component.{Component}
 use Rattle.lu_test.specs.declared.matrix.Call.{Call}
 use Rattle.lu_test.specs.Matrix.{IsSetup, Matrix}
 use Rattle.lu_machine.specs.Starts.{AllEnd}
@@ -19,14 +19,14 @@ use Rattle.lu_refine.specs.Roles.{AllCallsOf, AllHaveArguments, AreRoles, AreRow
 
 -- what a campaign by thread is asked for: a list of candidates for each thread
 pub record Asked : Type 0 where
-  pub component : Declarations
+  pub component : Component
   pub setup : List Call
   pub candidates : List (List Call)
   pub calls : ℕ
   pub bound : ℕ
   pub serial : ℕ
 
-abbrev pub asked_for : Declarations → List Call → List (List Call) → ℕ → ℕ → ℕ → Asked
+abbrev pub asked_for : Component → List Call → List (List Call) → ℕ → ℕ → ℕ → Asked
 asked_for c setup candidates calls bound serial = record {
   component = c;
   setup = setup;

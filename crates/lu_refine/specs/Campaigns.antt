@@ -1,6 +1,6 @@
 -- What campaigns answer.
 use Rattle.std.specs.Prelude.{◌≡◌, ℕ, ◌*◌, ◌^◌, ◌≤◌, List, length, All, Result, IfOk}
-use Rattle.lu_component.specs.Component.{Declarations}
+use Rattle.lu_component.specs.Component.{Component}
 use Rattle.lu_test.specs.declared.matrix.Call.{Call}
 use Rattle.lu_test.specs.Matrix.{Matrix, AreArguments, IsCallOf, IsOf}
 use Rattle.lu_report.specs.declared.report.Report.{Report}
@@ -14,7 +14,7 @@ use Rattle.lu_refine.specs.Choices.{AreEnough, IsChoice, IsBefore, filled_matrix
 
 -- what a campaign is asked for
 pub record Campaigned : Type 0 where
-  pub component : Declarations
+  pub component : Component
   pub setup : List Call
   pub candidates : List Call
   pub threads : ℕ
@@ -22,7 +22,7 @@ pub record Campaigned : Type 0 where
   pub bound : ℕ
   pub serial : ℕ
 
-abbrev pub campaigned : Declarations → List Call → List Call → ℕ → ℕ → ℕ → ℕ → Campaigned
+abbrev pub campaigned : Component → List Call → List Call → ℕ → ℕ → ℕ → ℕ → Campaigned
 campaigned c setup candidates threads calls bound serial = record {
   component = c;
   setup = setup;
@@ -34,7 +34,7 @@ campaigned c setup candidates threads calls bound serial = record {
 }
 
 -- calls of the component
-abbrev pub AreCallsOf : Declarations → List Call → Type 0
+abbrev pub AreCallsOf : Component → List Call → Type 0
 AreCallsOf c candidates = All (IsCallOf c) candidates
 
 -- at most 4 arguments of each, which are numbers of 32 bits
@@ -91,7 +91,7 @@ IsCampaignAnswer asked found =
     AreEnough (length asked.candidates) × IsGrid asked.threads asked.calls × IsCampaign asked found
 
 -- what a campaign answers that runs with this, but for faults
-abbrev pub Runs : Declarations → List Call → List Call → ℕ → ℕ → ℕ → ℕ
+abbrev pub Runs : Component → List Call → List Call → ℕ → ℕ → ℕ → ℕ
     → Result Campaign CampaignFault → Type 0
 Runs c setup candidates threads calls bound serial result =
     IfOk result (IsCampaignAnswer (campaigned c setup candidates threads calls bound serial))
@@ -103,6 +103,6 @@ IsLimitFault candidates threads calls Limit = AreEnough candidates × (IsGrid th
 IsLimitFault candidates threads calls Memory = Unit {0}
 
 -- the matrix that is found is one of the component
-abbrev pub IsFoundOf : Declarations → Campaign → Type 0
+abbrev pub IsFoundOf : Component → Campaign → Type 0
 IsFoundOf c (AllPass count) = Unit {0}
 IsFoundOf c (First matrix r) = IsOf matrix c

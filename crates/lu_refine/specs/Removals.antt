@@ -1,6 +1,6 @@
 -- Chains of removals: from a matrix that fails to one from which no call can be taken away.
 use Rattle.std.specs.Prelude.{◌≡◌, ℕ, ◌<◌, ◌⊎◌, List, [], ◌∷◌, length, Option, Some, None}
-use Rattle.lu_component.specs.Component.{Declarations}
+use Rattle.lu_component.specs.Component.{Component}
 use Rattle.lu_test.specs.Matrix.{Matrix, calls_of, without}
 use Rattle.lu_report.specs.declared.report.Report.{Report}
 pub use Rattle.lu_report.specs.Parts.{IsFailure}
@@ -9,7 +9,7 @@ use Rattle.lu_refine.specs.declared.shrink_fault.ShrinkFault.{ShrinkFault}
 use Rattle.lu_refine.specs.declared.shrink_fault.ShrinkFault.TheVariants.{NotFailing, Memory}
 
 -- the report of the matrix is a failure or nondeterministic
-abbrev pub IsFailing : Declarations → ℕ → ℕ → Matrix → Type 0
+abbrev pub IsFailing : Component → ℕ → ℕ → Matrix → Type 0
 IsFailing c bound serial matrix =
     (r : Report) × IsReport c matrix bound serial r × IsFailure r.finding
 
@@ -48,19 +48,19 @@ abbrev pub ShrinksTo : (Matrix → Type 0) → Matrix → Matrix → Type 0
 ShrinksTo Fails matrix last = (rest : List Matrix) × IsChain Fails matrix rest last
 
 -- the last matrix of the chain, with its report
-abbrev pub IsShrunk : Declarations → Matrix → ℕ → ℕ → Matrix × Report → Type 0
+abbrev pub IsShrunk : Component → Matrix → ℕ → ℕ → Matrix × Report → Type 0
 IsShrunk c matrix bound serial shrunk =
     ShrinksTo (IsFailing c bound serial) matrix shrunk.0 × IsReport c shrunk.0 bound serial shrunk.1
 
 -- the least removal, with its report; or nothing, where the matrix is minimal
-abbrev pub IsRound : Declarations → Matrix → ℕ → ℕ → Option (Matrix × Report) → Type 0
+abbrev pub IsRound : Component → Matrix → ℕ → ℕ → Option (Matrix × Report) → Type 0
 IsRound c matrix bound serial None = IsMinimal (IsFailing c bound serial) matrix
 IsRound c matrix bound serial (Some smaller) =
     IsLeastRemoval (IsFailing c bound serial) matrix smaller.0
     × IsReport c smaller.0 bound serial smaller.1
 
 -- the matrix does not fail, and this is its report; or memory was refused
-abbrev pub IsShrinkFault : Declarations → Matrix → ℕ → ℕ → ShrinkFault → Type 0
+abbrev pub IsShrinkFault : Component → Matrix → ℕ → ℕ → ShrinkFault → Type 0
 IsShrinkFault c matrix bound serial (NotFailing r) =
     IsReport c matrix bound serial r × (IsFailure r.finding → ⊥)
 IsShrinkFault c matrix bound serial Memory = Unit {0}
@@ -68,6 +68,6 @@ IsShrinkFault c matrix bound serial Memory = Unit {0}
 -- A chain of removals has one end.
 abbrev pub OneShrunk : Type 0
 OneShrunk =
-    (c : Declarations) (matrix a b : Matrix) (bound serial : ℕ) →
+    (c : Component) (matrix a b : Matrix) (bound serial : ℕ) →
     ShrinksTo (IsFailing c bound serial) matrix a → ShrinksTo (IsFailing c bound serial) matrix b
     → a ≡ b

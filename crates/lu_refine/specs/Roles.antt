@@ -1,6 +1,6 @@
 -- Threads that have candidates of their own.
 use Rattle.std.specs.Prelude.{ℕ, ◌≤◌, List, [], ◌∷◌, ◌++◌, length, map, take, drop, replicate, All, Any}
-use Rattle.lu_component.specs.Component.{Declarations}
+use Rattle.lu_component.specs.Component.{Component}
 use Rattle.lu_test.specs.declared.matrix.Call.{Call}
 use Rattle.lu_test.specs.Matrix.{Matrix}
 use Rattle.lu_refine.specs.Campaigns.{AreCallsOf, HaveArguments}
@@ -49,7 +49,7 @@ abbrev pub AreWithinLimits : ℕ → List (List Call) → Type 0
 AreWithinLimits calls candidates = AreRoles candidates × AreRowLimits calls candidates
 
 -- each thread's candidates are calls of the component
-abbrev pub AllCallsOf : Declarations → List (List Call) → Type 0
+abbrev pub AllCallsOf : Component → List (List Call) → Type 0
 AllCallsOf c candidates = All (AreCallsOf c) candidates
 
 -- at most 4 arguments of each, which are numbers of 32 bits

@@ -1,6 +1,6 @@
 -- What is answered to a confirmed failure, or to confirmed nondeterminism.
 use Rattle.std.proofs.Common.{◌≡◌, ℕ, List, Option, Some, None, refl, sym, ap, subst, ◌∙◌, inl, inr}
-use Rattle.lu_component.specs.Component.{Declarations}
+use Rattle.lu_component.specs.Component.{Component}
 use Rattle.lu_test.specs.declared.schedule.Move.{Move}
 use Rattle.lu_test.specs.Matrix.{Matrix}
 use Rattle.lu_machine.specs.States.{State}
@@ -18,7 +18,7 @@ use Rattle.lu_refute.specs.Walks.{IsScheduleOfFailure, IsOfFailure}
 use Rattle.lu_refute.proofs.Outside.{conflict_outside, fail_outside}
 
 -- where the failing schedule is good for a specification, or there is none, something is outside it
-pub some_outside : (c : Declarations) (matrix : Matrix) (s : State) → IsStart c matrix s → (members : List (List SerialOp)) → IsSpec members → AreOf matrix members → (bound serial : ℕ) (f : Finding) → IsFailure f → IsShown s bound serial f
+pub some_outside : (c : Component) (matrix : Matrix) (s : State) → IsStart c matrix s → (members : List (List SerialOp)) → IsSpec members → AreOf matrix members → (bound serial : ℕ) (f : Finding) → IsFailure f → IsShown s bound serial f
     → ((u : List Move) → IsOfFailure s members f u → ⊥) → IsFirstOutside s serial members None → ⊥
 some_outside c matrix s is members spec of bound serial (SerialCut u) failure shown not_own none = failure
 some_outside c matrix s is members spec of bound serial (Nondeterministic u before earlier) failure shown not_own none =

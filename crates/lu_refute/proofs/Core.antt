@@ -80,7 +80,7 @@ same_entry a b e f =
 pub entries_other : (t : ℕ) (op : SerialOp) (q : List SerialOp) → (t ≡ op.thread → ⊥) → entries t (op ∷ q) ≡ entries t q
 entries_other t op q apart = ap (λ b. if b then op.outcome ∷ entries t q else entries t q) (ne_eqb op.thread t (λ e. apart (sym e)))
 
--- how many entries are left behind the first
+-- how many entries are left after the first
 counted_rest : (s : State) (op : SerialOp) (q : List SerialOp) (r : Ran s op.thread) (t : ℕ) → done_of r.end t + length (entries t q) ≡ done_of s t + length (entries t (op ∷ q))
 counted_rest s op q r t =
     elim (same_or_not t op.thread) as (λ _. done_of r.end t + length (entries t q) ≡ done_of s t + length (entries t (op ∷ q))) [

@@ -149,7 +149,7 @@ module _ (matrix : Matrix) where
 
 -- ---- the calls made
 
--- a step is one of an operation whose call is made behind it
+-- a step is one of an operation whose call is made after it
 step_made : (s : State) (m : Move) (new : State) (e : Option Event) → (by : Stepped s m new e) → made_of new m.thread ≡ by.before.done + 1
 step_made s m new e by =
     let at = made_at new m.thread by.after by.is in

@@ -1,7 +1,7 @@
 -- A failure against every deterministic set of serial histories.
 use Rattle.std.proofs.Common.{◌≡◌, Bool, true, false, ℕ, List, refl, inl, inr, subst, arith}
 use Rattle.std.specs.Prelude.{IsTrue, Option, Some, None, IsSomeAnd}
-use Rattle.lu_component.specs.Component.{Declarations}
+use Rattle.lu_component.specs.Component.{Component}
 use Rattle.lu_test.specs.Matrix.{Matrix, cut}
 use Rattle.lu_machine.specs.States.{State}
 use Rattle.lu_machine.specs.Starts.{IsStart}
@@ -23,7 +23,7 @@ use Rattle.lu_refute.proofs.Fails.{AreFit, refutes_back}
 use Rattle.lu_refute.proofs.Outside.{outside_whole, refuted, true_or_false, whole_cut}
 use Rattle.lu_refute.proofs.Own.{lengths_at_start, refutes_at_cut}
 
-module _ (c : Declarations) (matrix : Matrix) (s : State) (start : IsStart c matrix s) (spec : List SerialOp → Bool) (linear : IsLinearizable c matrix (λ q. IsTrue (spec q))) where
+module _ (c : Component) (matrix : Matrix) (s : State) (start : IsStart c matrix s) (spec : List SerialOp → Bool) (linear : IsLinearizable c matrix (λ q. IsTrue (spec q))) where
   abbrev ground : Ground
   ground = ground_of c s
 

@@ -1,7 +1,7 @@
 -- Whether a schedule that is run anew is ended, and not good for a set.
 use Rattle.std.proofs.Common.{◌≡◌, ◌≢◌, ℕ, List, [], ◌∷◌, ◌++◌, append_assoc, refl, sym, ap, subst, ◌∙◌, inl, inr}
 use Rattle.std.proofs.lemmas.List.{append-nil}
-use Rattle.lu_component.specs.Component.{Declarations}
+use Rattle.lu_component.specs.Component.{Component}
 use Rattle.lu_test.specs.declared.schedule.Move.{Move}
 use Rattle.lu_test.specs.Matrix.{Matrix}
 use Rattle.lu_machine.specs.declared.event.Event.{Event}
@@ -42,7 +42,7 @@ status_of : (end : State) → IsEnded end → (status : Status) × HasStatus end
 status_of end (inl complete) = (Complete, complete)
 status_of end (inr stuck) = (Stuck, stuck)
 
-module _ (c : Declarations) (matrix : Matrix) (s : State) (is : IsStart c matrix s) (M : List SerialOp → Type 0) (u : List Move) where
+module _ (c : Component) (matrix : Matrix) (s : State) (is : IsStart c matrix s) (M : List SerialOp → Type 0) (u : List Move) where
   -- an infeasible schedule refutes nothing
   pub infeasible_refutes : (i : ℕ) → IsInfeasibleAt c matrix u i → Refutes M s u → ⊥
   infeasible_refutes i at r =

@@ -186,7 +186,7 @@ run_calls s (m ∷ u) end h p t =
 
 -- ---- what was called
 
--- a return stands behind an event too
+-- a return stands after an event too
 later : (e : Option Event) (rest : List Event) (a : OpId) → (j : ℕ) × IsReturnAt rest j a → (i : ℕ) × IsReturnAt (with_event e rest) i a
 later None rest a r = r
 later (Some e) rest a r = (suc r.0, r.1)

@@ -2,7 +2,7 @@
 use Rattle.std.proofs.Common.{arith, ◌≡◌, ◌+◌, ◌≤◌, Bool, true, false, ℕ, suc, List, Option, Some, None, slice_get, [], ◌∷◌, ◌++◌, length, if◌then◌else◌, refl, sym, ◌∙◌, ap, subst, inl, inr, length-append, append-nil}
 use Rattle.std.specs.Prelude.{◌==◌}
 use Rattle.std.proofs.lemmas.Bool.{ne_eqb}
-use Rattle.lu_component.specs.Component.{Declarations}
+use Rattle.lu_component.specs.Component.{Component}
 use Rattle.lu_test.specs.declared.schedule.Move.{Move}
 use Rattle.lu_test.specs.Matrix.{Matrix, calls_of}
 use Rattle.lu_machine.specs.declared.event.Event.{Event}
@@ -103,7 +103,7 @@ ends_serial end h q ends = elim ends as (λ _. IsSerial q) [
   | inr stops ↦ subst IsSerial (sym stops.3) (serial_entries h (stuck_of stops.0 ∷ []) ((λ e. refl), tt))
 ]
 
-pub serial_fits : (c : Declarations) (matrix : Matrix) (s : State) (q : List SerialOp) → IsStart c matrix s → IsSerialHistory s q → IsSerial q × FitsMatrix matrix q
+pub serial_fits : (c : Component) (matrix : Matrix) (s : State) (q : List SerialOp) → IsStart c matrix s → IsSerialHistory s q → IsSerial q × FitsMatrix matrix q
 serial_fits c matrix s q is history =
     let g = ground_of c s in
     let there : IsSerialHistory (start_on g matrix) q = subst (λ x. IsSerialHistory x q) (grounded c matrix s is) history in

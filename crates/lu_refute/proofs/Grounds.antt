@@ -1,6 +1,6 @@
 -- What a run starts on: all of its start but the matrix.
 use Rattle.std.proofs.Common.{◌≡◌, ℕ, List, Option}
-use Rattle.lu_component.specs.Component.{Declarations}
+use Rattle.lu_component.specs.Component.{Component}
 use Rattle.lu_test.specs.Matrix.{Matrix}
 use Rattle.lu_machine.specs.States.{State}
 use Rattle.lu_machine.specs.Starts.{IsStart, at_rest}
@@ -10,7 +10,7 @@ use Rattle.lu_serial.proofs.CallsLeft.{none_at_rest}
 
 -- the component, and the cells and locks that a setup leaves
 pub record Ground : Type 0 where
-  pub component : Declarations
+  pub component : Component
   pub cells : List ℕ
   pub locks : List (Option ℕ)
 
@@ -19,14 +19,14 @@ abbrev pub start_on : Ground → Matrix → State
 start_on g matrix = at_rest g.component matrix g.cells g.locks
 
 -- the ground of a start
-abbrev pub ground_of : Declarations → State → Ground
+abbrev pub ground_of : Component → State → Ground
 ground_of c s = record { component = c; cells = s.cells; locks = s.locks }
 
-pub grounded : (c : Declarations) (matrix : Matrix) (s : State) → IsStart c matrix s → s ≡ start_on (ground_of c s) matrix
+pub grounded : (c : Component) (matrix : Matrix) (s : State) → IsStart c matrix s → s ≡ start_on (ground_of c s) matrix
 grounded c matrix s is = starts_at_rest c matrix s is
 
 -- on the same ground starts each matrix of the same setup
-pub same_ground : (c : Declarations) (matrix other : Matrix) (s start : State) → IsStart c matrix s → other.setup ≡ matrix.setup → IsStart c other start → start ≡ start_on (ground_of c s) other
+pub same_ground : (c : Component) (matrix other : Matrix) (s start : State) → IsStart c matrix s → other.setup ≡ matrix.setup → IsStart c other start → start ≡ start_on (ground_of c s) other
 same_ground c matrix other s start is e at = start_same c other start (start_on (ground_of c s) other) at (other_start c matrix other s is e)
 
 -- and no operation is open

@@ -1,6 +1,6 @@
 -- How many calls each thread has made, move by move.
 use Rattle.std.proofs.Common.{◌≡◌, ℕ, zero, suc, ◌+◌, ◌<◌, List, [], ◌∷◌, length, map, get_or, replicate, Option, Some, None, slice_get, slice_set, refl, sym, ap, subst, ◌∙◌, inl, inr, arith}
-use Rattle.lu_component.specs.Component.{Declarations}
+use Rattle.lu_component.specs.Component.{Component}
 use Rattle.lu_test.specs.declared.schedule.Move.{Move}
 use Rattle.lu_test.specs.Matrix.{Matrix}
 use Rattle.lu_machine.specs.declared.event.Event.{Event}
@@ -96,7 +96,7 @@ counted_call s m new event i k step is counted are j same read d at =
 
 -- ---- the start
 
-pub start_made : (c : Declarations) (matrix : Matrix) (s : State) → IsStart c matrix s → let none : ℕ = 0 in made_calls s ≡ replicate (length matrix.threads) none
+pub start_made : (c : Component) (matrix : Matrix) (s : State) → IsStart c matrix s → let none : ℕ = 0 in made_calls s ≡ replicate (length matrix.threads) none
 start_made c matrix s is = ap (λ (x : State). made_calls x) is.is ∙ all_zero (length matrix.threads)
   where
     all_zero : (n : ℕ) → let none : ℕ = 0 in map made (replicate n (record { done = 0; activity = Idle })) ≡ replicate n none

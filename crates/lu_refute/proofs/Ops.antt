@@ -266,11 +266,11 @@ run_op s t bound quiet seats none left =
 abbrev pub entry_of_run : (s : State) (t : ℕ) → Ran s t → SerialOp
 entry_of_run s t r = record { thread = t; outcome = as_serial r.outcome }
 
-ends_behind : (end : State) (h : List Event) (q : List SerialOp) (t called number : ℕ) (o : Outcome) → EndsAs end h q → EndsAs end (Call t called ∷ Return t number o ∷ h) (record { thread = t; outcome = as_serial o } ∷ q)
-ends_behind end h q t called number o (inl a) = inl (a.0, ap (λ x. record { thread = t; outcome = as_serial o } ∷ x) a.1)
-ends_behind end h q t called number o (inr a) = inr (a.0, a.1, a.2, ap (λ x. record { thread = t; outcome = as_serial o } ∷ x) a.3)
+ends_after : (end : State) (h : List Event) (q : List SerialOp) (t called number : ℕ) (o : Outcome) → EndsAs end h q → EndsAs end (Call t called ∷ Return t number o ∷ h) (record { thread = t; outcome = as_serial o } ∷ q)
+ends_after end h q t called number o (inl a) = inl (a.0, ap (λ x. record { thread = t; outcome = as_serial o } ∷ x) a.1)
+ends_after end h q t called number o (inr a) = inr (a.0, a.1, a.2, ap (λ x. record { thread = t; outcome = as_serial o } ∷ x) a.3)
 
--- a serial history behind an operation
+-- a serial history after an operation
 pub ran_on : (s : State) (t : ℕ) (r : Ran s t) (q : List SerialOp) → IsSerialHistory r.end q → IsSerialHistory s (entry_of_run s t r ∷ q)
 ran_on s t r q z =
     let h = Call t r.called ∷ Return t r.number r.outcome ∷ z.1.history in
@@ -278,7 +278,7 @@ ran_on s t r q z =
       r.moves ++ z.0,
       ended_run s (r.moves ++ z.0) z.1.end h (entry_of_run s t r ∷ q)
           (serially_on s r.moves z.0 r.end z.1.end (Call t r.called ∷ Return t r.number r.outcome ∷ []) z.1.history r.leads on)
-          (ends_behind z.1.end z.1.history q t r.called r.number r.outcome z.1.holds),
+          (ends_after z.1.end z.1.history q t r.called r.number r.outcome z.1.holds),
     )
 
 abbrev pub HasSerialHistory : State → Type 0

@@ -2,7 +2,7 @@
 use Rattle.std.proofs.Common.{◌≡◌, ◌≤◌, ◌⊎◌, Bool, true, false, ℕ, List, [], ◌∷◌, length, take, map, refl, sym, ◌∙◌, ap, subst, inl, inr, arith}
 use Rattle.std.specs.List.{AllZip}
 use Rattle.std.proofs.lemmas.List.{take_all}
-use Rattle.lu_component.specs.Component.{Declarations}
+use Rattle.lu_component.specs.Component.{Component}
 use Rattle.lu_test.specs.declared.matrix.Call.{Call}
 use Rattle.lu_test.specs.declared.schedule.Move.{Move}
 use Rattle.lu_test.specs.Matrix.{Matrix, cut, first_calls}
@@ -114,7 +114,7 @@ whole_cut matrix = (
   sym (ap (λ (rows : List (List Call)). let x : Matrix = record matrix { threads = rows } in x) (all_calls matrix.threads)),
 )
 
-outside_answer : (c : Declarations) (matrix : Matrix) (s : State) (serial : ℕ) (members : List (List SerialOp)) (answer : Matrix × List Move) → IsStart c matrix s → IsOutsideAnswer s serial members answer → IsCounterexample c matrix (IsMember members) answer
+outside_answer : (c : Component) (matrix : Matrix) (s : State) (serial : ℕ) (members : List (List SerialOp)) (answer : Matrix × List Move) → IsStart c matrix s → IsOutsideAnswer s serial members answer → IsCounterexample c matrix (IsMember members) answer
 outside_answer c matrix s serial members answer is a =
     let short = a.short in
     let lengths = made_calls short.whole.end in
@@ -123,7 +123,7 @@ outside_answer c matrix s serial members answer is a =
       λ start at. cut_refutes c matrix s start members answer.1 short.entries is short.whole short.outside (subst (λ x. IsStart c x start) same at),
     )
 
-whole_answer : (c : Declarations) (matrix : Matrix) (s : State) (members : List (List SerialOp)) (u : List Move) → IsStart c matrix s → Refutes (IsMember members) s u → IsCounterexample c matrix (IsMember members) (s.matrix, u)
+whole_answer : (c : Component) (matrix : Matrix) (s : State) (members : List (List SerialOp)) (u : List Move) → IsStart c matrix s → Refutes (IsMember members) s u → IsCounterexample c matrix (IsMember members) (s.matrix, u)
 whole_answer c matrix s members u is bad =
     let same : s.matrix ≡ matrix = start_matrix c matrix s is in (
       subst (IsCutOf matrix) (sym same) (whole_cut matrix),
@@ -139,7 +139,7 @@ answer_refutes c matrix s serial members (Fail u why) answer is (inr a) = outsid
 answer_refutes c matrix s serial members (Pass counts) answer is a = absurd a
 
 -- where a cut has such a schedule the component is not linearizable
-pub refuted : (c : Declarations) (matrix smaller : Matrix) (s : State) (Set : List SerialOp → Type 0) (u : List Move) → IsCutOf matrix smaller → IsStart c smaller s → Refutes Set s u → IsLinearizable c matrix Set → ⊥
+pub refuted : (c : Component) (matrix smaller : Matrix) (s : State) (Set : List SerialOp → Type 0) (u : List Move) → IsCutOf matrix smaller → IsStart c smaller s → Refutes Set s u → IsLinearizable c matrix Set → ⊥
 refuted c matrix smaller s Set u is start bad all =
     let good = all smaller s u is start (record { end = bad.end; history = bad.history; leads = bad.leads; holds = bad.holds.0 }) in
     let same = leads_same s u good.end bad.end good.history bad.history good.leads bad.leads in

@@ -4,7 +4,7 @@ use Rattle.std.specs.Prelude.{◌==◌, ◌&&◌, ◌||◌}
 use Rattle.std.specs.List.{filter}
 use Rattle.std.proofs.lemmas.Bool.{eq-eqb}
 use Rattle.std.proofs.lemmas.List.{append-nil}
-use Rattle.lu_component.specs.Component.{Declarations}
+use Rattle.lu_component.specs.Component.{Component}
 use Rattle.lu_test.specs.declared.schedule.Move.{Move}
 use Rattle.lu_test.specs.Matrix.{Matrix, cut}
 use Rattle.lu_machine.specs.declared.event.Event.{Event}
@@ -151,7 +151,7 @@ module _ (g : Ground) (matrix : Matrix) (u : List Move) (q : List SerialOp) (run
 
 -- ---- the laws
 
-run_at : (c : Declarations) (matrix : Matrix) (s : State) → IsStart c matrix s → (P : State → Type 0) → P (start_on (ground_of c s) matrix) → P s
+run_at : (c : Component) (matrix : Matrix) (s : State) → IsStart c matrix s → (P : State → Type 0) → P (start_on (ground_of c s) matrix) → P s
 run_at c matrix s is P h = subst P (sym (grounded c matrix s is)) h
 
 pub own_witness : OwnWitness

@@ -34,23 +34,23 @@ entries_more x q t =
     ]
 
 -- the operation, counted from before x
-abbrev pub behind_op : SerialOp → OpId → OpId
-behind_op x a = record { t = a.t; k = more_of x a.t + a.k }
+abbrev pub after_op : SerialOp → OpId → OpId
+after_op x a = record { t = a.t; k = more_of x a.t + a.k }
 
-pub entry_behind : (x : SerialOp) (q : List SerialOp) (i : ℕ) (a : OpId) → IsEntryAt q i a → IsEntryAt (x ∷ q) (suc i) (behind_op x a)
-entry_behind x q i a h =
+pub entry_after : (x : SerialOp) (q : List SerialOp) (i : ℕ) (a : OpId) → IsEntryAt q i a → IsEntryAt (x ∷ q) (suc i) (after_op x a)
+entry_after x q i a h =
     let more = entries_more x (take i q) a.t in
     let count = h.3 in
     (h.0, h.1, h.2, omega (arith, more, count))
 
-pub entry_ahead : (x : SerialOp) (q : List SerialOp) (i : ℕ) (a : OpId) → IsEntryAt (x ∷ q) (suc i) (behind_op x a) → IsEntryAt q i a
+pub entry_ahead : (x : SerialOp) (q : List SerialOp) (i : ℕ) (a : OpId) → IsEntryAt (x ∷ q) (suc i) (after_op x a) → IsEntryAt q i a
 entry_ahead x q i a h =
     let more = entries_more x (take i q) a.t in
     let count = h.3 in
     (h.0, h.1, h.2, omega (arith, more, count))
 
 -- the first entry is no operation counted from before it
-pub not_first : (x : SerialOp) (q : List SerialOp) (a : OpId) → IsEntryAt (x ∷ q) 0 (behind_op x a) → ⊥
+pub not_first : (x : SerialOp) (q : List SerialOp) (a : OpId) → IsEntryAt (x ∷ q) 0 (after_op x a) → ⊥
 not_first x q a h =
     let same : x ≡ h.0 = (let e = h.1 in cc) in
     let thread : a.t ≡ x.thread = sym h.2 ∙ ap (λ y. y.thread) (sym same) in
@@ -58,10 +58,10 @@ not_first x q a h =
     let count : 0 ≡ more_of x a.t + a.k = h.3 in
     omega (arith, one, count)
 
-before_behind : (x : SerialOp) (q : List SerialOp) (a b : OpId) → StandsBefore (x ∷ q) (behind_op x a) (behind_op x b) → StandsBefore q a b
-before_behind x q a b (zero, j, less, p, r) = absurd (not_first x q a p)
-before_behind x q a b (suc i, zero, less, p, r) = absurd (omega arith)
-before_behind x q a b (suc i, suc j, less, p, r) = (i, j, omega arith, entry_ahead x q i a p, entry_ahead x q j b r)
+before_after : (x : SerialOp) (q : List SerialOp) (a b : OpId) → StandsBefore (x ∷ q) (after_op x a) (after_op x b) → StandsBefore q a b
+before_after x q a b (zero, j, less, p, r) = absurd (not_first x q a p)
+before_after x q a b (suc i, zero, less, p, r) = absurd (omega arith)
+before_after x q a b (suc i, suc j, less, p, r) = (i, j, omega arith, entry_ahead x q i a p, entry_ahead x q j b r)
 
 -- where t has entries, one of them is its first
 first_entry : (t : ℕ) (q : List SerialOp) → 0 < length (entries t q) → (j : ℕ) × IsEntryAt q j (record { t = t; k = 0 })
@@ -73,14 +73,14 @@ first_entry t (x ∷ q) h =
           (let more = entries_more x q t in
           let none = more_other x t apart in
           let rest = first_entry t q (omega (arith, h, more, none)) in
-          let at = entry_behind x q rest.0 (record { t = t; k = 0 }) rest.1 in
+          let at = entry_after x q rest.0 (record { t = t; k = 0 }) rest.1 in
           (suc rest.0, (at.0, at.1, at.2, omega (arith, none, at.3))))
     ]
 
 abbrev pub KeepsOrder : List SerialOp → List SerialOp → Type 0
 KeepsOrder q other = (i j : ℕ) (a b : OpId) → i < j → IsEntryAt other i a → IsEntryAt other j b → StandsBefore q a b
 
--- what stands behind x's first entry is not x's first
+-- what stands after x's first entry is not x's first
 not_later : (x : SerialOp) (q : List SerialOp) (i j : ℕ) (t : ℕ) → t ≡ x.thread → i < j → IsEntryAt (x ∷ q) j (record { t = t; k = 0 }) → ⊥
 not_later x q i zero t same less h = omega arith
 not_later x q i (suc j) t same less h =
@@ -100,7 +100,7 @@ first_threads x y q other same order =
           let far = entries_more y other x.thread in
           let none = more_other y x.thread apart in
           let later = first_entry x.thread other (omega (arith, more, own, lengths, far, none)) in
-          let at = entry_behind y other later.0 (record { t = x.thread; k = 0 }) later.1 in
+          let at = entry_after y other later.0 (record { t = x.thread; k = 0 }) later.1 in
           let at' : IsEntryAt (y ∷ other) (suc later.0) (record { t = x.thread; k = 0 }) = (at.0, at.1, at.2, omega (arith, none, at.3)) in
           let stands = order 0 (suc later.0) (record { t = y.thread; k = 0 }) (record { t = x.thread; k = 0 }) (omega arith) (y, refl, refl, refl) at' in
           absurd (not_later x q stands.0 stands.1 x.thread refl stands.2 stands.4))
@@ -140,9 +140,9 @@ same_order (x ∷ q) (y ∷ other) same order =
     let thread = first_threads x y q other same order in
     let one : x ≡ y = first_same x y q other thread (same x.thread) in
     let rest = same_order q other (λ t. rest_same x y q other t one (same t)) (λ i j a b less p r.
-    (let p' = entry_behind y other i a p in
-    let r' = entry_behind y other j b r in
-    let stands = order (suc i) (suc j) (behind_op y a) (behind_op y b) (omega arith) p' r' in
-    let P : SerialOp → Type 0 = λ z. StandsBefore (z ∷ q) (behind_op y a) (behind_op y b) in
-    before_behind y q a b (subst P one stands))) in
+    (let p' = entry_after y other i a p in
+    let r' = entry_after y other j b r in
+    let stands = order (suc i) (suc j) (after_op y a) (after_op y b) (omega arith) p' r' in
+    let P : SerialOp → Type 0 = λ z. StandsBefore (z ∷ q) (after_op y a) (after_op y b) in
+    before_after y q a b (subst P one stands))) in
     cc

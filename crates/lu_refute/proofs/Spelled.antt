@@ -23,7 +23,7 @@ use Rattle.lu_refute.specs.Whole.{IsQuiet}
 use Rattle.lu_refute.proofs.Moves.{Stepped, step_stepped, open_busy, done_of, done_at, done_same, done_more, done_others}
 use Rattle.lu_refute.proofs.Serially.{LeadsSerially}
 use Rattle.lu_refute.proofs.Ops.{open_before}
-use Rattle.lu_refute.proofs.SameOrder.{more_of, more_here, more_other, behind_op, entries_more, entry_ahead}
+use Rattle.lu_refute.proofs.SameOrder.{more_of, more_here, more_other, after_op, entries_more, entry_ahead}
 
 -- the entries of a serial history, with `Stuck` for the open operation
 abbrev pub serial_of : List Event → List SerialOp
@@ -151,18 +151,18 @@ call_number base (Some t) (Return u j o ∷ h) last p (suc i) a at =
 abbrev op_of : ℕ → Outcome → SerialOp
 op_of t o = record { thread = t; outcome = as_serial o }
 
--- counted from behind the first operation
-placed_behind : (t : ℕ) (base : ℕ → ℕ) (x : SerialOp) (b : OpId) → x.thread ≡ t → base b.t + (more_of x b.t + b.k) ≡ bumped t base b.t + b.k
-placed_behind t base x b thread =
+-- counted from after the first operation
+placed_after : (t : ℕ) (base : ℕ → ℕ) (x : SerialOp) (b : OpId) → x.thread ≡ t → base b.t + (more_of x b.t + b.k) ≡ bumped t base b.t + b.k
+placed_after t base x b thread =
     elim (same_or_not b.t t) [
       | inl same ↦ (let one = bumped_here t base b.t same in let more = more_here x b.t (same ∙ sym thread) in omega (arith, one, more))
       | inr apart ↦ (let one = bumped_other t base b.t apart in let none = more_other x b.t (λ e. apart (e ∙ thread)) in omega (arith, one, none))
     ]
 
--- an operation behind the first: counted from behind it
+-- an operation after the first: counted from after it
 record Behind (x : SerialOp) (b : OpId) : Type 0 where
   pub op : OpId
-  pub is : b ≡ behind_op x op
+  pub is : b ≡ after_op x op
 
 same_id : (a b : OpId) → a.t ≡ b.t → a.k ≡ b.k → a ≡ b
 same_id a b e f =
@@ -178,10 +178,10 @@ behind x q j b h =
       is = same_id b (record { t = b.t; k = more_of x b.t + length (entries b.t (take j q)) }) refl (sym count ∙ more);
     }
 
-placed_same : (t : ℕ) (base : ℕ → ℕ) (x : SerialOp) (b op : OpId) → x.thread ≡ t → b ≡ behind_op x op → placed (bumped t base) op ≡ placed base b
+placed_same : (t : ℕ) (base : ℕ → ℕ) (x : SerialOp) (b op : OpId) → x.thread ≡ t → b ≡ after_op x op → placed (bumped t base) op ≡ placed base b
 placed_same t base x b op thread is =
     let P : OpId → Type 0 = λ z. placed (bumped t base) op ≡ placed base z in
-    subst P (sym is) (same_id (placed (bumped t base) op) (placed base (behind_op x op)) refl (sym (placed_behind t base x op thread)))
+    subst P (sym is) (same_id (placed (bumped t base) op) (placed base (after_op x op)) refl (sym (placed_after t base x op thread)))
 
 same_call : (t u k n : ℕ) → t ≡ u → k ≡ n → Call t k ≡ Call u n
 same_call t u k n e f = ap (λ (x : ℕ). let y : Event = Call x k in y) e ∙ ap (λ (x : ℕ). let y : Event = Call u x in y) f
@@ -212,7 +212,7 @@ entry_called base (Call t k ∷ Return u n o ∷ h) last p zero b at =
 entry_called base (Call t k ∷ Return u n o ∷ h) last p (suc j) b at =
     (let x : SerialOp = op_of u o in
     let by = behind x (serial_of h) j b at in
-    let at' : IsEntryAt (x ∷ serial_of h) (suc j) (behind_op x by.op) = subst (λ z. IsEntryAt (x ∷ serial_of h) (suc j) z) by.is at in
+    let at' : IsEntryAt (x ∷ serial_of h) (suc j) (after_op x by.op) = subst (λ z. IsEntryAt (x ∷ serial_of h) (suc j) z) by.is at in
     let rest = entry_called (bumped t base) h last p.1.2 j by.op (entry_ahead x (serial_of h) j by.op at') in
     let same = placed_same t base x b by.op p.1.0 by.is in
     (suc (suc rest.0), subst (λ z. IsCallAt h rest.0 z) same rest.1))
@@ -230,7 +230,7 @@ entry_precedes base (Call t k ∷ Return u n o ∷ h) last p zero (suc j) a b le
     let number : n ≡ base a.t + a.k = p.1.1 ∙ first_number base t a (sym p.1.0 ∙ first.0) first.1 in
     let op : SerialOp = op_of u o in
     let by = behind op (serial_of h) j b y in
-    let y' : IsEntryAt (op ∷ serial_of h) (suc j) (behind_op op by.op) = subst (λ z. IsEntryAt (op ∷ serial_of h) (suc j) z) by.is y in
+    let y' : IsEntryAt (op ∷ serial_of h) (suc j) (after_op op by.op) = subst (λ z. IsEntryAt (op ∷ serial_of h) (suc j) z) by.is y in
     let rest = entry_called (bumped t base) h last p.1.2 j by.op (entry_ahead op (serial_of h) j by.op y') in
     let same = placed_same t base op b by.op p.1.0 by.is in
     (1, suc (suc rest.0), omega arith, (o, ap (λ z. Some z) (same_return u a.t n (base a.t + a.k) o first.0 number)), subst (λ z. IsCallAt h rest.0 z) same rest.1))
@@ -238,8 +238,8 @@ entry_precedes base (Call t k ∷ Return u n o ∷ h) last p (suc i) (suc j) a b
     (let op : SerialOp = op_of u o in
     let ba = behind op (serial_of h) i a x in
     let bb = behind op (serial_of h) j b y in
-    let x' : IsEntryAt (op ∷ serial_of h) (suc i) (behind_op op ba.op) = subst (λ z. IsEntryAt (op ∷ serial_of h) (suc i) z) ba.is x in
-    let y' : IsEntryAt (op ∷ serial_of h) (suc j) (behind_op op bb.op) = subst (λ z. IsEntryAt (op ∷ serial_of h) (suc j) z) bb.is y in
+    let x' : IsEntryAt (op ∷ serial_of h) (suc i) (after_op op ba.op) = subst (λ z. IsEntryAt (op ∷ serial_of h) (suc i) z) ba.is x in
+    let y' : IsEntryAt (op ∷ serial_of h) (suc j) (after_op op bb.op) = subst (λ z. IsEntryAt (op ∷ serial_of h) (suc j) z) bb.is y in
     let rest = entry_precedes (bumped t base) h last p.1.2 i j ba.op bb.op (omega arith) (entry_ahead op (serial_of h) i ba.op x') (entry_ahead op (serial_of h) j bb.op y') in
     let same_a = placed_same t base op a ba.op p.1.0 ba.is in
     let same_b = placed_same t base op b bb.op p.1.0 bb.is in

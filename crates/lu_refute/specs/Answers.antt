@@ -1,6 +1,6 @@
 -- What is answered to a report and a specification.
 use Rattle.std.specs.Prelude.{◌≡◌, ◌≢◌, ℕ, ◌⊎◌, false, List, Some, IsSomeAnd}
-use Rattle.lu_component.specs.Component.{Declarations}
+use Rattle.lu_component.specs.Component.{Component}
 use Rattle.lu_test.specs.declared.schedule.Move.{Move}
 use Rattle.lu_test.specs.Matrix.{Matrix, cut}
 use Rattle.lu_machine.specs.States.{State}
@@ -50,22 +50,22 @@ IsAnswerTo s serial members (Fail u why) answer =
 IsAnswerTo s serial members (Pass counts) answer = ⊥
 
 -- what is answered to the report, with this bound of serial runs
-abbrev pub IsAnswerWith : Declarations → Matrix → Report → ℕ → List (List SerialOp)
+abbrev pub IsAnswerWith : Component → Matrix → Report → ℕ → List (List SerialOp)
     → Matrix × List Move → Type 0
 IsAnswerWith c matrix r serial members answer =
     (s : State) → IsStart c matrix s → IsAnswerTo s serial members r.finding answer
 
 -- what is answered to the report, with its own bound
-abbrev pub IsAnswer : Declarations → Matrix → Report → List (List SerialOp) → Matrix × List Move
+abbrev pub IsAnswer : Component → Matrix → Report → List (List SerialOp) → Matrix × List Move
     → Type 0
 IsAnswer c matrix r members answer =
     IsSomeAnd r.serial (λ serial. IsAnswerWith c matrix r serial members answer)
 
 -- a run confirms the report, which is a failure or nondeterministic
-abbrev pub IsConfirmedFailure : Declarations → Matrix → Report → Type 0
+abbrev pub IsConfirmedFailure : Component → Matrix → Report → Type 0
 IsConfirmedFailure c matrix r = IsConfirmed c matrix r × IsFailure r.finding
 
 -- the report is no such one; or memory was refused
-abbrev pub IsRefuteFault : Declarations → Matrix → Report → RefuteFault → Type 0
+abbrev pub IsRefuteFault : Component → Matrix → Report → RefuteFault → Type 0
 IsRefuteFault c matrix r NotShown = IsConfirmedFailure c matrix r → ⊥
 IsRefuteFault c matrix r Memory = Unit {0}

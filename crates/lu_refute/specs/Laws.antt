@@ -1,6 +1,6 @@
 -- Laws of specifications: what holds whatever deterministic specification somebody has in mind.
 use Rattle.std.specs.Prelude.{◌≡◌, ℕ, ◌⊎◌, Bool, false, IsTrue, List, [], ◌∷◌, ◌++◌, length, None}
-use Rattle.lu_component.specs.Component.{Declarations}
+use Rattle.lu_component.specs.Component.{Component}
 use Rattle.lu_test.specs.declared.schedule.Move.{Move}
 use Rattle.lu_test.specs.Matrix.{Matrix, calls_of, cut}
 use Rattle.lu_machine.specs.States.{State}
@@ -43,7 +43,7 @@ IsWhole matrix q = EndsStuck q ⊎ ((t : ℕ) → length (entries t q) ≡ lengt
 -- ones.
 abbrev pub SpecIsSerial : Type 0
 SpecIsSerial =
-    (c : Declarations) (matrix : Matrix) (s : State) (bound : ℕ) (members : List (List SerialOp))
+    (c : Component) (matrix : Matrix) (s : State) (bound : ℕ) (members : List (List SerialOp))
     (q : List SerialOp) →
     IsStart c matrix s → NoOffence s bound → IsMatrixSpec matrix members → HasAll s members →
     IsMember members q → IsWhole matrix q → IsSerialHistory s q
@@ -51,7 +51,7 @@ SpecIsSerial =
 -- There a schedule that is not good for the serial histories is not good for the specification.
 abbrev pub FailRefutes : Type 0
 FailRefutes =
-    (c : Declarations) (matrix : Matrix) (s : State) (bound : ℕ) (members : List (List SerialOp))
+    (c : Component) (matrix : Matrix) (s : State) (bound : ℕ) (members : List (List SerialOp))
     (u : List Move) →
     IsStart c matrix s → NoOffence s bound → IsMatrixSpec matrix members → HasAll s members →
     Refutes (IsSerialHistory s) s u → Refutes (IsMember members) s u
@@ -61,20 +61,20 @@ FailRefutes =
 -- A serial schedule that ends with a whole entry has no other witness than its own entries.
 abbrev pub OwnWitness : Type 0
 OwnWitness =
-    (c : Declarations) (matrix : Matrix) (s : State) (u : List Move) (q p : List SerialOp) →
+    (c : Component) (matrix : Matrix) (s : State) (u : List Move) (q p : List SerialOp) →
     IsStart c matrix s → (run : IsSeriallyWhole s u q) → IsWitness p run.history → p ≡ q
 
 -- The calls made in a schedule make a cut of the matrix.
 abbrev pub MadeCut : Type 0
 MadeCut =
-    (c : Declarations) (matrix : Matrix) (s : State) (u : List Move) (q : List SerialOp) →
+    (c : Component) (matrix : Matrix) (s : State) (u : List Move) (q : List SerialOp) →
     IsStart c matrix s → (run : IsSeriallyWhole s u q) → AreLengths matrix (made_calls run.end)
 
 -- Where its entries are no member, it is an ended schedule of the matrix cut to the calls made in
 -- it, and not good for the set.
 abbrev pub CutRefutes : Type 0
 CutRefutes =
-    (c : Declarations) (matrix : Matrix) (s start : State) (members : List (List SerialOp))
+    (c : Component) (matrix : Matrix) (s start : State) (members : List (List SerialOp))
     (u : List Move) (q : List SerialOp) →
     IsStart c matrix s → (run : IsSeriallyWhole s u q) → contains members q ≡ false →
     IsStart c (cut matrix (made_calls run.end)) start → Refutes (IsMember members) start u
@@ -85,7 +85,7 @@ CutRefutes =
 -- not good for it.
 abbrev pub FailOutside : Type 0
 FailOutside =
-    (c : Declarations) (matrix : Matrix) (s : State) (bound : ℕ) (members : List (List SerialOp))
+    (c : Component) (matrix : Matrix) (s : State) (bound : ℕ) (members : List (List SerialOp))
     (u : List Move) →
     IsStart c matrix s → NoOffence s bound → IsMatrixSpec matrix members
     → IsFirstOutside s bound members None →
@@ -113,7 +113,7 @@ WholeCut = (matrix : Matrix) → IsCutOf matrix matrix
 -- What is answered to a finding is a counterexample.
 abbrev pub AnswerRefutes : Type 0
 AnswerRefutes =
-    (c : Declarations) (matrix : Matrix) (s : State) (serial : ℕ) (members : List (List SerialOp))
+    (c : Component) (matrix : Matrix) (s : State) (serial : ℕ) (members : List (List SerialOp))
     (finding : Finding)
     (answer : Matrix × List Move) →
     IsStart c matrix s → IsAnswerTo s serial members finding answer
@@ -122,14 +122,14 @@ AnswerRefutes =
 -- One thing is answered to a report.
 abbrev pub OneAnswer : Type 0
 OneAnswer =
-    (c : Declarations) (matrix : Matrix) (r : Report) (members : List (List SerialOp))
+    (c : Component) (matrix : Matrix) (r : Report) (members : List (List SerialOp))
     (a b : Matrix × List Move) →
     Settles c matrix → IsAnswer c matrix r members a → IsAnswer c matrix r members b → a ≡ b
 
 -- Where there is a counterexample the component is not linearizable.
 abbrev pub NotLinearizable : Type 0
 NotLinearizable =
-    (c : Declarations) (matrix : Matrix) (members : List (List SerialOp))
+    (c : Component) (matrix : Matrix) (members : List (List SerialOp))
     (example : Matrix × List Move) →
     Settles c matrix → IsCounterexample c matrix (IsMember members) example
     → IsLinearizable c matrix (IsMember members) → ⊥
@@ -147,7 +147,7 @@ pub record IsDeterministicOf (matrix : Matrix) (spec : List SerialOp → Bool) :
 -- A failure that a run confirms refutes each of them: by none is the component linearizable.
 abbrev pub NoneLinearizable : Type 0
 NoneLinearizable =
-    (c : Declarations) (matrix : Matrix) (r : Report) (spec : List SerialOp → Bool) →
+    (c : Component) (matrix : Matrix) (r : Report) (spec : List SerialOp → Bool) →
     Settles c matrix → IsConfirmedFailure c matrix r →
     IsDeterministicOf matrix spec → IsLinearizable c matrix (λ q. IsTrue (spec q)) → ⊥
 
@@ -155,7 +155,7 @@ NoneLinearizable =
 -- linearizable by none of them.
 abbrev pub FailingIsNotLinearizable : Type 0
 FailingIsNotLinearizable =
-    (c : Declarations) (matrix : Matrix) (bound serial : ℕ) (r : Report)
+    (c : Component) (matrix : Matrix) (bound serial : ℕ) (r : Report)
     (spec : List SerialOp → Bool) →
     Settles c matrix → IsReport c matrix bound serial r → IsFailure r.finding →
     IsDeterministicOf matrix spec → IsLinearizable c matrix (λ q. IsTrue (spec q)) → ⊥
@@ -166,6 +166,6 @@ FailingIsNotLinearizable =
 -- only last, and they fit the matrix.
 abbrev pub LearntCloses : Type 0
 LearntCloses =
-    (c : Declarations) (matrix : Matrix) (s : State) (bound : ℕ) (members : List (List SerialOp)) →
+    (c : Component) (matrix : Matrix) (s : State) (bound : ℕ) (members : List (List SerialOp)) →
     IsStart c matrix s → IsSetOf s bound members
     → IsDeterministic members × AllSerial members × AreOf matrix members

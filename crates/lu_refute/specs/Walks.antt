@@ -27,7 +27,7 @@ pub record IsBeforeAnyReturn (walk : Walk) : Type 0 where
   pub entries : walk.entries.items ≡ []
   pub calls : walk.calls.items ≡ made_calls walk.machine
 
--- one move further: the operation that it ended is behind the others, and the calls are those made
+-- one move further: the operation that it ended is after the others, and the calls are those made
 pub record IsFurther (old new : Walk) (m : Move) : Type 0 where
   pub event : Option Event
   pub step : Step old.machine m new.machine event
@@ -38,7 +38,7 @@ pub record IsFurther (old new : Walk) (m : Move) : Type 0 where
 abbrev pub EndsOutside : State → List (List SerialOp) → List Move → Type 0
 EndsOutside s members u = (q : List SerialOp) × IsSeriallyEnded s u q × (contains members q ≡ false)
 
--- The walk stands behind so many moves of w, and these are the shortest beginning that ends with a
+-- The walk stands after so many moves of w, and these are the shortest beginning that ends with a
 -- whole entry and whose entries are no member.
 pub record IsStop (s : State) (members : List (List SerialOp)) (w : List Move) (walk : Walk)
     (count : ℕ) : Type 0 where

@@ -1,6 +1,6 @@
 -- A component and a matrix have one report.
 use Rattle.std.proofs.Common.{◌≡◌, ℕ, ◌<◌, List, refl, sym, ◌∙◌, ap, subst, inl, inr, arith}
-use Rattle.lu_component.specs.Component.{Declarations}
+use Rattle.lu_component.specs.Component.{Component}
 use Rattle.lu_test.specs.declared.schedule.Move.{Move}
 use Rattle.lu_test.specs.Matrix.{Matrix}
 use Rattle.lu_machine.specs.declared.event.Event.{Event}
@@ -40,7 +40,7 @@ not_ended end h q t one opened able (inr over) =
     let none : picks_of end over.0 ≡ 0 = over.2 in
     omega arith
 
-module _ (c : Declarations) (matrix : Matrix) (s : State) (is : IsStart c matrix s) where
+module _ (c : Component) (matrix : Matrix) (s : State) (is : IsStart c matrix s) where
   one_at_start : AtMostOne s
   one_at_start t i a b = absurd (none_at_start c matrix s is t a)
 
@@ -116,14 +116,14 @@ module _ (c : Declarations) (matrix : Matrix) (s : State) (is : IsStart c matrix
   one_finding bound most (Pass counts) (Fail v why) x y = one_against (IsSerialHistory s) bound (Pass counts) (Fail v why) x.1 y.1
   one_finding bound most (Pass counts) (Pass others) x y = one_against (IsSerialHistory s) bound (Pass counts) (Pass others) x.1 y.1
 
-pub one_report : (c : Declarations) (matrix : Matrix) (bound serial : ℕ) (r other : Report) → Settles c matrix → IsReport c matrix bound serial r → IsReport c matrix bound serial other → r ≡ other
+pub one_report : (c : Component) (matrix : Matrix) (bound serial : ℕ) (r other : Report) → Settles c matrix → IsReport c matrix bound serial r → IsReport c matrix bound serial other → r ≡ other
 one_report c matrix bound serial r other settles x y =
     let start = start_there c matrix settles in
     let s : State = start.0 in
     let found : r.finding ≡ other.finding = one_finding c matrix s start.1 bound serial r.finding other.finding (x.3 s start.1) (y.3 s start.1) in
     same_parts r other (x.0 ∙ sym y.0) (x.1 ∙ sym y.1) (x.2 ∙ sym y.2) found
 
-pub one_report_against : (Set : List SerialOp → Type 0) (c : Declarations) (matrix : Matrix) (bound : ℕ) (r other : Report) → Settles c matrix → IsReportAgainst Set c matrix bound r → IsReportAgainst Set c matrix bound other → r ≡ other
+pub one_report_against : (Set : List SerialOp → Type 0) (c : Component) (matrix : Matrix) (bound : ℕ) (r other : Report) → Settles c matrix → IsReportAgainst Set c matrix bound r → IsReportAgainst Set c matrix bound other → r ≡ other
 one_report_against Set c matrix bound r other settles x y =
     let start = start_there c matrix settles in
     let s : State = start.0 in

@@ -3,7 +3,7 @@ use Rattle.std.proofs.Common.{◌≡◌, ◌≢◌, ◌<◌, ◌≤◌, ◌+◌,
 use Rattle.std.proofs.lemmas.Option.{slice_get_within, same_Some, none-some}
 use Rattle.std.proofs.lemmas.List.{length-set, length-replicate}
 use Rattle.std.proofs.lemmas.List.Sums.{sum_by-cons}
-use Rattle.lu_component.specs.Component.{Declarations}
+use Rattle.lu_component.specs.Component.{Component}
 use Rattle.lu_test.specs.declared.matrix.Call.{Call as ACall}
 use Rattle.lu_test.specs.declared.schedule.Move.{Move}
 use Rattle.lu_test.specs.Matrix.{Matrix, IsMatrix, calls_of, row_of}
@@ -157,7 +157,7 @@ ends_few s end u h q leads ends =
           omega arith)
     ]
 
-module _ (c : Declarations) (matrix : Matrix) (s : State) (is_matrix : IsMatrix matrix) (start : IsStart c matrix s) where
+module _ (c : Component) (matrix : Matrix) (s : State) (is_matrix : IsMatrix matrix) (start : IsStart c matrix s) where
   few_threads : length s.threads ≤ 8
   few_threads =
       let e : length s.threads ≡ length matrix.threads = ap (λ (x : State). length x.threads) start.is ∙ length-replicate (length matrix.threads) _ in

@@ -3,7 +3,7 @@ use Rattle.std.proofs.Common.{◌≡◌, ◌⊎◌, ℕ, suc, ◌+◌, ◌<◌, 
 use Rattle.std.proofs.lemmas.Bool.{cases_lt}
 use Rattle.std.proofs.lemmas.List.{append-nil, get_or-take, length-take, take_all, take-take, take_more}
 use Rattle.std.proofs.lemmas.Option.{get_or_from_slice_get, slice_get-get_or, slice_get_within}
-use Rattle.lu_component.specs.Component.{Declarations}
+use Rattle.lu_component.specs.Component.{Component}
 use Rattle.lu_test.specs.declared.schedule.Move.{Move}
 use Rattle.lu_test.specs.Matrix.{Matrix}
 use Rattle.lu_machine.specs.declared.event.Event.{Event}
@@ -36,7 +36,7 @@ well_formed_more : (history : List Event) (event : Option Event) → IsWellForme
 well_formed_more history None is fits = rw (append-nil history) is
 well_formed_more history (Some e) is fits = push_history history e is fits
 
-pub played_none : (c : Declarations) (matrix : Matrix) (start : State) (u : List Move) → IsStart c matrix start → IsPlayed start u 0 start []
+pub played_none : (c : Component) (matrix : Matrix) (start : State) (u : List Move) → IsStart c matrix start → IsPlayed start u 0 start []
 played_none c matrix start u is = record { leads = (refl, refl); agree = start_agrees c matrix start is; well_formed = λ i e at. absurd cc }
 
 pub played_more : (start : State) (u : List Move) (many : ℕ) (now : State) (history : List Event) (m : Move) (new : State) (event : Option Event) → IsPlayed start u many now history → many < length u → m ≡ get_or u many m → Step now m new event → IfSome event (Fits history) → IsPlayed start u (many + 1) new (history ++ with_event event [])
@@ -49,31 +49,31 @@ played_more start u many now history m new event played below read step fits =
       well_formed = well_formed_more history event played.well_formed fits;
     }
 
-plays_same : (c : Declarations) (matrix : Matrix) (u : List Move) (a b : State) (h k : List Event) → Plays c matrix u a h → Plays c matrix u b k → (a ≡ b) × (h ≡ k)
+plays_same : (c : Component) (matrix : Matrix) (u : List Move) (a b : State) (h k : List Event) → Plays c matrix u a h → Plays c matrix u b k → (a ≡ b) × (h ≡ k)
 plays_same c matrix u a b h k p q =
     let same = start_same c matrix q.0 p.0 q.1 p.1 in
     let q' : Leads p.0 u b k = subst (λ (s : State). Leads s u b k) same q.2 in
     leads_same p.0 u a b h k p.2 q'
 
 -- a beginning of what was played goes on by a feasible move
-plays_on : (c : Declarations) (matrix : Matrix) (u : List Move) (end : State) (h : List Event) (i : ℕ) (m : Move) (mid : State) (k : List Event) → Plays c matrix u end h → slice_get u i ≡ Some m → Plays c matrix (take i u) mid k → IsFeasible mid m
+plays_on : (c : Component) (matrix : Matrix) (u : List Move) (end : State) (h : List Event) (i : ℕ) (m : Move) (mid : State) (k : List Event) → Plays c matrix u end h → slice_get u i ≡ Some m → Plays c matrix (take i u) mid k → IsFeasible mid m
 plays_on c matrix u end h i m mid k p at q =
     let same = start_same c matrix q.0 p.0 q.1 p.1 in
     let first : Leads p.0 (take i u) mid k = subst (λ (s : State). Leads s (take i u) mid k) same q.2 in
     let f = goes_on_feasible p.0 u end h p.2 i m (slice_get_within u i m at) mid k first in
     subst (IsFeasible mid) (get_or_from_slice_get u i m m at) f
 
-pub one_replay : (c : Declarations) (matrix : Matrix) (u : List Move) (h k : List Event) (a b : Status) → PlaysToStatus c matrix u h a → PlaysToStatus c matrix u k b → (h ≡ k) × (a ≡ b)
+pub one_replay : (c : Component) (matrix : Matrix) (u : List Move) (h k : List Event) (a b : Status) → PlaysToStatus c matrix u h a → PlaysToStatus c matrix u k b → (h ≡ k) × (a ≡ b)
 one_replay c matrix u h k a b p q =
     let same = plays_same c matrix u p.0 q.0 h k p.1 q.1 in
     let status : HasStatus p.0 b = subst (λ (s : State). HasStatus s b) (sym same.0) q.2 in
     (same.1, status_same p.0 a b p.2 status)
 
-pub replay_or_fault : (c : Declarations) (matrix : Matrix) (u : List Move) (h : List Event) (a : Status) (i : ℕ) → PlaysToStatus c matrix u h a → IsInfeasibleAt c matrix u i → ⊥
+pub replay_or_fault : (c : Component) (matrix : Matrix) (u : List Move) (h : List Event) (a : Status) (i : ℕ) → PlaysToStatus c matrix u h a → IsInfeasibleAt c matrix u i → ⊥
 replay_or_fault c matrix u h a i p q = q.5 (plays_on c matrix u p.0 h i q.2 q.0 q.1 p.1 q.4 q.3)
 
 -- an infeasible move is the first one
-not_before : (c : Declarations) (matrix : Matrix) (u : List Move) (i j : ℕ) → IsInfeasibleAt c matrix u i → IsInfeasibleAt c matrix u j → i < j → ⊥
+not_before : (c : Component) (matrix : Matrix) (u : List Move) (i j : ℕ) → IsInfeasibleAt c matrix u i → IsInfeasibleAt c matrix u j → i < j → ⊥
 not_before c matrix u i j p q below =
     let m : Move = p.2 in
     let within : i < length u = slice_get_within u i m p.4 in
@@ -83,7 +83,7 @@ not_before c matrix u i j p q below =
     let first : Plays c matrix (take i (take j u)) p.0 p.1 = rw (take-take i j u (omega arith)) p.3 in
     p.5 (plays_on c matrix (take j u) q.0 q.1 i m p.0 p.1 q.3 at first)
 
-pub one_fault : (c : Declarations) (matrix : Matrix) (u : List Move) (i j : ℕ) → IsInfeasibleAt c matrix u i → IsInfeasibleAt c matrix u j → i ≡ j
+pub one_fault : (c : Component) (matrix : Matrix) (u : List Move) (i j : ℕ) → IsInfeasibleAt c matrix u i → IsInfeasibleAt c matrix u j → i ≡ j
 one_fault c matrix u i j p q =
     elim (cases_lt i j) as (λ _. i ≡ j) [
       | inl below ↦ absurd (not_before c matrix u i j p q below)
@@ -99,13 +99,13 @@ fits_played start u many now history m new None played step range = tt
 fits_played start u many now history m new (Some e) played step range = step_fits now m new e history played.agree step range
 
 -- what is played to the end
-pub played_all : (c : Declarations) (matrix : Matrix) (start : State) (u v : List Move) (many : ℕ) (now : State) (history : List Event) → IsStart c matrix start → u ≡ v → length u ≤ many → IsPlayed start u many now history → Plays c matrix v now history
+pub played_all : (c : Component) (matrix : Matrix) (start : State) (u v : List Move) (many : ℕ) (now : State) (history : List Event) → IsStart c matrix start → u ≡ v → length u ≤ many → IsPlayed start u many now history → Plays c matrix v now history
 played_all c matrix start u v many now history is same all played =
     let whole : take many u ≡ v = take_all many u all ∙ same in
     (start, is, rw (← whole) played.leads)
 
 -- what is played to a move that is not feasible
-pub played_to : (c : Declarations) (matrix : Matrix) (start : State) (u v : List Move) (many : ℕ) (now : State) (history : List Event) (m d : Move) → IsStart c matrix start → u ≡ v → many < length u → m ≡ get_or u many d → IsPlayed start u many now history → (IsFeasible now m → ⊥) → IsInfeasibleAt c matrix v many
+pub played_to : (c : Component) (matrix : Matrix) (start : State) (u v : List Move) (many : ℕ) (now : State) (history : List Event) (m d : Move) → IsStart c matrix start → u ≡ v → many < length u → m ≡ get_or u many d → IsPlayed start u many now history → (IsFeasible now m → ⊥) → IsInfeasibleAt c matrix v many
 played_to c matrix start u v many now history m d is same below read played infeasible =
     let at : slice_get v many ≡ Some m = rw (← same) (slice_get-get_or u many d below ∙ ap (λ (n : Move). Some n) (sym read)) in
     (now, history, m, (start, is, rw (← same) played.leads), at, infeasible)
@@ -143,7 +143,7 @@ some_status s = elim (complete_or_not s) [
   ]
 ]
 
-pub all_replayed : (c : Declarations) (matrix : Matrix) (u : List Move) → Settles c matrix → ((h : List Event) × (a : Status) × PlaysToStatus c matrix u h a) ⊎ ((i : ℕ) × IsInfeasibleAt c matrix u i)
+pub all_replayed : (c : Component) (matrix : Matrix) (u : List Move) → Settles c matrix → ((h : List Event) × (a : Status) × PlaysToStatus c matrix u h a) ⊎ ((i : ℕ) × IsInfeasibleAt c matrix u i)
 all_replayed c matrix u settles = let start = start_there c matrix settles in elim (goes_or_fails start.0 u) [
   | inl (end, h, leads) ↦
       let status = some_status end in

@@ -2,7 +2,7 @@
 use Rattle.std.proofs.Common.{◌≡◌, ℕ, ◌≤◌, List, [], ◌∷◌, ◌++◌, length, refl, sym, ◌∙◌, ap, subst, inl, inr, append_assoc}
 use Rattle.std.specs.Prelude.{Bool, false, IsTrue, ◌↔◌, Option, Some, None, IsSomeAnd}
 use Rattle.std.proofs.lemmas.List.{append-nil}
-use Rattle.lu_component.specs.Component.{Declarations}
+use Rattle.lu_component.specs.Component.{Component}
 use Rattle.lu_test.specs.declared.schedule.Move.{Move}
 use Rattle.lu_test.specs.Matrix.{Matrix}
 use Rattle.lu_machine.specs.declared.event.Event.{Event}
@@ -58,7 +58,7 @@ agrees_along s (m ∷ u) end h k agree p =
 
 -- ---- what was learnt is the one thing that can be
 
-module _ {A : Type 0} (c : Declarations) (matrix : Matrix) (s : State) (is : IsStart c matrix s) (most : ℕ) where
+module _ {A : Type 0} (c : Component) (matrix : Matrix) (s : State) (is : IsStart c matrix s) (most : ℕ) where
   pub learnt_cut : (l : Learnt A) (u : List Move) → IsLearnt s most l → IsFirstCut s most u → l ≡ Cut u
   learnt_cut (Set members) u x y = absurd (x.none u y.0.kind)
   learnt_cut (Cut v) u x y = ap Cut (least_same (IsOffence s most) v u x.0 y.0)
@@ -75,7 +75,7 @@ abbrev status_of : (end : State) → IsEnded end → (status : Status) × HasSta
 status_of end (inl complete) = (status.Complete, complete)
 status_of end (inr stuck) = (status.Stuck, stuck)
 
-module _ (c : Declarations) (matrix : Matrix) (s : State) (is : IsStart c matrix s) (M : List SerialOp → Type 0) (bound : ℕ) (u : List Move) where
+module _ (c : Component) (matrix : Matrix) (s : State) (is : IsStart c matrix s) (M : List SerialOp → Type 0) (bound : ℕ) (u : List Move) where
   -- an infeasible schedule is not bad
   pub infeasible_not_bad : (i : ℕ) (why : Why) → IsInfeasibleAt c matrix u i → IsBadFor M s bound u why → ⊥
   infeasible_not_bad i why at bad =
@@ -146,16 +146,16 @@ shown_against M s bound (Nondeterministic u before earlier) is no_pass = is
 shown_against M s bound (Fail u why) is no_pass = (is.bad, is.why_is)
 shown_against M s bound (Pass counts) is no_pass = no_pass tt
 
-pub report_shown : (c : Declarations) (matrix : Matrix) (bound serial : ℕ) (r : Report) → IsReport c matrix bound serial r → (IsPass r.finding → ⊥) → IsConfirmed c matrix r
+pub report_shown : (c : Component) (matrix : Matrix) (bound serial : ℕ) (r : Report) → IsReport c matrix bound serial r → (IsPass r.finding → ⊥) → IsConfirmed c matrix r
 report_shown c matrix bound serial r is no_pass =
     let shown : IsShownWith c matrix r serial = λ s starts. finding_shown s r.bound serial r.finding (rw is.0 (is.3 s starts)) no_pass in
     (is.2, subst (λ (o : Option ℕ). IsSomeAnd o (IsShownWith c matrix r)) (sym is.1) shown)
 
-pub report_shown_against : (M : List SerialOp → Type 0) (c : Declarations) (matrix : Matrix) (bound : ℕ) (r : Report) → IsReportAgainst M c matrix bound r → (IsPass r.finding → ⊥) → IsConfirmedAgainst M c matrix r
+pub report_shown_against : (M : List SerialOp → Type 0) (c : Component) (matrix : Matrix) (bound : ℕ) (r : Report) → IsReportAgainst M c matrix bound r → (IsPass r.finding → ⊥) → IsConfirmedAgainst M c matrix r
 report_shown_against M c matrix bound r is no_pass = (is.2, is.1, λ s starts. shown_against M s r.bound r.finding (rw is.0 (is.3 s starts)) no_pass)
 
 -- what is shown from the one start, with the report's bounds, is confirmed
-module _ (c : Declarations) (matrix : Matrix) (r : Report) (bound : ℕ) (f : Finding) (answer : Bool) (b : bound ≡ r.bound) (g : f ≡ r.finding) (start : State) (first : IsStart c matrix start) where
+module _ (c : Component) (matrix : Matrix) (r : Report) (bound : ℕ) (f : Finding) (answer : Bool) (b : bound ≡ r.bound) (g : f ≡ r.finding) (start : State) (first : IsStart c matrix start) where
   pub shown_from : (serial : ℕ) → IsTrue answer ↔ IsShown start bound serial f → IsTrue answer ↔ IsShownWith c matrix r serial
   shown_from serial h = (
     λ e s starts. (let same : s ≡ start = start_same c matrix s start starts first in rw (same, ← b, ← g) (h.0 e)),
@@ -168,7 +168,7 @@ module _ (c : Declarations) (matrix : Matrix) (r : Report) (bound : ℕ) (f : Fi
     λ is. h.1 (rw (b, g) (is.2 start first)),
   )
 
-module _ (c : Declarations) (matrix : Matrix) (r : Report) where
+module _ (c : Component) (matrix : Matrix) (r : Report) where
   pub confirmed_with : (serial : ℕ) (answer : Bool) → r.local ≡ c.local → r.serial ≡ Some serial → IsTrue answer ↔ IsShownWith c matrix r serial → IsTrue answer ↔ IsConfirmed c matrix r
   confirmed_with serial answer same is h = (
     λ e. (same, subst (λ (o : Option ℕ). IsSomeAnd o (IsShownWith c matrix r)) (sym is) (h.0 e)),

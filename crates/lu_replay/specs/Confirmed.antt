@@ -1,6 +1,6 @@
 -- Reports that a run confirms.
 use Rattle.std.specs.Prelude.{◌≡◌, ◌↔◌, ℕ, Bool, List, None, Result, IsSomeAnd, IsTrue, IfOk}
-use Rattle.lu_component.specs.Component.{Declarations}
+use Rattle.lu_component.specs.Component.{Component}
 use Rattle.lu_test.specs.declared.schedule.Move.{Move}
 use Rattle.lu_test.specs.Matrix.{Matrix}
 use Rattle.lu_machine.specs.declared.event.Status.{Status}
@@ -39,12 +39,12 @@ IsShown s bound serial (Fail u why) =
 IsShown s bound serial (Pass counts) = ⊥
 
 -- what it says with this bound of serial runs is shown
-abbrev pub IsShownWith : Declarations → Matrix → Report → ℕ → Type 0
+abbrev pub IsShownWith : Component → Matrix → Report → ℕ → Type 0
 IsShownWith c matrix r serial = FromEachStart c matrix (λ s. IsShown s r.bound serial r.finding)
 
 -- as many local instructions of the component run with one move as the report says; it has a bound
 -- of serial runs; and what else it says is shown, with its own bounds
-abbrev pub IsConfirmed : Declarations → Matrix → Report → Type 0
+abbrev pub IsConfirmed : Component → Matrix → Report → Type 0
 IsConfirmed c matrix r = (r.local ≡ c.local) × IsSomeAnd r.serial (IsShownWith c matrix r)
 
 -- ---- against a specification
@@ -59,7 +59,7 @@ IsShownAgainst Set s bound (Pass counts) = ⊥
 
 -- the report is one against a specification, with as many local instructions as the component has,
 -- and what it says is shown against this set, with its own bound
-abbrev pub IsConfirmedAgainst : (List SerialOp → Type 0) → Declarations → Matrix → Report → Type 0
+abbrev pub IsConfirmedAgainst : (List SerialOp → Type 0) → Component → Matrix → Report → Type 0
 IsConfirmedAgainst Set c matrix r =
     (r.local ≡ c.local) × (r.serial ≡ None)
     × FromEachStart c matrix (λ s. IsShownAgainst Set s r.bound r.finding)
@@ -102,7 +102,7 @@ SaysShownBy test members bound f result =
     FromEachStartOf test (λ s. SaysWhether result (IsShownAgainst (IsMember members) s bound f))
 
 -- whether the report is confirmed against the set with these members
-abbrev pub SaysConfirmedAgainst : {E : Type 0} → Declarations → Matrix → List (List SerialOp)
+abbrev pub SaysConfirmedAgainst : {E : Type 0} → Component → Matrix → List (List SerialOp)
     → Report → Result Bool E → Type 0
 SaysConfirmedAgainst c matrix members r result =
     SaysWhether result (IsConfirmedAgainst (IsMember members) c matrix r)

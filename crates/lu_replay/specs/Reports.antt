@@ -1,6 +1,6 @@
 -- The report of a component and a matrix (Burckhardt, Dern, Musuvathi and Tan, 2010).
 use Rattle.std.specs.Prelude.{◌≡◌, ℕ, List, Some, None}
-use Rattle.lu_component.specs.Component.{Declarations}
+use Rattle.lu_component.specs.Component.{Component}
 use Rattle.lu_test.specs.Matrix.{Matrix}
 use Rattle.lu_machine.specs.States.{State}
 use Rattle.lu_machine.specs.Starts.{FromEachStart}
@@ -35,7 +35,7 @@ IsLearntOffence learnt finding =
 
 -- r is the report of the component and the matrix with these bounds; it says how many of the
 -- component's local instructions run with one move
-abbrev pub IsReport : Declarations → Matrix → ℕ → ℕ → Report → Type 0
+abbrev pub IsReport : Component → Matrix → ℕ → ℕ → Report → Type 0
 IsReport c matrix bound serial r =
     (r.bound ≡ bound) × (r.serial ≡ Some serial) × (r.local ≡ c.local)
     × FromEachStart c matrix (λ s. IsFinding s bound serial r.finding)
@@ -51,7 +51,7 @@ IsFindingAgainst Set s bound (Fail u why) = IsFirstBad Set s bound Any u why
 IsFindingAgainst Set s bound (Pass counts) = AreAllGood Set s bound Any counts
 
 -- r is the report of the component and the matrix against this set, with this bound
-abbrev pub IsReportAgainst : (List SerialOp → Type 0) → Declarations → Matrix → ℕ → Report → Type 0
+abbrev pub IsReportAgainst : (List SerialOp → Type 0) → Component → Matrix → ℕ → Report → Type 0
 IsReportAgainst Set c matrix bound r =
     (r.bound ≡ bound) × (r.serial ≡ None) × (r.local ≡ c.local)
     × FromEachStart c matrix (λ s. IsFindingAgainst Set s bound r.finding)

@@ -21,7 +21,7 @@ use Rattle.lu_report.specs.Parts.{AreLimits, IsJudgement, IsSerialBound, IsThrea
 use Rattle.lu_report.specs.Text.{number_line, earlier_line, fail_line, finding_lines, version_of, version_line, serial_lines, local_lines}
 use Rattle.lu_text.specs.Lines.{kept_lines}
 use Rattle.lu_history.specs.Serial.{IsOutcome}
-use Rattle.lu_report.specs.Forms.{AreBeforeLines, AreNone, IsEarlierLine, AreBehind, AreBounded, AreConflict, AreCountLines, AreCounts, AreCut, AreEarlier, AreFinding, AreJudgement, AreLocal, AreReport, AreRun, AreStuck, IsLineThen, Cuts, HasNo, IsBehind, IsFirst, IsNumberLine, IsScheduleLine, IsSoundFinding, IsVersionLine, SaysNumber, Spells, Stops, StopsAt}
+use Rattle.lu_report.specs.Forms.{AreBeforeLines, AreNone, IsEarlierLine, AreAfter, AreBounded, AreConflict, AreCountLines, AreCounts, AreCut, AreEarlier, AreFinding, AreJudgement, AreLocal, AreReport, AreRun, AreStuck, IsLineThen, Cuts, HasNo, IsBehind, IsFirst, IsNumberLine, IsScheduleLine, IsSoundFinding, IsVersionLine, SaysNumber, Spells, Stops, StopsAt}
 use Rattle.std.specs.Fmt.{decimal}
 use Rattle.std.proofs.lemmas.Fmt.{decimal_injective}
 use Rattle.std.proofs.lemmas.List.{append_assoc, append_cancel_left, append_cancel_right}
@@ -253,11 +253,11 @@ version_same Three Three e = refl
 abbrev bound_line : ℕ → List ℕ
 bound_line n = number_line (codes "bound ") n
 
--- the lines behind the bound
+-- the lines after the bound
 abbrev behind : Version → Option ℕ → ℕ → Finding → List (List ℕ)
 behind version serial local f = serial_lines serial ++ (local_lines version local ++ finding_lines f)
 
--- a report's lines behind the first
+-- a report's lines after the first
 record AreRest (version : Version) (t : List (List ℕ)) : Type 0 where
   report : Report
   limits : AreLimits report
@@ -278,24 +278,24 @@ rest_of version t are =
       lines = subst (λ (v : Version). t ≡ bound_line are.0.bound ∷ behind v are.0.serial are.0.local are.0.finding) (sym is) (let f = are.3 in cc);
     }
 
-behind_back : (version : Version) (serial : Option ℕ) (local : ℕ) (f : Finding) → version ≡ version_of serial local → IfSome serial IsSerialBound → local ≤ 16 → IsSoundFinding f → IfNone serial (IsJudgement f)
-    → AreBehind version (behind version serial local f)
-behind_back One (Some n) zero f e some low is judged = ((n, some.0, some.1, refl), (f, is, refl))
-behind_back Two (Some n) (suc k) f e some low is judged = ((n, some.0, some.1, refl), ((suc k, omega arith, low, refl), (f, is, refl)))
-behind_back Three None local f e some low is judged = ((local, omega arith, low, refl), (f, (is, judged), refl))
-behind_back One None local f e some low is judged = absurd cc
-behind_back One (Some n) (suc k) f e some low is judged = absurd cc
-behind_back Two None local f e some low is judged = absurd cc
-behind_back Two (Some n) zero f e some low is judged = absurd cc
-behind_back Three (Some n) zero f e some low is judged = absurd cc
-behind_back Three (Some n) (suc k) f e some low is judged = absurd cc
+after_back : (version : Version) (serial : Option ℕ) (local : ℕ) (f : Finding) → version ≡ version_of serial local → IfSome serial IsSerialBound → local ≤ 16 → IsSoundFinding f → IfNone serial (IsJudgement f)
+    → AreAfter version (behind version serial local f)
+after_back One (Some n) zero f e some low is judged = ((n, some.0, some.1, refl), (f, is, refl))
+after_back Two (Some n) (suc k) f e some low is judged = ((n, some.0, some.1, refl), ((suc k, omega arith, low, refl), (f, is, refl)))
+after_back Three None local f e some low is judged = ((local, omega arith, low, refl), (f, (is, judged), refl))
+after_back One None local f e some low is judged = absurd cc
+after_back One (Some n) (suc k) f e some low is judged = absurd cc
+after_back Two None local f e some low is judged = absurd cc
+after_back Two (Some n) zero f e some low is judged = absurd cc
+after_back Three (Some n) zero f e some low is judged = absurd cc
+after_back Three (Some n) (suc k) f e some low is judged = absurd cc
 
 pub bounded_back : (version : Version) (t : List (List ℕ)) → AreReport (version_line version ∷ t) → AreBounded version t
 bounded_back version t are =
     let rest = rest_of version t are in
     let r = rest.report in
     subst (AreBounded version) (sym rest.lines)
-    ((r.bound, omega arith, rest.limits.most, refl), behind_back version r.serial r.local r.finding rest.is rest.limits.serial rest.limits.local_few rest.sound rest.limits.judged)
+    ((r.bound, omega arith, rest.limits.most, refl), after_back version r.serial r.local r.finding rest.is rest.limits.serial rest.limits.local_few rest.sound rest.limits.judged)
 
 limits_of : (bound : ℕ) (serial : Option ℕ) (local : ℕ) (f : Finding) → bound ≤ 256 → IfSome serial IsSerialBound → local ≤ 16 → IsSoundFinding f → IfNone serial (IsJudgement f) → AreLimits (parts_of bound serial local f)
 limits_of bound serial local f most some low is judged = record { most = most; serial = some; local_few = low; within = is.0; judged = judged }
@@ -326,31 +326,31 @@ bounded_into Three (b ∷ l ∷ t) are =
 pub a_local : (t : List (List ℕ)) × AreLocal t
 a_local = (number_line (codes "local ") 1 ∷ a_finding.0, ((1, omega arith, omega arith, refl), a_finding.1))
 
-pub some_behind : (version : Version) → (t : List (List ℕ)) × AreBehind version t
-some_behind One = (number_line (codes "serial ") 1 ∷ a_finding.0, ((1, omega arith, omega arith, refl), a_finding.1))
-some_behind Two = (number_line (codes "serial ") 1 ∷ a_local.0, ((1, omega arith, omega arith, refl), a_local.1))
-some_behind Three = (number_line (codes "local ") 0 ∷ a_judgement.0, ((0, omega arith, omega arith, refl), a_judgement.1))
+pub some_after : (version : Version) → (t : List (List ℕ)) × AreAfter version t
+some_after One = (number_line (codes "serial ") 1 ∷ a_finding.0, ((1, omega arith, omega arith, refl), a_finding.1))
+some_after Two = (number_line (codes "serial ") 1 ∷ a_local.0, ((1, omega arith, omega arith, refl), a_local.1))
+some_after Three = (number_line (codes "local ") 0 ∷ a_judgement.0, ((0, omega arith, omega arith, refl), a_judgement.1))
 
 module _ (text : List ℕ) (e : Unread) where
   pub report_version : HasNo IsVersionLine text e → Stops AreReport text e
   report_version none = go e none
     where
-      some : AreReport (version_line One ∷ bound_line 0 ∷ (some_behind One).0)
-      some = bounded_into One _ ((0, omega arith, omega arith, refl), (some_behind One).1)
+      some : AreReport (version_line One ∷ bound_line 0 ∷ (some_after One).0)
+      some = bounded_into One _ ((0, omega arith, omega arith, refl), (some_after One).1)
 
       go : (e : Unread) → HasNo IsVersionLine text e → Stops AreReport text e
       go Exhausted none = tt
       go (From rest) none = rw none.0 (at_once AreReport text _ some (λ t are e. none.1 _ (version_of are.0.serial are.0.local, refl) (sym e ∙ ap (take 1) are.3)))
 
   module _ (version : Version) (first : List ℕ) (kept : Cuts text (version_line version) first) where
-    behind_version : Stops (AreBounded version) first e → Stops AreReport text e
-    behind_version s = later AreReport (AreBounded version) text first (version_line version) kept (bounded_into version) (bounded_back version) e s
+    after_version : Stops (AreBounded version) first e → Stops AreReport text e
+    after_version s = later AreReport (AreBounded version) text first (version_line version) kept (bounded_into version) (bounded_back version) e s
 
     pub report_bound : HasNo (IsNumberLine (codes "bound ") 0 256) first e → Stops AreReport text e
-    report_bound none = behind_version (no_number (codes "bound ") 0 256 (AreBehind version) first e (omega arith) (some_behind version) none)
+    report_bound none = after_version (no_number (codes "bound ") 0 256 (AreAfter version) first e (omega arith) (some_after version) none)
 
-    pub report_behind : (bound : ℕ) (rest : List ℕ) → SaysNumber (codes "bound ") 0 256 first bound rest → Stops (AreBehind version) rest e → Stops AreReport text e
-    report_behind bound rest says s = behind_version (past_number (codes "bound ") 0 256 (AreBehind version) first e rest bound says s)
+    pub report_after : (bound : ℕ) (rest : List ℕ) → SaysNumber (codes "bound ") 0 256 first bound rest → Stops (AreAfter version) rest e → Stops AreReport text e
+    report_after bound rest says s = after_version (past_number (codes "bound ") 0 256 (AreAfter version) first e rest bound says s)
 
 -- the report that is read is spelled
 pub spelt : (version : Version) (bound : ℕ) (text first rest : List ℕ) (r : Report) → Cuts text (version_line version) first → SaysNumber (codes "bound ") 0 256 first bound rest → IsBehind version bound rest r → Spells text r

@@ -58,7 +58,7 @@ behind Texts (line ∷ front) lines n d =
     let e : n + length front + 1 ≡ n + length (line ∷ front) = omega arith in
     subst (DiffersAt Texts (line ∷ (front ++ lines))) e (deeper Texts line (front ++ lines) (n + length front) rest)
 
--- those of the form differ at the line behind the front where the reader stops
+-- those of the form differ at the line after the front where the reader stops
 pub differs : (Texts : List (List ℕ) → Type 0) (text rest : List ℕ) (s : StopsAt Texts text rest) → DiffersAt Texts (kept_lines text) (0 + length s.front)
 differs Texts text rest s =
     let here : DiffersAt (λ t. Texts (s.front ++ t)) (kept_lines rest) 0 = record { before = (s.other, s.is, refl); there = s.none } in
@@ -70,7 +70,7 @@ differs Texts text rest s =
 pub at_once : (Texts : List (List ℕ) → Type 0) (text : List ℕ) (other : List (List ℕ)) → Texts other → ((t : List (List ℕ)) → Texts t → take 1 t ≡ take 1 (kept_lines text) → ⊥) → StopsAt Texts text text
 at_once Texts text other is none = record { front = []; whole = refl; other = other; is = is; none = none }
 
--- where the reader of the lines behind this one stops
+-- where the reader of the lines after this one stops
 pub later : (Texts Tails : List (List ℕ) → Type 0) (text rest line : List ℕ) → kept_lines text ≡ line ∷ kept_lines rest
     → ((t : List (List ℕ)) → Tails t → Texts (line ∷ t)) → ((t : List (List ℕ)) → Texts (line ∷ t) → Tails t) → (e : Unread) → Stops Tails rest e → Stops Texts text e
 later Texts Tails text rest line kept into back (From last) s = record {
@@ -92,6 +92,6 @@ module _ (IsHead : List ℕ → Type 0) (AreTail : List (List ℕ) → Type 0) (
       no_head (x ∷ u) begins e = none.1 x begins.0 (sym e)
   at_head head tail Exhausted none = tt
 
-  -- behind the head
+  -- after the head
   pub in_tail : (rest line : List ℕ) → IsHead line → kept_lines text ≡ line ∷ kept_lines rest → (e : Unread) → Stops AreTail rest e → Stops (IsLineThen IsHead AreTail) text e
   in_tail rest line is kept e s = later (IsLineThen IsHead AreTail) AreTail text rest line kept (λ t are. (is, are)) (λ t are. are.1) e s

@@ -21,23 +21,23 @@ use Rattle.lu_report.specs.declared.version.Version.TheVariants.{One, Two, Three
 use Rattle.lu_report.specs.Parts.{IsThreadOf}
 use Rattle.lu_report.specs.Text.{fail_line, finding_lines, number_line, version_line, version_of}
 use Rattle.lu_report.specs.Forms.{AreBeforeLines, AreBounded, AreConflict, AreCountLines, AreCut, AreEarlier, AreFinding, AreJudgement, AreLocal, AreNone, AreReport, AreRun, AreStuck, IsLineThen, DiffersAt, IsNumberLine, IsVersionLine, Spells}
-use Rattle.lu_report.specs.EveryLine.{AreFaultsFrom, AreReportFaults, IsFindingLine, IsJudgedAs, IsJudgementLine, IsLineOf, behind_finding, fault_on, missing, next_form, next_wanted, version_by}
+use Rattle.lu_report.specs.EveryLine.{AreFaultsFrom, AreReportFaults, IsFindingLine, IsJudgedAs, IsJudgementLine, IsLineOf, after_finding, fault_on, missing, next_form, next_wanted, version_by}
 use Rattle.lu_report.specs.Laws.{IsToldAsRead}
 use Rattle.lu_report.proofs.Faulty.{deeper}
-use Rattle.lu_report.proofs.Exits.{a_before, a_cut, a_finding, a_judgement, a_local, a_stuck, an_earlier, bounded_back, bounded_into, conflict_found, conflict_only, counts_found, cut_only, fail_only, no_schedule, nothing, pass_only, run_found, some_behind}
+use Rattle.lu_report.proofs.Exits.{a_before, a_cut, a_finding, a_judgement, a_local, a_stuck, an_earlier, bounded_back, bounded_into, conflict_found, conflict_only, counts_found, cut_only, fail_only, no_schedule, nothing, pass_only, run_found, some_after}
 use Rattle.lu_report.proofs.OneText.{report_again}
 
 -- ---- the lines from one of a form on
 
-abbrev behind_serial : Version → List (List ℕ) → Type 0
-behind_serial One lines = AreFinding lines
-behind_serial Two lines = AreLocal lines
-behind_serial Three lines = AreLocal lines
+abbrev after_serial : Version → List (List ℕ) → Type 0
+after_serial One lines = AreFinding lines
+after_serial Two lines = AreLocal lines
+after_serial Three lines = AreLocal lines
 
 abbrev AreOf : Version → LineForm → List (List ℕ) → Type 0
 AreOf v form.Version lines = IsLineThen IsVersionLine (AreBounded v) lines
 AreOf v form.Bound lines = AreBounded v lines
-AreOf v form.Serial lines = IsLineThen (IsNumberLine (codes "serial ") 1 256) (behind_serial v) lines
+AreOf v form.Serial lines = IsLineThen (IsNumberLine (codes "serial ") 1 256) (after_serial v) lines
 AreOf v form.Local lines = AreLocal lines
 AreOf v form.AnyLocal lines = IsLineThen (IsNumberLine (codes "local ") 0 16) AreJudgement lines
 AreOf v form.Finding lines = AreFinding lines
@@ -51,7 +51,7 @@ AreOf v form.Stuck lines = AreStuck lines
 AreOf v form.Cut lines = AreCut lines
 AreOf v form.End lines = AreNone lines
 
--- a line of the form, and the lines behind it
+-- a line of the form, and the lines after it
 record GoesOn (v : Version) (wanted : LineForm) (line : List ℕ) : Type 0 where
   next : LineForm
   is : next_form v wanted line ≡ Some next
@@ -77,9 +77,9 @@ finding_head line t (Nondeterministic u before earlier, is, e) = inr (inl cc)
 finding_head line t (Fail u w, is, e) = inr (inr (inr (w, is.0, cc)))
 finding_head line t (Pass counts, is, e) = inr (inr (inl cc))
 
-behind_fail : (w : Why) → behind_finding (fail_line w) ≡ Some form.Schedule
-behind_fail why.Complete = refl
-behind_fail (why.Stuck t) = refl
+after_fail : (w : Why) → after_finding (fail_line w) ≡ Some form.Schedule
+after_fail why.Complete = refl
+after_fail (why.Stuck t) = refl
 
 module _ (v : Version) where
   unfold_pass : GoesOn v form.Judgement (codes "pass\n")
@@ -93,7 +93,7 @@ module _ (v : Version) where
   unfold_fail : (w : Why) → IsThreadOf w → GoesOn v form.Judgement (fail_line w)
   unfold_fail w is = record {
     next = form.Schedule;
-    is = behind_fail w;
+    is = after_fail w;
     into = λ t are. let c = run_found t are in (Fail c.0 w, ((is, c.1), tt), ap (λ (x : List (List ℕ)). fail_line w ∷ x) c.2);
     back = λ t are. fail_only w t are.0 are.1.0 are.2;
   }
@@ -129,7 +129,7 @@ module _ (v : Version) where
   find_fail : (w : Why) → IsThreadOf w → GoesOn v form.Finding (fail_line w)
   find_fail w is = record {
     next = form.Schedule;
-    is = behind_fail w;
+    is = after_fail w;
     into = λ t are. let c = run_found t are in (Fail c.0 w, (is, c.1), ap (λ (x : List (List ℕ)). fail_line w ∷ x) c.2);
     back = λ t are. fail_only w t are.0 are.1 are.2;
   }
@@ -158,7 +158,7 @@ serial_on Two line is = record { next = form.Local; is = refl; into = λ t are. 
 serial_on Three line is = record { next = form.Local; is = refl; into = λ t are. (is, are); back = λ t are. are.1 }
 
 some_bounded : (v : Version) → (t : List (List ℕ)) × AreBounded v t
-some_bounded v = (number_line (codes "bound ") 0 ∷ (some_behind v).0, ((0, omega arith, omega arith, refl), (some_behind v).1))
+some_bounded v = (number_line (codes "bound ") 0 ∷ (some_after v).0, ((0, omega arith, omega arith, refl), (some_after v).1))
 
 step : (v : Version) (wanted : LineForm) → IsStep v wanted
 step v form.Version = record {
@@ -265,11 +265,11 @@ at_end v n form.Stuck = (0, omega arith, here _ [] (step v form.Stuck).some (no_
 at_end v n form.Cut = (0, omega arith, here _ [] (step v form.Cut).some (no_more _ (λ are. are)))
 at_end v n form.End = refl
 
--- behind a line that these texts have
-behind_line : (Texts Tails : List (List ℕ) → Type 0) (n : ℕ) (line : List ℕ) (lines : List (List ℕ)) (faults : List ReportLineFault) → ((t : List (List ℕ)) → Tails t → Texts (line ∷ t)) → ((t : List (List ℕ)) → Texts (line ∷ t) → Tails t)
+-- after a line that these texts have
+after_line : (Texts Tails : List (List ℕ) → Type 0) (n : ℕ) (line : List ℕ) (lines : List (List ℕ)) (faults : List ReportLineFault) → ((t : List (List ℕ)) → Tails t → Texts (line ∷ t)) → ((t : List (List ℕ)) → Texts (line ∷ t) → Tails t)
     → Told Tails (n + 1) lines faults → Told Texts n (line ∷ lines) faults
-behind_line Texts Tails n line lines [] into back are = into lines are
-behind_line Texts Tails n line lines (first ∷ others) into back (k, is, differs) =
+after_line Texts Tails n line lines [] into back are = into lines are
+after_line Texts Tails n line lines (first ∷ others) into back (k, is, differs) =
     let tails : DiffersAt (λ t. Texts (line ∷ t)) lines k = record {
       before = (differs.before.0, into differs.before.0 differs.before.1, differs.before.2);
       there = λ t are e. differs.there t (back t are) e;
@@ -287,7 +287,7 @@ told_from v (line ∷ lines) n wanted faults (fault, others, judged, from, is) =
     by_fault None right from again =
         let on = (step v wanted).on line right in
         let rest : AreFaultsFrom v (n + 1) lines (Some on.next) others = subst (λ (x : Option LineForm). AreFaultsFrom v (n + 1) lines x others) on.is from in
-        behind_line (AreOf v wanted) (AreOf v on.next) n line lines others on.into on.back (again on.next rest)
+        after_line (AreOf v wanted) (AreOf v on.next) n line lines others on.into on.back (again on.next rest)
     by_fault (Some f) (wrong, here_is) from again =
         let number : f.line ≡ n = ap (λ (x : ReportLineFault). x.line) here_is in
         (0, omega (arith, number), here (AreOf v wanted) (line ∷ lines) (step v wanted).some (other_head (AreOf v wanted) line lines (λ t are. wrong ((step v wanted).head line t are))))
@@ -316,7 +316,7 @@ told_lines (first ∷ lines) faults (fault, others, judged, from, is) = subst (T
         let version : version_by (first ∷ lines) ≡ w = ap (λ (x : List ℕ). version_by (x ∷ lines)) line_is ∙ version_says w lines in
         let rest : AreFaultsFrom w 2 lines (Some form.Bound) others = subst (λ (x : Version). AreFaultsFrom x 2 lines (Some form.Bound) others) version from in
         let told = told_from w lines 2 form.Bound others rest in
-        subst (λ (x : List ℕ). Told AreReport 1 (x ∷ lines) others) (sym line_is) (behind_line AreReport (AreBounded w) 1 (version_line w) lines others (bounded_into w) (bounded_back w) told)
+        subst (λ (x : List ℕ). Told AreReport 1 (x ∷ lines) others) (sym line_is) (after_line AreReport (AreBounded w) 1 (version_line w) lines others (bounded_into w) (bounded_back w) told)
     by_fault (Some f) (wrong, here_is) =
         let number : f.line ≡ 1 = ap (λ (x : ReportLineFault). x.line) here_is in
         (0, omega (arith, number), here AreReport (first ∷ lines) a_report (other_head AreReport first lines (λ t are. wrong (report_head first t are))))

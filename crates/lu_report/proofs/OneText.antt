@@ -28,7 +28,7 @@ use Rattle.lu_text.specs.declared.fault.Fault.{Fault}
 use Rattle.lu_text.specs.declared.fault.Fault.TheVariants.{At, Memory}
 use Rattle.lu_report.specs.declared.fault.ReportFaultKind.{ReportFaultKind}
 use Rattle.lu_report.specs.declared.fault.ReportFaultKind.TheVariants.{Form}
-use Rattle.lu_report.specs.Parts.{Parts, AreLimits, IsSerialBound, IsThreadOf, parts_of}
+use Rattle.lu_report.specs.Parts.{Report as AReport, AreLimits, IsSerialBound, IsThreadOf, parts_of}
 use Rattle.lu_report.specs.Text.{number_line, earlier_line, fail_line, finding_lines, version_of, version_line, serial_lines, local_lines, report_lines, report_text}
 use Rattle.lu_text.specs.Lines.{kept_lines}
 use Rattle.lu_history.specs.Serial.{IsOutcome}
@@ -198,7 +198,7 @@ finding_same (Pass a) (Pass b) is also e =
     (same_number (codes "stuck ") a.stuck b.stuck is.1.stuck also.1.stuck (ap (line_at 2) e))
     (same_number (codes "cut ") a.cut b.cut is.1.cut also.1.cut (ap (line_at 3) e)))
 
--- the lines of the bound of serial runs, and those behind them
+-- the lines of the bound of serial runs, and those after them
 serials_same : (a b : Option ℕ) (m n : ℕ) (t u : List (List ℕ)) → IfSome a IsSerialBound → IfSome b IsSerialBound → version_of a m ≡ version_of b n → serial_lines a ++ t ≡ serial_lines b ++ u → (a ≡ b) × (t ≡ u)
 serials_same None None m n t u some also is e = (refl, e)
 serials_same None (Some y) m zero t u some also is e = absurd cc
@@ -223,13 +223,13 @@ local_back Two (Some n) zero e low = absurd cc
 local_back Two (Some n) (suc k) e low = (omega arith, low)
 local_back Three serial local e low = low
 
--- the lines of local instructions, and those behind them
+-- the lines of local instructions, and those after them
 locals_same : (version : Version) (a b : ℕ) (t u : List (List ℕ)) → a ≤ 16 → b ≤ 16 → IsLocalOf version a → IsLocalOf version b → local_lines version a ++ t ≡ local_lines version b ++ u → (a ≡ b) × (t ≡ u)
 locals_same One a b t u low less is also e = (is ∙ sym also, e)
 locals_same Two a b t u low less is also e = (same_number (codes "local ") a b (omega arith) (omega arith) (ap (line_at 0) e), ap (λ (x : List (List ℕ)). drop 1 x) e)
 locals_same Three a b t u low less is also e = (same_number (codes "local ") a b (omega arith) (omega arith) (ap (line_at 0) e), ap (λ (x : List (List ℕ)). drop 1 x) e)
 
-pub same_parts : (a b : Parts) → a.bound ≡ b.bound → a.serial ≡ b.serial → a.local ≡ b.local → a.finding ≡ b.finding → a ≡ b
+pub same_parts : (a b : AReport) → a.bound ≡ b.bound → a.serial ≡ b.serial → a.local ≡ b.local → a.finding ≡ b.finding → a ≡ b
 same_parts a b e f g h =
     ap (λ (x : ℕ). parts_of x a.serial a.local a.finding) e
     ∙ (ap (λ (x : Option ℕ). parts_of b.bound x a.local a.finding) f

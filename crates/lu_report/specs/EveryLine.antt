@@ -19,7 +19,7 @@ abbrev pub IsFindingLine : List ℕ → Type 0
 IsFindingLine line =
     (line ≡ codes "serial-cut\n") ⊎ ((line ≡ codes "nondeterministic\n") ⊎ IsJudgementLine line)
 
--- a line of this form; none stands behind the end
+-- a line of this form; none stands after the end
 abbrev pub IsLineOf : LineForm → List ℕ → Type 0
 IsLineOf form.Version line = IsVersionLine line
 IsLineOf form.Bound line = IsNumberLine (codes "bound ") 0 most_moves line
@@ -43,33 +43,33 @@ IsLineOf form.End line = ⊥
 abbrev pub begins : List ℕ → List ℕ → Bool
 begins front line = starts_with (λ a b. a == b) line front
 
--- behind a finding, as its first word says; of another word the next line is not known
-abbrev pub behind_finding : List ℕ → Option LineForm
-behind_finding line =
+-- after a finding, as its first word says; of another word the next line is not known
+abbrev pub after_finding : List ℕ → Option LineForm
+after_finding line =
     if begins (codes "pass") line then Some form.Complete
     else (if begins (codes "fail") line then Some form.Schedule
     else (if begins (codes "serial-cut") line then Some form.Schedule
     else (if begins (codes "nondeterministic") line then Some form.ConflictSchedule else None)))
 
-abbrev pub behind_bound : Version → LineForm
-behind_bound One = form.Serial
-behind_bound Two = form.Serial
-behind_bound Three = form.AnyLocal
+abbrev pub after_bound : Version → LineForm
+after_bound One = form.Serial
+after_bound Two = form.Serial
+after_bound Three = form.AnyLocal
 
-abbrev pub behind_serial : Version → LineForm
-behind_serial One = form.Finding
-behind_serial Two = form.Local
-behind_serial Three = form.Local
+abbrev pub after_serial : Version → LineForm
+after_serial One = form.Finding
+after_serial Two = form.Local
+after_serial Three = form.Local
 
--- behind a line that is to be of this form, be it so or not
+-- after a line that is to be of this form, be it so or not
 abbrev pub next_form : Version → LineForm → List ℕ → Option LineForm
 next_form version form.Version line = Some form.Bound
-next_form version form.Bound line = Some (behind_bound version)
-next_form version form.Serial line = Some (behind_serial version)
+next_form version form.Bound line = Some (after_bound version)
+next_form version form.Serial line = Some (after_serial version)
 next_form version form.Local line = Some form.Finding
 next_form version form.AnyLocal line = Some form.Judgement
-next_form version form.Finding line = behind_finding line
-next_form version form.Judgement line = behind_finding line
+next_form version form.Finding line = after_finding line
+next_form version form.Judgement line = after_finding line
 next_form version form.Schedule line = Some form.End
 next_form version form.ConflictSchedule line = Some form.Before
 next_form version form.Before line = Some form.Earlier
@@ -116,7 +116,7 @@ missing n (Some form.End) = []
 missing n (Some wanted) = fault_on n wanted ∷ []
 
 -- these are the faults of the lines, of which the first is line n and to be of this form, in a
--- report of this version; nothing is known behind a line that stands behind the end
+-- report of this version; nothing is known after a line that stands after the end
 abbrev pub AreFaultsFrom : Version → ℕ → List (List ℕ) → Option LineForm → List ReportLineFault
     → Type 0
 AreFaultsFrom version n [] wanted faults = faults ≡ missing n wanted

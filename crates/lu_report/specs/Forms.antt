@@ -61,7 +61,7 @@ pub record DiffersAt (Texts : List (List ℕ) → Type 0) (lines : List (List �
   pub there : (other : List (List ℕ)) → Texts other → take (n + 1) other ≡ take (n + 1) lines → ⊥
 
 -- The fault of a text: the number of the first line at which all reports' texts differ, after the
--- same lines before it. Want of memory can come with any text.
+-- same lines before it. Memory was refused can come with any text.
 abbrev pub IsFault : List ℕ → Fault ReportFaultKind → Type 0
 IsFault text (At kind line) = (n : ℕ) × (line ≡ 1 + n) × DiffersAt AreReport (kept_lines text) n
 IsFault text Memory = Unit {0}
@@ -73,7 +73,7 @@ GivesReport (Err fault) r = fault ≡ Memory
 
 -- ---- lines
 
--- a number within these limits behind this front
+-- a number within these limits after this front
 abbrev pub IsNumberLine : List ℕ → ℕ → ℕ → List ℕ → Type 0
 IsNumberLine front least most line =
     (n : ℕ) × (least ≤ n) × (n ≤ most) × (line ≡ number_line front n)
@@ -100,7 +100,7 @@ IsFailLine line = (why : Why) × IsThreadOf why × (line ≡ fail_line why)
 abbrev pub AreNone : List (List ℕ) → Type 0
 AreNone lines = lines ≡ []
 
--- one of these lines, and such lines behind it
+-- one of these lines, and such lines after it
 abbrev pub IsLineThen : (List ℕ → Type 0) → (List (List ℕ) → Type 0) → List (List ℕ) → Type 0
 IsLineThen IsHead AreTail [] = ⊥
 IsLineThen IsHead AreTail (line ∷ lines) = IsHead line × AreTail lines
@@ -133,19 +133,19 @@ AreCountLines lines = IsLineThen (IsNumberLine (codes "complete ") 0 (2 ^ 64 - 1
 abbrev pub AreJudgement : List (List ℕ) → Type 0
 AreJudgement lines = (f : Finding) × (IsSoundFinding f × IsJudgement f) × (lines ≡ finding_lines f)
 
--- the lines behind that of the bound in a report of this version
+-- the lines after that of the bound in a report of this version
 abbrev pub AreLocal : List (List ℕ) → Type 0
 AreLocal lines = IsLineThen (IsNumberLine (codes "local ") 1 16) AreFinding lines
 
-abbrev pub AreBehind : Version → List (List ℕ) → Type 0
-AreBehind One lines = IsLineThen (IsNumberLine (codes "serial ") 1 most_moves) AreFinding lines
-AreBehind Two lines = IsLineThen (IsNumberLine (codes "serial ") 1 most_moves) AreLocal lines
-AreBehind Three lines = IsLineThen (IsNumberLine (codes "local ") 0 16) AreJudgement lines
+abbrev pub AreAfter : Version → List (List ℕ) → Type 0
+AreAfter One lines = IsLineThen (IsNumberLine (codes "serial ") 1 most_moves) AreFinding lines
+AreAfter Two lines = IsLineThen (IsNumberLine (codes "serial ") 1 most_moves) AreLocal lines
+AreAfter Three lines = IsLineThen (IsNumberLine (codes "local ") 0 16) AreJudgement lines
 
--- the lines behind the first in a report of this version
+-- the lines after the first in a report of this version
 abbrev pub AreBounded : Version → List (List ℕ) → Type 0
 AreBounded version lines =
-    IsLineThen (IsNumberLine (codes "bound ") 0 most_moves) (AreBehind version) lines
+    IsLineThen (IsNumberLine (codes "bound ") 0 most_moves) (AreAfter version) lines
 
 -- ---- what is read
 
@@ -153,7 +153,7 @@ AreBounded version lines =
 abbrev pub Cuts : List ℕ → List ℕ → List ℕ → Type 0
 Cuts text line rest = kept_lines text ≡ line ∷ kept_lines rest
 
--- the text says this number within these limits behind this front, and goes on so
+-- the text says this number within these limits after this front, and goes on so
 abbrev pub SaysNumber : List ℕ → ℕ → ℕ → List ℕ → ℕ → List ℕ → Type 0
 SaysNumber front least most text n rest =
     (least ≤ n) × (n ≤ most) × Cuts text (number_line front n) rest
@@ -167,12 +167,12 @@ AreCountsOf text counts =
 abbrev pub IsFindingOf : List ℕ → Finding → Type 0
 IsFindingOf text f = IsSoundFinding f × (kept_lines text ≡ finding_lines f)
 
--- the text is that of a conflict behind its first line
+-- the text is that of a conflict after its first line
 abbrev pub IsConflictOf : List ℕ → Finding → Type 0
 IsConflictOf text f =
     IsSoundFinding f × (codes "nondeterministic\n" ∷ kept_lines text ≡ finding_lines f)
 
--- the text is that of a report of this version behind the line of this bound
+-- the text is that of a report of this version after the line of this bound
 pub record IsBehind (version : Version) (bound : ℕ) (text : List ℕ) (r : Report) : Type 0 where
   pub bounded : r.bound ≡ bound
   pub of : version ≡ version_of r.serial r.local
@@ -193,7 +193,7 @@ HasNo IsHead text (From rest) =
     (rest.now ≡ text) × ((line : List ℕ) → IsHead line → IsFirst text line → ⊥)
 HasNo IsHead text Exhausted = Unit {0}
 
--- Some lines of the form begin with those before the rest, and none have the line behind these,
+-- Some lines of the form begin with those before the rest, and none have the line after these,
 -- too.
 pub record StopsAt (Texts : List (List ℕ) → Type 0) (text rest : List ℕ) : Type 0 where
   pub front : List (List ℕ)

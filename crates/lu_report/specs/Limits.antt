@@ -10,11 +10,11 @@ abbrev pub IsSerialBound : ℕ → Type 0
 IsSerialBound n = (1 ≤ n) × (n ≤ most_moves)
 
 -- the most moves of a schedule, and of an operation after its call in a serial run
-pub record Limits : Type 0 where
+pub record Bounds : Type 0 where
   pub bound : ℕ
   pub serial : ℕ
 
-pub record AreInRange (l : Limits) : Type 0 where
+pub record AreInRange (l : Bounds) : Type 0 where
   pub bound : l.bound ≤ most_moves
   pub some : 1 ≤ l.serial
   pub serial : l.serial ≤ most_moves
@@ -24,7 +24,7 @@ abbrev pub lies : ℕ → ℕ → ℕ → Bool
 lies least n most = nat_le least n && nat_le n most
 
 -- the limits with these numbers, where they are in range
-abbrev pub limits_of : ℕ → ℕ → Option Limits
+abbrev pub limits_of : ℕ → ℕ → Option Bounds
 limits_of bound serial =
     if lies 0 bound most_moves && lies 1 serial most_moves then Some
     (record { bound = bound; serial = serial }) else None

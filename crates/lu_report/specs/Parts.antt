@@ -10,13 +10,13 @@ pub use Rattle.lu_report.specs.Limits.{IsSerialBound, most_moves}
 -- The bound of schedules; that of serial runs, where the check is one against these, and none where
 -- it is against a specification; how many local instructions run with one move at most; and what is
 -- found.
-pub record Parts : Type 0 where
+pub record Report : Type 0 where
   pub bound : ℕ
   pub serial : Option ℕ
   pub local : ℕ
   pub finding : Finding
 
-abbrev pub parts_of : ℕ → Option ℕ → ℕ → Finding → Parts
+abbrev pub parts_of : ℕ → Option ℕ → ℕ → Finding → Report
 parts_of bound serial local finding = record {
   bound = bound;
   serial = serial;
@@ -79,7 +79,7 @@ shown_schedule (Fail u why) = Some u
 shown_schedule (Pass counts) = None
 
 -- the limits of a report; a check against a specification finds a failure or a pass
-pub record AreLimits (r : Parts) : Type 0 where
+pub record AreLimits (r : Report) : Type 0 where
   pub most : r.bound ≤ most_moves
   pub serial : IfSome r.serial IsSerialBound
   pub local_few : r.local ≤ 16

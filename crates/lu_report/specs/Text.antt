@@ -13,7 +13,7 @@ use Rattle.lu_report.specs.declared.report.Report.{Report}
 use Rattle.lu_report.specs.declared.version.Version.{Version}
 use Rattle.lu_report.specs.declared.version.Version.TheVariants.{One, Two, Three}
 
--- a number behind these bytes
+-- a number after these bytes
 abbrev pub number_line : List ℕ → ℕ → List ℕ
 number_line front n = front ++ decimal n ++ codes "\n"
 

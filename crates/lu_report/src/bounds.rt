@@ -17,9 +17,9 @@ pub struct Bounds {
 }
 
 impl Model for Bounds {
-    ghost use Rattle.lu_report.specs.Limits.{Limits, AreInRange};
+    ghost use Rattle.lu_report.specs.Limits.{Bounds as ABounds, AreInRange};
 
-    ghost Value = { Limits };
+    ghost Value = { ABounds };
 
     ghost view = { λ b. record { bound = b.bound; serial = b.serial } };
 

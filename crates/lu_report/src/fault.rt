@@ -26,5 +26,5 @@ impl ReportFaultKind {
     }
 }
 
-/// Why a text is no report: the first fault by line, or want of memory, which is shown as `memory`.
+/// Why a text is no report: the first fault by line, or refused memory, which is shown as `memory`.
 pub type ReportFault = Fault<ReportFaultKind>;

@@ -72,7 +72,7 @@ fn judge_line(
     }
 }
 
-/// The form of the line behind this one, where it is known.
+/// The form of the line after this one, where it is known.
 fn next_wanted(version: Version, form: Option<LineForm>, line: &[u8]) -> Option<LineForm>
     ensures { result ≡ spec.next_wanted version form line.now }
 {
@@ -113,11 +113,11 @@ fn with_fault(
 /// line, and one where a line is missing. There is none exactly where [`crate::read_report`] reads
 /// the text, and else the first is on the reader's line.
 ///
-/// Each line is judged by what the lines before it say that it is to be. Behind a line with a fault
+/// Each line is judged by what the lines before it say that it is to be. After a line with a fault
 /// that is the form that stands next. A first line that says no version counts as one of version 3
-/// where line 3 begins with `local`, of version 2 where line 4 does, and else of version 1. Behind
+/// where line 3 begins with `local`, of version 2 where line 4 does, and else of version 1. After
 /// a finding's line with a fault the next is known by the first word of that line; where that is
-/// none of a finding, no further line is judged. Of the lines behind the last one the first alone
+/// none of a finding, no further line is judged. Of the lines after the last one the first alone
 /// is told.
 ///
 /// # Errors

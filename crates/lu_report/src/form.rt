@@ -38,7 +38,7 @@ pub enum LineForm {
     /// A schedule, the last line.
     Schedule,
 
-    /// A schedule, behind which its conflict stands.
+    /// A schedule, after which its conflict stands.
     ConflictSchedule,
 
     /// `before K`, K from 0 to 15.
@@ -78,7 +78,7 @@ fn is_fail(line: &[u8]) -> bool
     why_in(line).is_some()
 }
 
-/// Whether a line has a number within these limits behind this front.
+/// Whether a line has a number within these limits after this front.
 fn is_number(line: &[u8], front: &str, least: u64, most: u64) -> bool
     ensures { IsTrue result ↔ IsNumberLine front.now least most line.now }
 {
@@ -141,9 +141,9 @@ pub(crate) fn begins(line: &[u8], front: &str) -> bool
     line.starts_with(front.as_bytes())
 }
 
-/// The form of the line behind that of a finding, where its first word says one.
-fn behind_finding(line: &[u8]) -> Option<LineForm>
-    ensures { result ≡ spec.behind_finding line.now }
+/// The form of the line after that of a finding, where its first word says one.
+fn after_finding(line: &[u8]) -> Option<LineForm>
+    ensures { result ≡ spec.after_finding line.now }
 {
     if begins(line, "pass") {
         return Some(LineForm::Complete);
@@ -160,9 +160,9 @@ fn behind_finding(line: &[u8]) -> Option<LineForm>
     None
 }
 
-/// The form of the line behind the bound, in a report of this version.
-fn behind_bound(version: Version) -> LineForm
-    ensures { result ≡ spec.behind_bound version }
+/// The form of the line after the bound, in a report of this version.
+fn after_bound(version: Version) -> LineForm
+    ensures { result ≡ spec.after_bound version }
 {
     match version {
         Version::One => LineForm::Serial,
@@ -171,9 +171,9 @@ fn behind_bound(version: Version) -> LineForm
     }
 }
 
-/// The form of the line behind the bound of serial runs, in a report of this version.
-fn behind_serial(version: Version) -> LineForm
-    ensures { result ≡ spec.behind_serial version }
+/// The form of the line after the bound of serial runs, in a report of this version.
+fn after_serial(version: Version) -> LineForm
+    ensures { result ≡ spec.after_serial version }
 {
     match version {
         Version::One => LineForm::Finding,
@@ -182,19 +182,19 @@ fn behind_serial(version: Version) -> LineForm
     }
 }
 
-/// The form of the line behind this one, which is to be of this form, in a report of this version.
+/// The form of the line after this one, which is to be of this form, in a report of this version.
 /// `None` where that is not known.
 pub(crate) fn next_form(version: Version, form: LineForm, line: &[u8]) -> Option<LineForm>
     ensures { result ≡ spec.next_form version form line.now }
 {
     match form {
         LineForm::Version => Some(LineForm::Bound),
-        LineForm::Bound => Some(behind_bound(version)),
-        LineForm::Serial => Some(behind_serial(version)),
+        LineForm::Bound => Some(after_bound(version)),
+        LineForm::Serial => Some(after_serial(version)),
         LineForm::Local => Some(LineForm::Finding),
         LineForm::AnyLocal => Some(LineForm::Judgement),
-        LineForm::Finding => behind_finding(line),
-        LineForm::Judgement => behind_finding(line),
+        LineForm::Finding => after_finding(line),
+        LineForm::Judgement => after_finding(line),
         LineForm::Schedule => Some(LineForm::End),
         LineForm::ConflictSchedule => Some(LineForm::Before),
         LineForm::Before => Some(LineForm::Earlier),

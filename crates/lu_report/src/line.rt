@@ -39,7 +39,7 @@ pub(crate) fn version_in(line: &[u8]) -> Option<Version>
     None
 }
 
-/// The number of a line that has one of at most `most` behind this front.
+/// The number of a line that has one of at most `most` after this front.
 pub(crate) fn number_behind(line: &[u8], front: &str, most: u64) -> Option<u64>
     ensures some { IfSome result (λ n. (n ≤ most) × (line.now ≡ number_line front.now n)) }
     ensures none { IfNone result ((n : ℕ) →

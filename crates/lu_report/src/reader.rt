@@ -9,7 +9,7 @@ ghost use Rattle.lu_report.specs.Text as spec;
 ghost use Rattle.lu_report.specs.Text.{earlier_line};
 ghost use Rattle.lu_report.specs.Parts.{IsJudgement, most_moves};
 ghost use Rattle.lu_history.specs.Serial.{IsOutcome};
-ghost use Rattle.lu_report.specs.Forms.{AreBehind, AreConflict, AreCountLines, AreCountsOf, AreFinding, AreJudgement, AreNone, AreReport, AreRun, Cuts, GivesReport, HasNo, IsBehind, IsConflictOf, IsEarlierLine, IsFault, IsFindingOf, IsNumberLine, IsScheduleLine, IsVersionLine, SaysNumber, Spells, Stops};
+ghost use Rattle.lu_report.specs.Forms.{AreAfter, AreConflict, AreCountLines, AreCountsOf, AreFinding, AreJudgement, AreNone, AreReport, AreRun, Cuts, GivesReport, HasNo, IsBehind, IsConflictOf, IsEarlierLine, IsFault, IsFindingOf, IsNumberLine, IsScheduleLine, IsVersionLine, SaysNumber, Spells, Stops};
 
 use crate::fault::{ReportFault, ReportFaultKind};
 use crate::line::{earlier_in, is_line, number_behind, version_in, why_in};
@@ -24,14 +24,14 @@ use std::alloc::Global;
 /// Why a part of a report is not read.
 #[derive(Clone, Copy, Drop)]
 enum Unread<'a> {
-    /// No such part has the first line of this rest of the text behind the lines before it.
+    /// No such part has the first line of this rest of the text after the lines before it.
     From(&'a [u8]),
 
     /// There was no memory.
     Exhausted,
 }
 
-/// The number on the first line, behind this front, and what follows the line.
+/// The number on the first line, after this front, and what follows the line.
 fn number_line<'a>(
     text: &'a [u8],
     front: &str,
@@ -180,7 +180,7 @@ fn finding(alloc: Global, text: &[u8]) -> Result<Finding, Unread<'_>>
 }
 
 /// The report of this version and bound, by what follows the line of its bound.
-fn read_behind_bound(
+fn read_after_bound(
     alloc: Global,
     version: Version,
     bound: u16,
@@ -188,7 +188,7 @@ fn read_behind_bound(
 ) -> Result<Report, Unread<'_>>
     requires { bound ≤ most_moves }
     ensures found { IfOk result (IsBehind version bound text.now) }
-    ensures fault { IfErr result (Stops (AreBehind version) text.now) }
+    ensures fault { IfErr result (Stops (AreAfter version) text.now) }
 {
     match version {
         Version::One => {
@@ -217,7 +217,7 @@ fn report_in(alloc: Global, text: &[u8]) -> Result<Report, Unread<'_>>
 {
     let (version, rest) = version_line(text)?;
     let (bound, rest) = number_line(rest, "bound ", 0, MOST_MOVES as u64)?;
-    read_behind_bound(alloc, version, bound as u16, rest)
+    read_after_bound(alloc, version, bound as u16, rest)
 }
 
 /// How many lines a text has. The last one may lack its LF.

@@ -63,9 +63,9 @@ pub struct Report {
 }
 
 impl Model for Report {
-    ghost use Rattle.lu_report.specs.Parts.{Parts, AreLimits, parts_of};
+    ghost use Rattle.lu_report.specs.Parts.{Report as AReport, AreLimits, parts_of};
 
-    ghost Value = { Parts };
+    ghost Value = { AReport };
 
     ghost view = { λ r. parts_of r.bound r.serial r.local r.finding };
 

@@ -25,7 +25,7 @@ fn put_schedule(alloc: Global, text: &mut String, schedule: &Schedule) -> Result
     text.push_str(line.as_str())
 }
 
-/// Adds a line with a number behind a front.
+/// Adds a line with a number after a front.
 fn put_number(text: &mut String, front: &str, number: u64) -> Result<(), AllocError>
     ensures text { Writes result text.old text.new (spec.number_line front.now number) }
     ensures range { number < 2 ^ 64 }

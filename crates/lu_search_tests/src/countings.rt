@@ -162,7 +162,7 @@ fn longer_moves_are_certain(rt: HostRuntime) -> Result<(), Fail> {
     assert_cuts_ahead(&rt, &case, 40, &cuts)
 }
 
-/// Three places, then one behind which nothing is read.
+/// Three places, then one after which nothing is read.
 const COUNTER: &[u8] = b"component counter
 word count 1 0
 op inc 0
@@ -185,7 +185,7 @@ const DEAD: &[(u8, u8, bool)] = &[
     (4, 0, false),
 ];
 
-/// A register is dead before it is written, and behind its last read.
+/// A register is dead before it is written, and after its last read.
 #[test]
 fn registers_that_nobody_reads_are_dead(rt: HostRuntime) -> Result<(), Fail> {
     let case = fixture_of(&rt, COUNTER, b"thread inc\n")?;

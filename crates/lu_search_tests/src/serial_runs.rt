@@ -87,7 +87,7 @@ const OUTSIDE: &[(&[u8], &[u8], &[u8], Option<&str>)] = &[
     // The first history is there, and the put goes first in the least schedule with another one.
     (SLOT, BOTH, b"thread take\n", Some("schedule 1 1 1 0 0 0\n")),
     (SLOT, BOTH, BOTH, None),
-    // The first pick never returns, and the second one does, behind a schedule that is cut.
+    // The first pick never returns, and the second one does, after a schedule that is cut.
     (LATE, b"thread f\n", NO_CALLS, None),
     // Here the cut comes last.
     (PICKS, b"thread f\n", NO_CALLS, Some("schedule 0 0 0 0 0\n")),

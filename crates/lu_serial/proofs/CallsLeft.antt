@@ -6,7 +6,7 @@ use Rattle.std.proofs.lemmas.List.{length-set, length-replicate}
 use Rattle.std.proofs.lemmas.List.Elements.{All-nil, All-push}
 use Rattle.std.proofs.Math.Nat.{mul-le-mul_left, mul_comm}
 use Rattle.std.proofs.lemmas.List.Sums.{sum_by-cons}
-use Rattle.lu_component.specs.Component.{Declarations, IsComponent}
+use Rattle.lu_component.specs.Component.{Component, IsComponent}
 use Rattle.lu_test.specs.declared.matrix.Call.{Call as ACall}
 use Rattle.lu_test.specs.declared.schedule.Move.{Move}
 use Rattle.lu_test.specs.Matrix.{Matrix, IsMatrix, calls_of, row_of}
@@ -163,14 +163,14 @@ none_idle (suc n) zero x h = sym (ap (λ (y : Thread). y.activity) (same_Some (r
 none_idle (suc n) (suc t) x h = none_idle n t x h
 
 -- at rest no operation is open
-pub none_at_rest : (c : Declarations) (matrix : Matrix) (cells : List ℕ) (locks : List (Option ℕ)) (t : ℕ) → HasOpen (at_rest c matrix cells locks) t → ⊥
+pub none_at_rest : (c : Component) (matrix : Matrix) (cells : List ℕ) (locks : List (Option ℕ)) (t : ℕ) → HasOpen (at_rest c matrix cells locks) t → ⊥
 none_at_rest c matrix cells locks t o = o.2 (none_idle (length matrix.threads) t o.0 o.1)
 
 -- nor at the start
-pub none_at_start : (c : Declarations) (matrix : Matrix) (s : State) → IsStart c matrix s → (t : ℕ) → HasOpen s t → ⊥
+pub none_at_start : (c : Component) (matrix : Matrix) (s : State) → IsStart c matrix s → (t : ℕ) → HasOpen s t → ⊥
 none_at_start c matrix s is t o = none_at_rest c matrix is.end.cells is.end.locks t (subst (λ x. HasOpen x t) is.is o)
 
-within_rest : (c : Declarations) (matrix : Matrix) (cells : List ℕ) (locks : List (Option ℕ)) (bound : ℕ) → IsComponent c → IsMatrix matrix → bound ≤ 256 → StaysWithin bound [] (at_rest c matrix cells locks) None
+within_rest : (c : Component) (matrix : Matrix) (cells : List ℕ) (locks : List (Option ℕ)) (bound : ℕ) → IsComponent c → IsMatrix matrix → bound ≤ 256 → StaysWithin bound [] (at_rest c matrix cells locks) None
 within_rest c matrix cells locks bound is are few =
     let idle : Thread = record { done = 0; activity = Idle } in
     let threads : length (replicate (length matrix.threads) idle) ≡ length matrix.threads = length-replicate (length matrix.threads) idle in
@@ -184,6 +184,6 @@ within_rest c matrix cells locks bound is are few =
     }
 
 -- the empty path is within the limits
-pub within_start : (c : Declarations) (matrix : Matrix) (s : State) (bound : ℕ) → IsStart c matrix s → IsComponent c → IsMatrix matrix → bound ≤ 256 → StaysWithin bound [] s None
+pub within_start : (c : Component) (matrix : Matrix) (s : State) (bound : ℕ) → IsStart c matrix s → IsComponent c → IsMatrix matrix → bound ≤ 256 → StaysWithin bound [] s None
 within_start c matrix s bound start is are few =
     subst (λ x. StaysWithin bound [] x None) (sym start.is) (within_rest c matrix start.end.cells start.end.locks bound is are few)

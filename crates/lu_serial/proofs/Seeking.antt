@@ -1,6 +1,6 @@
 -- What the walk of `first_outside` finds.
 use Rattle.std.proofs.Common.{arith, ◌≡◌, ◌<◌, Bool, true, false, ℕ, List, [], ◌∷◌, ◌++◌, refl, sym, ◌∙◌, ap, subst, inl, inr}
-use Rattle.lu_component.specs.Component.{Declarations}
+use Rattle.lu_component.specs.Component.{Component}
 use Rattle.lu_test.specs.declared.schedule.Move.{Move}
 use Rattle.lu_test.specs.Matrix.{Matrix}
 use Rattle.lu_machine.specs.States.{State}
@@ -24,7 +24,7 @@ use Rattle.lu_serial.proofs.Single.{AtMostOne, one_along}
 differ : (b : Bool) → b ≡ true → b ≡ false → ⊥
 differ b e f = (let g = sym e ∙ f in cc)
 
-one_at_start : (c : Declarations) (matrix : Matrix) (s : State) → IsStart c matrix s → AtMostOne s
+one_at_start : (c : Component) (matrix : Matrix) (s : State) → IsStart c matrix s → AtMostOne s
 one_at_start c matrix s is = λ t i a b. absurd (none_at_start c matrix s is t a)
 
 -- a schedule that is cut is not ended
@@ -56,7 +56,7 @@ module _ (s : State) (bound : ℕ) (u : List Move) (members now : List (List Ser
     least = λ v lt out. differ (contains members out.0) (seeks.1 out.0 (x.each v out.0 lt out.1)) out.2;
   }
 
-  pub none_past_cut : (c : Declarations) (matrix : Matrix) → IsStart c matrix s → Shows s bound (λ v. IsSmaller v u) (Seeks members now) → IsSeriallyCut s bound u → (v : List Move) → IsOutside s bound members v → ⊥
+  pub none_past_cut : (c : Component) (matrix : Matrix) → IsStart c matrix s → Shows s bound (λ v. IsSmaller v u) (Seeks members now) → IsSeriallyCut s bound u → (v : List Move) → IsOutside s bound members v → ⊥
   none_past_cut c matrix is (shown, x, seeks) cut v out =
       elim (smaller_cases v u) [
         | inl y ↦ elim y [

@@ -4,7 +4,7 @@ use Rattle.std.specs.Option.{option_map}
 use Rattle.std.proofs.lemmas.Bool.{cases_lt}
 use Rattle.std.proofs.lemmas.List.{append-nil}
 use Rattle.std.proofs.lemmas.Option.{same_Some}
-use Rattle.lu_component.specs.Component.{Declarations, IsComponent}
+use Rattle.lu_component.specs.Component.{Component, IsComponent}
 use Rattle.lu_test.specs.Matrix.{Matrix, IsMatrix}
 use Rattle.lu_test.specs.declared.schedule.Move.{Move}
 use Rattle.lu_machine.specs.declared.event.Event.{Event}
@@ -324,7 +324,7 @@ kid_ready start bound u s entries current at m f room now e es g next event step
     rw (p, h, g, b) (kid_at start bound u s entries current at m f room next event step', x)
 
 -- at the start
-pub start_at : (c : Declarations) (matrix : Matrix) (bound : ℕ) → IsComponent c → IsMatrix matrix → bound ≤ 256 → (u : List Move) → u ≡ [] → (s : State) → IsStart c matrix s → (entries : List SerialOp) → entries ≡ [] → IsAt s bound u s entries None
+pub start_at : (c : Component) (matrix : Matrix) (bound : ℕ) → IsComponent c → IsMatrix matrix → bound ≤ 256 → (u : List Move) → u ≡ [] → (s : State) → IsStart c matrix s → (entries : List SerialOp) → entries ≡ [] → IsAt s bound u s entries None
 start_at c matrix bound is are few u e s f entries g =
     rw (e, g) (
     record {
@@ -338,7 +338,7 @@ start_at c matrix bound is are few u e s f entries g =
     }
     )
 
-pub start_ready : (c : Declarations) (matrix : Matrix) (bound : ℕ) → IsComponent c → IsMatrix matrix → bound ≤ 256 → (u : List Move) → u ≡ [] → (s : State) → IsStart c matrix s → (entries : List SerialOp) → entries ≡ [] → (Known : List (List SerialOp) → Type 0) → Known [] → IsAt s bound u s entries None × Shows s bound (λ v. IsSmaller v u) Known
+pub start_ready : (c : Component) (matrix : Matrix) (bound : ℕ) → IsComponent c → IsMatrix matrix → bound ≤ 256 → (u : List Move) → u ≡ [] → (s : State) → IsStart c matrix s → (entries : List SerialOp) → entries ≡ [] → (Known : List (List SerialOp) → Type 0) → Known [] → IsAt s bound u s entries None × Shows s bound (λ v. IsSmaller v u) Known
 start_ready c matrix bound is are few u e s f entries g Known known = (
   start_at c matrix bound is are few u e s f entries g,
   ([], rw e (record { uncut = λ v lt cut. lt; each = λ v q lt x. absurd lt; only = λ q x. cc }), known),

@@ -2,7 +2,7 @@
 use Rattle.std.proofs.Common.{◌≡◌, ◌≢◌, ℕ, zero, suc, ◌⊎◌, List, [], ◌∷◌, ◌++◌, Option, refl, sym, ◌∙◌, ap, subst, inl, inr}
 use Rattle.lu_machine.specs.declared.event.Event.{Event}
 use Rattle.lu_test.specs.declared.schedule.Move.{Move}
-use Rattle.lu_component.specs.Component.{Declarations}
+use Rattle.lu_component.specs.Component.{Component}
 use Rattle.lu_test.specs.Matrix.{Matrix}
 use Rattle.lu_machine.specs.States.{State}
 use Rattle.lu_machine.specs.Steps.{Step}
@@ -103,5 +103,5 @@ module _ (s : State) (one : AtMostOne s) (bound : ℕ) (u : List Move) where
             no_self_conflict x.1.other k r (subst (λ h. ConflictAt x.1.other h k r) other c))
       ])
 
-pub one_learnt : (c : Declarations) (matrix : Matrix) (s : State) (bound : ℕ) (u : List Move) (i j : ℕ) (o p : SerialOutcome) → IsStart c matrix s → IsFirstConflict s bound u i o → IsFirstConflict s bound u j p → (i ≡ j) × (o ≡ p)
+pub one_learnt : (c : Component) (matrix : Matrix) (s : State) (bound : ℕ) (u : List Move) (i j : ℕ) (o p : SerialOutcome) → IsStart c matrix s → IsFirstConflict s bound u i o → IsFirstConflict s bound u j p → (i ≡ j) × (o ≡ p)
 one_learnt c matrix s bound u i j o p is x y = one_conflict s (λ t k a b. absurd (none_at_start c matrix s is t a)) bound u i j o p x y

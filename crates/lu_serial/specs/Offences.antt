@@ -1,6 +1,6 @@
 -- Serial offences, and what is learnt of a component and a matrix.
 use Rattle.std.specs.Prelude.{◌≡◌, ℕ, ◌≤◌, List, ◌⊎◌, ◌↔◌, true, false, Option, Some, None, Result, IfOk}
-use Rattle.lu_component.specs.Component.{Declarations}
+use Rattle.lu_component.specs.Component.{Component}
 use Rattle.lu_test.specs.declared.schedule.Move.{Move}
 use Rattle.lu_test.specs.Matrix.{Matrix}
 use Rattle.lu_machine.specs.States.{State}
@@ -69,7 +69,7 @@ IsFirstOutside s bound members None = (u : List Move) → IsOutside s bound memb
 IsFirstOutside s bound members (Some u) = IsLeast (IsOutside s bound members) u
 
 -- from each start this is the first one outside
-abbrev pub FindsOutside : {E : Type 0} → Declarations → Matrix → ℕ → List (List SerialOp)
+abbrev pub FindsOutside : {E : Type 0} → Component → Matrix → ℕ → List (List SerialOp)
     → Result (Option (List Move)) E → Type 0
 FindsOutside c matrix bound members result =
     FromEachStart c matrix (λ s. IfOk result (IsFirstOutside s bound members))
@@ -84,7 +84,7 @@ SerialShort =
 -- Where the least offence conflicts, the place and the outcome are determined.
 abbrev pub OneConflict : Type 0
 OneConflict =
-    (component : Declarations) (matrix : Matrix) (s : State) (bound : ℕ) (u : List Move) (i j : ℕ)
+    (component : Component) (matrix : Matrix) (s : State) (bound : ℕ) (u : List Move) (i j : ℕ)
     (o p : SerialOutcome) →
     IsStart component matrix s → IsFirstConflict s bound u i o → IsFirstConflict s bound u j p
     → (i ≡ j) × (o ≡ p)

@@ -8,7 +8,7 @@ pub struct Origin {
     /// The number of its line in the source, from 1.
     pub line: usize,
 
-    /// The locals that are in scope behind that line, by their registers.
+    /// The locals that are in scope after that line, by their registers.
     pub locals: Vec<Name>,
 }
 

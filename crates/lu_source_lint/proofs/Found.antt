@@ -7,7 +7,7 @@ use Rattle.lu_text.specs.Lines.{texts}
 use Rattle.lu_text.specs.Words.{Word}
 use Rattle.lu_source_text.specs.Grammar.{is_among}
 use Rattle.lu_source_lint.specs.Faults.{arguments_end, ends_arguments, word_is}
-use Rattle.lu_source_lint.specs.Warnings.{Line, acts, are_reading, declared, depth_behind, is_endless, is_read, lines_in, reads, shared_names, stops, where_there, word_acts}
+use Rattle.lu_source_lint.specs.Warnings.{Line, acts, are_reading, declared, depth_after, is_endless, is_read, lines_in, reads, shared_names, stops, where_there, word_acts}
 
 -- ---- lines in memory
 
@@ -74,16 +74,16 @@ read_on name words rest total op is so =
 
 pub endless_stops : (shared : List Word) (depth : ℕ) (words : Line) (rest : List Line) (total : Bool) → stops shared depth words ≡ true → is_endless shared depth (words ∷ rest) ≡ total → false ≡ total
 endless_stops shared depth words rest total is so =
-    sym (ap (λ t. not t && (depth_behind depth words == 0 || is_endless shared (depth_behind depth words) rest)) is) ∙ so
+    sym (ap (λ t. not t && (depth_after depth words == 0 || is_endless shared (depth_after depth words) rest)) is) ∙ so
 
-pub endless_here : (shared : List Word) (depth after : ℕ) (words : Line) (rest : List Line) (total : Bool) → stops shared depth words ≡ false → after ≡ depth_behind depth words → after ≡ 0 → is_endless shared depth (words ∷ rest) ≡ total → true ≡ total
+pub endless_here : (shared : List Word) (depth after : ℕ) (words : Line) (rest : List Line) (total : Bool) → stops shared depth words ≡ false → after ≡ depth_after depth words → after ≡ 0 → is_endless shared depth (words ∷ rest) ≡ total → true ≡ total
 endless_here shared depth after words rest total is behind none so =
-    sym (ap (λ t. not t && (depth_behind depth words == 0 || is_endless shared (depth_behind depth words) rest)) is
+    sym (ap (λ t. not t && (depth_after depth words == 0 || is_endless shared (depth_after depth words) rest)) is
     ∙ ap (λ n. n == 0 || is_endless shared n rest) (sym behind ∙ none)) ∙ so
 
-pub endless_on : (shared : List Word) (depth after : ℕ) (words : Line) (rest : List Line) (total : Bool) → stops shared depth words ≡ false → after ≡ depth_behind depth words → after ≢ 0 → is_endless shared depth (words ∷ rest) ≡ total → is_endless shared after rest ≡ total
+pub endless_on : (shared : List Word) (depth after : ℕ) (words : Line) (rest : List Line) (total : Bool) → stops shared depth words ≡ false → after ≡ depth_after depth words → after ≢ 0 → is_endless shared depth (words ∷ rest) ≡ total → is_endless shared after rest ≡ total
 endless_on shared depth after words rest total is behind some so =
-    sym (ap (λ t. not t && (depth_behind depth words == 0 || is_endless shared (depth_behind depth words) rest)) is
+    sym (ap (λ t. not t && (depth_after depth words == 0 || is_endless shared (depth_after depth words) rest)) is
     ∙ ap (λ n. n == 0 || is_endless shared n rest) (sym behind)
     ∙ ap (λ t. t || is_endless shared after rest) (ne_eqb after 0 some)) ∙ so
 

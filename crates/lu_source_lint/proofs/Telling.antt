@@ -33,7 +33,7 @@ none_told told most lines e = none_more told ∙ sym (ap (λ n. told ++ faults_b
 pub none_left : (told : List SourceMessage) (most : ℕ) (lines : List (List ℕ)) → most ≢ 0 → first_fault lines ≡ None → told ≡ told ++ faults_by most lines
 none_left told most lines some is = none_more told ∙ sym (ap (λ l. told ++ l) (faults_next most lines None some is))
 
--- this one is told, and those behind it
+-- this one is told, and those after it
 pub one_told : {Z E : Type 0} (r : Result (Vec SourceMessage Z) E) (told : List SourceMessage) (most : ℕ) (lines : List (List ℕ)) (fault : LineFault) → most ≢ 0 → first_fault lines ≡ Some fault
     → HasItems r (told ++ faults_from (faults_by (most - 1)) lines fault) → HasItems r (told ++ faults_by most lines)
 one_told r told most lines fault some is h = subst (λ l. HasItems r (told ++ l)) (sym (faults_next most lines (Some fault) some is)) h

@@ -38,7 +38,7 @@ abbrev pub arguments_end : List Word → ℕ
 arguments_end [] = 0
 arguments_end (word ∷ words) = if ends_arguments word then 0 else 1 + arguments_end words
 
--- How many words of a faulty line stay, and what stands behind them in place of the others: a name
+-- How many words of a faulty line stay, and what stands after them in place of the others: a name
 -- that the line declares is declared, and a block that it opens is open. First of a line that
 -- begins with `}`, then of one that begins with `op`, of which the first 4 arguments stay, then of
 -- one that begins with `word`, and then of any.
@@ -75,12 +75,12 @@ meant_by kind words =
     if is_missing kind || word_is words 0 (codes "object") then (0, codes "object a")
     else meant words
 
--- each word, and a blank behind it
+-- each word, and a blank after it
 abbrev pub spelled : List Word → List ℕ
 spelled [] = []
 spelled (word ∷ words) = word ++ 32 ∷ spelled words
 
--- so many words, and what stands behind them
+-- so many words, and what stands after them
 abbrev pub line_with : List Word → ℕ × List ℕ → List ℕ
 line_with words (count, behind) = spelled (take count words) ++ behind
 
@@ -133,14 +133,14 @@ is_declaration words =
     || (word_is words 0 (codes "lock") || (word_is words 0 (codes "local")
     || word_is words 0 (codes "op"))))
 
--- Whether nothing behind a line with this fault can be read on: it closes an operation that passes
+-- Whether nothing after a line with this fault can be read on: it closes an operation that passes
 -- a limit, or declares something before the object is named.
 abbrev pub ends_all : Kind → List Word → Bool
 ends_all Limit words = word_is words 0 (codes "}")
 ends_all Missing words = is_declaration words
 ends_all _ words = false
 
--- whether nothing behind the fault is told: it is at the end of the text, or such a one
+-- whether nothing after the fault is told: it is at the end of the text, or such a one
 abbrev pub is_last : List (List ℕ) → LineFault → Bool
 is_last lines fault =
     nat_lt (length lines) fault.line

@@ -20,7 +20,7 @@ Line = List Word
 abbrev pub name_of : Line → Word
 name_of words = unwrap_or (slice_get words 1) []
 
--- Whether a line names it behind its first word. (The first word of an assignment is not read.)
+-- Whether a line names it after its first word. (The first word of an assignment is not read.)
 abbrev pub reads : Word → Line → Bool
 reads name words = is_among (drop 1 words) name
 
@@ -70,9 +70,9 @@ closes words = word_is words 0 (codes "}")
 abbrev pub one_if : Bool → ℕ
 one_if so = if so then 1 else 0
 
--- how many blocks are open behind a line
-abbrev pub depth_behind : ℕ → Line → ℕ
-depth_behind depth words =
+-- how many blocks are open after a line
+abbrev pub depth_after : ℕ → Line → ℕ
+depth_after depth words =
     (depth - one_if (closes words)) + one_if (opens words)
 
 -- whether a line acts, or stands in more blocks than there may be
@@ -85,7 +85,7 @@ abbrev pub is_endless : List Word → ℕ → List Line → Bool
 is_endless shared depth [] = false
 is_endless shared depth (words ∷ lines) =
     not (stops shared depth words)
-    && (depth_behind depth words == 0 || is_endless shared (depth_behind depth words) lines)
+    && (depth_after depth words == 0 || is_endless shared (depth_after depth words) lines)
 
 -- ---- warnings
 

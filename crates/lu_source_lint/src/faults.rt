@@ -123,7 +123,7 @@ fn is_declaration(words: &[&[u8]]) -> bool
         || word_is(words, 0, b"op")
 }
 
-/// Whether nothing behind a line with this fault can be read on.
+/// Whether nothing after a line with this fault can be read on.
 fn ends_all(kind: SourceFaultKind, words: &[&[u8]]) -> bool
     ensures { result ≡ spec.ends_all kind (texts words.now) }
 {
@@ -134,7 +134,7 @@ fn ends_all(kind: SourceFaultKind, words: &[&[u8]]) -> bool
     }
 }
 
-/// Whether nothing behind the fault is told.
+/// Whether nothing after the fault is told.
 fn is_last(alloc: Global, lines: &[Vec<u8>], fault: LineFault) -> Result<bool, AllocError>
     ensures { IfOk result (λ last. last ≡ spec.is_last (bytes_of lines.now) fault) }
 {

@@ -14,7 +14,7 @@ struct Mending {
     /// How many of its words stay.
     kept: usize,
 
-    /// What stands behind them in place of the others.
+    /// What stands after them in place of the others.
     behind: &'static [u8],
 }
 
@@ -144,7 +144,7 @@ fn first_words<'a, 'b>(words: &'a [&'b [u8]], count: usize) -> &'a [&'b [u8]]
     first
 }
 
-/// Each word, and a blank behind it.
+/// Each word, and a blank after it.
 fn spelled(alloc: Global, words: &[&[u8]]) -> Result<Vec<u8>, AllocError>
     ensures { HasItems result (spec.spelled (texts words.now)) }
 {

@@ -38,7 +38,7 @@ fn name_of<'a>(words: &[&'a [u8]]) -> &'a [u8]
     }
 }
 
-/// Whether the line names it behind its first word.
+/// Whether the line names it after its first word.
 fn reads(name: &[u8], words: &[&[u8]]) -> bool
     ensures { result ≡ spec.reads name.now (texts words.now) }
 {
@@ -144,10 +144,10 @@ fn one_if(so: bool) -> usize
     if so { 1 } else { 0 }
 }
 
-/// How many blocks are open behind a line, where so many are before it.
-fn depth_behind(depth: usize, words: &[&[u8]]) -> usize
+/// How many blocks are open after a line, where so many are before it.
+fn depth_after(depth: usize, words: &[&[u8]]) -> usize
     requires { depth ≤ 16 }
-    ensures { result ≡ spec.depth_behind depth (texts words.now) }
+    ensures { result ≡ spec.depth_after depth (texts words.now) }
 {
     let closed = one_if(word_is(words, 0, b"}"));
     let opened = one_if(opens(words));
@@ -171,7 +171,7 @@ fn is_endless(shared: &[&[u8]], lines: &[Vec<&[u8]>]) -> bool
         if stops(shared, depth, words) {
             return false;
         }
-        depth = depth_behind(depth, words);
+        depth = depth_after(depth, words);
         if depth == 0 {
             return true;
         }

@@ -10,14 +10,14 @@ use Rattle.lu_text.specs.declared.fault.Fault.{Fault}
 use Rattle.lu_source.specs.Code.{operation_code}
 use Rattle.lu_source.specs.Trees.{Operation, Program}
 use Rattle.lu_source_text.specs.Grammar.{Begun, Drafted, Kind, either, line_of, nothing, program_of, source_grammar}
-use Rattle.lu_source_text.specs.Origins.{Entry, HasEach, Standing, behind, behind_lines, closed_standing, code_of, entries_at, if_there, open_standing, origin_from, standing_at}
+use Rattle.lu_source_text.specs.Origins.{Entry, HasEach, Standing, behind, after_lines, closed_standing, code_of, entries_at, if_there, open_standing, origin_from, standing_at}
 use Rattle.lu_source.specs.declared.origin.Origins.{Origins}
 use Rattle.lu_source_text.proofs.Drafts.{IsDone, IsDraft, line_kept, nothing_is}
 use Rattle.lu_source_text.proofs.Entries.{get_past}
 use Rattle.lu_source_text.proofs.Kept.{Holds}
 
 -- an instruction that is there in the end comes from some line
-comes_from : (n : ℕ) (d : Drafted) (line : List ℕ) (lines : List (List ℕ)) (o q : ℕ) → q < (standing_at (behind_lines d (line ∷ lines)) o).0 → is_some (origin_from n d (line ∷ lines) o q) ≡ true
+comes_from : (n : ℕ) (d : Drafted) (line : List ℕ) (lines : List (List ℕ)) (o q : ℕ) → q < (standing_at (after_lines d (line ∷ lines)) o).0 → is_some (origin_from n d (line ∷ lines) o q) ≡ true
 comes_from n d line [] o q lt =
     let yes : nat_lt q (standing_at (behind d line) o).0 ≡ true = grind (arith, nat_tests) in
     ap (λ t. is_some {T = Entry} (either (if t then Some (n, (standing_at (behind d line) o).1) else None) None)) yes
@@ -39,7 +39,7 @@ record Ends (p : Program) (d : Drafted) : Type 0 where
   operations : p.operations ≡ d.operations
   sound : IsDraft d
 
-lines_end : (n : ℕ) (d : Drafted) (lines : List (List ℕ)) (p : Program) → IsDraft d → lines_after source_grammar n d lines ≡ Ok p → Ends p (behind_lines d lines)
+lines_end : (n : ℕ) (d : Drafted) (lines : List (List ℕ)) (p : Program) → IsDraft d → lines_after source_grammar n d lines ≡ Ok p → Ends p (after_lines d lines)
 unfolding lines_after
 lines_end n d [] p h is = record { operations = by_parts d.name d.begun is; sound = h }
   where
@@ -54,7 +54,7 @@ lines_end n d [] p h is = record { operations = by_parts d.name d.begun is; soun
 lines_end n d (line ∷ lines) p h is = by_line (line_of d line) refl is (draft_behind d line h) (λ next. lines_end (n + 1) next lines p)
   where
     by_line : (r : Result Drafted Kind) → line_of d line ≡ r → then_lines (on_line n r) (λ next. lines_after source_grammar (n + 1) next lines) ≡ Ok p → IsDraft (behind d line)
-        → ((next : Drafted) → IsDraft next → lines_after source_grammar (n + 1) next lines ≡ Ok p → Ends p (behind_lines next lines)) → Ends p (behind_lines (behind d line) lines)
+        → ((next : Drafted) → IsDraft next → lines_after source_grammar (n + 1) next lines ≡ Ok p → Ends p (after_lines next lines)) → Ends p (after_lines (behind d line) lines)
     by_line (Ok next) at e k rest =
         let same : behind d line ≡ next = ap (λ r. (going_on d r).0) at in
         rest (behind d line) k (ap (λ x. lines_after source_grammar (n + 1) x lines) same ∙ e)
@@ -70,7 +70,7 @@ code_counted d o h = by_operations d.operations o h.operations
     by_operations (x ∷ xs) zero all = let few = all.0.few in omega arith
     by_operations (x ∷ xs) (suc o) all = by_operations xs o all.1
 
-each_from : (lines : List (List ℕ)) (o q : ℕ) → q < (standing_at (behind_lines nothing lines) o).0 → is_some (origin_from 1 nothing lines o q) ≡ true
+each_from : (lines : List (List ℕ)) (o q : ℕ) → q < (standing_at (after_lines nothing lines) o).0 → is_some (origin_from 1 nothing lines o q) ≡ true
 each_from [] o q lt = absurd (let none : standing_at nothing o ≡ (0, []) = get_past [] o (0, []) (omega arith) in omega (arith, ap (λ (s : Standing). s.0) none))
 each_from (line ∷ lines) o q lt = comes_from 1 nothing line lines o q lt
 
@@ -78,19 +78,19 @@ each_from (line ∷ lines) o q lt = comes_from 1 nothing line lines o q lt
 pub each_there : (lines : List (List ℕ)) (origins : Origins) → ((o p : ℕ) → slice_get (entries_at origins.operations.items o) p ≡ origin_from 1 nothing lines o p) → HasEach lines origins
 each_there lines origins are p is o = by_len (length (code_of p o)) counted
   where
-    end : Ends p (behind_lines nothing lines)
+    end : Ends p (after_lines nothing lines)
     end = lines_end 1 nothing lines p nothing_is is
 
-    counted : length (code_of p o) ≤ (standing_at (behind_lines nothing lines) o).0
-    counted = subst (λ os. length (get_or (map (λ (operation : Operation). operation_code operation.body) os) o []) ≤ (standing_at (behind_lines nothing lines) o).0) (sym end.operations) (code_counted (behind_lines nothing lines) o end.sound)
+    counted : length (code_of p o) ≤ (standing_at (after_lines nothing lines) o).0
+    counted = subst (λ os. length (get_or (map (λ (operation : Operation). operation_code operation.body) os) o []) ≤ (standing_at (after_lines nothing lines) o).0) (sym end.operations) (code_counted (after_lines nothing lines) o end.sound)
 
-    within : (q : ℕ) → q < (standing_at (behind_lines nothing lines) o).0 → q < length (entries_at origins.operations.items o)
+    within : (q : ℕ) → q < (standing_at (after_lines nothing lines) o).0 → q < length (entries_at origins.operations.items o)
     within q lt = by_entry (slice_get (entries_at origins.operations.items o) q) refl (ap is_some (are o q) ∙ each_from lines o q lt)
       where
         by_entry : (e : Option Entry) → slice_get (entries_at origins.operations.items o) q ≡ e → is_some e ≡ true → q < length (entries_at origins.operations.items o)
         by_entry None at some = absurd cc
         by_entry (Some x) at some = slice_get_within (entries_at origins.operations.items o) q x at
 
-    by_len : (n : ℕ) → n ≤ (standing_at (behind_lines nothing lines) o).0 → n ≤ length (entries_at origins.operations.items o)
+    by_len : (n : ℕ) → n ≤ (standing_at (after_lines nothing lines) o).0 → n ≤ length (entries_at origins.operations.items o)
     by_len zero le = omega arith
     by_len (suc n) le = let last = within n (omega arith) in omega arith

@@ -20,7 +20,7 @@ use Rattle.lu_component.specs.Component.{AreDistinct, IsArray, IsComponent, IsIn
 use Rattle.lu_source.specs.declared.tree.Action.{Action}
 use Rattle.lu_source.specs.declared.tree.Action.TheVariants.{Set, Compute, Load, Store, Cas, Lock, Unlock, Await, AwaitNot, Pick, Return}
 use Rattle.lu_source.specs.Code.{instr_of, op_of, operation_code}
-use Rattle.lu_source_text.specs.Grammar.{Begun, Block, Drafted, Kind, all_read, aside, begun_as, last_number, op_fault, where_some, behind_word, by_state, by_words, close_blocks, closes, end_block, whole_of, constant_in, const_line, declaration, else_line, end_line, first_number, init_in, inside, is_free_name, is_operation, is_taken, is_whole, is_word, keeps_going, len_in, line_of, local_in, local_line, lock_in, lock_line, names_from, names_in, new_name, nothing, object_line, on_first, on_ok, op_line, other_side, place_from, program_of, shared_from, shared_in, source_grammar, source_words, statement, whole_line, word_line}
+use Rattle.lu_source_text.specs.Grammar.{Begun, Block, Drafted, Kind, all_read, aside, begun_as, last_number, op_fault, where_some, after_word, by_state, by_words, close_blocks, closes, end_block, whole_of, constant_in, const_line, declaration, else_line, end_line, first_number, init_in, inside, is_free_name, is_operation, is_taken, is_whole, is_word, keeps_going, len_in, line_of, local_in, local_line, lock_in, lock_line, names_from, names_in, new_name, nothing, object_line, on_first, on_ok, op_line, other_side, place_from, program_of, shared_from, shared_in, source_grammar, source_words, statement, whole_line, word_line}
 use Rattle.lu_source.specs.Programs.{operation_of}
 use Rattle.lu_source_text.specs.Drafts.{begun_of, drafted_of}
 use Rattle.lu_source_text.specs.declared.draft.Begun.{Begun as HeldBegun}
@@ -223,13 +223,13 @@ module _ (d : Drafted) (h : IsDraft d) where
 
   const_kept : (ws : List Word) → Holds IsDraft (const_line d ws)
   const_kept ws =
-      on_word IsDraft ws _ (λ w rest. any_hold IsDraft (new_name d [] w) _ (λ name. any_hold IsDraft (behind_word (codes "=") rest) _ (λ more.
+      on_word IsDraft ws _ (λ w rest. any_hold IsDraft (new_name d [] w) _ (λ name. any_hold IsDraft (after_word (codes "=") rest) _ (λ more.
       then_holds (λ n. n < 2 ^ 32) IsDraft (last_number d.constants more) _ (number_holds more) (λ n fine.
       record { name = h.name; local = h.local; values = each_last (λ (c : Constant). c.value < 2 ^ 32) d.constants (record { name = name; value = n }) h.values fine; words_few = h.words_few; words = h.words; words_apart = h.words_apart; locks_few = h.locks_few; locks = h.locks; locks_apart = h.locks_apart; operations_few = h.operations_few; operations = h.operations; operations_apart = h.operations_apart; begun = h.begun }))))
 
   init_fine : (ws : List Word) → Holds (λ n. n < 2 ^ 32) (init_in d ws)
   init_fine [] = lit< tt
-  init_fine (w ∷ ws) = any_hold (λ n. n < 2 ^ 32) (behind_word (codes "=") (w ∷ ws)) (last_number d.constants) (λ rest. number_holds rest)
+  init_fine (w ∷ ws) = any_hold (λ n. n < 2 ^ 32) (after_word (codes "=") (w ∷ ws)) (last_number d.constants) (λ rest. number_holds rest)
 
   word_kept : d.begun ≡ None → (ws : List Word) → Holds IsDraft (word_line d ws)
   word_kept none ws =
@@ -295,8 +295,8 @@ module _ (d : Drafted) (h : IsDraft d) where
   op_kept : (ws : List Word) → Holds IsDraft (op_line d ws)
   op_kept ws =
       on_word IsDraft ws _ (λ name rest. unless_holds IsDraft (not (is_free_name name)) Form _ (λ free.
-      any_hold IsDraft (behind_word (codes "(") rest) _ (λ inner. then_holds AreNamed IsDraft (names_in d inner) _ (names_named d inner) (λ read are.
-      any_hold IsDraft (behind_word (codes "{") read.1) _ (λ end. then_holds (AllByRecursion IsName) IsDraft (all_read (read.0, end)) _ (read_all (AllByRecursion IsName) read.0 end are) (λ args named.
+      any_hold IsDraft (after_word (codes "(") rest) _ (λ inner. then_holds AreNamed IsDraft (names_in d inner) _ (names_named d inner) (λ read are.
+      any_hold IsDraft (after_word (codes "{") read.1) _ (λ end. then_holds (AllByRecursion IsName) IsDraft (all_read (read.0, end)) _ (read_all (AllByRecursion IsName) read.0 end are) (λ args named.
       op_holds name args (free_name name free) named))))))
     where
       op_holds : (name : Word) (args : List Word) → not (has_name_form name) ≡ false → AllByRecursion IsName args → Holds IsDraft (where_some (op_fault d name args) (Ok (record d { begun = Some (begun_as name args) })) Err)

@@ -1,4 +1,4 @@
--- Entries of instructions, behind one line after the other.
+-- Entries of instructions, after one line after the other.
 use Rattle.std.proofs.Common.{◌≡◌, ◌≢◌, ℕ, zero, suc, add-one, ◌+◌, ◌-◌, ◌<◌, ◌≤◌, Bool, true, false, if◌then◌else◌, List, [], ◌∷◌, ◌++◌, length, get_or, map, take, drop, set, replicate, Option, Some, None, Result, Ok, Err, refl, sym, ap, subst, ◌∙◌, arith, length-append, append_assoc, ne_eqb, eq-eqb, inl, inr}
 use Rattle.std.specs.Prelude.{min, reverse, nat_lt, IfOk, OnOk, Vec}
 use Rattle.std.specs.Option.{option_map}
@@ -26,7 +26,7 @@ use Rattle.lu_source_text.specs.declared.draft.Draft.{Draft as HeldDraft}
 use Rattle.lu_source_text.specs.declared.draft.Block.{Block as HeldBlock}
 use Rattle.lu_source_text.specs.Drafts.{begun_of, block_of, blocks_of, drafted_of}
 use Rattle.lu_source_text.specs.Grammar.{Block, Drafted, Kind, either, line_of, nothing, source_grammar}
-use Rattle.lu_source_text.specs.Origins.{AreFilled, AreOrigins, Entry, FailsAs, Standing, are_indexed, entries, entries_at, entry_of, standings, behind, behind_lines, block_size, filled, if_there, origin_from, size_so_far, standing_at, alone_at, closed_at, closed_standing, open_standing}
+use Rattle.lu_source_text.specs.Origins.{AreFilled, AreOrigins, Entry, FailsAs, Standing, are_indexed, entries, entries_at, entry_of, standings, behind, after_lines, block_size, filled, if_there, origin_from, size_so_far, standing_at, alone_at, closed_at, closed_standing, open_standing}
 use Rattle.lu_source_text.proofs.Drafts.{map_last}
 use Rattle.lu_source_text.proofs.Innermost.{map_both}
 
@@ -207,8 +207,8 @@ pub either_none : {X : Type 0} (a : Option X) → either a None ≡ a
 either_none None = refl
 either_none (Some x) = refl
 
-pub behind_is : (n : ℕ) (d next : Drafted) (line : List ℕ) → on_line n (line_of d line) ≡ Ok next → behind d line ≡ next
-behind_is n d next line e = ap (λ r. (going_on d r).0) (line_ok n (line_of d line) next e)
+pub after_is : (n : ℕ) (d next : Drafted) (line : List ℕ) → on_line n (line_of d line) ≡ Ok next → behind d line ≡ next
+after_is n d next line e = ap (λ r. (going_on d r).0) (line_ok n (line_of d line) next e)
 
 -- a line more: what is missing comes from it, and then from the others
 pub origins_go_on : (n : ℕ) (d next : Drafted) (line : List ℕ) (rest : List (List ℕ)) (xs ys : List (List Entry)) (total : ℕ → ℕ → Option Entry)
@@ -222,8 +222,8 @@ origins_go_on n d next line rest xs ys total is more so o p =
     ∙ sym (ap (λ d. either (slice_get (get_or xs o []) p) (either (if_there n (standing_at d o) p) (origin_from (n + 1) d rest o p))) is)
     ∙ so o p
 
-pub drafts_go_on : (d next : Drafted) (line : List ℕ) (rest : List (List ℕ)) (total : Drafted) → behind d line ≡ next → behind_lines d (line ∷ rest) ≡ total → behind_lines next rest ≡ total
-drafts_go_on d next line rest total is so = sym (ap (λ d. behind_lines d rest) is) ∙ so
+pub drafts_go_on : (d next : Drafted) (line : List ℕ) (rest : List (List ℕ)) (total : Drafted) → behind d line ≡ next → after_lines d (line ∷ rest) ≡ total → after_lines next rest ≡ total
+drafts_go_on d next line rest total is so = sym (ap (λ d. after_lines d rest) is) ∙ so
 
 -- ---- faults
 
@@ -266,7 +266,7 @@ module _ {Z : Type 0} where
       ap (λ l. map closed_standing (map operation_of l)) more ∙ ap (map closed_standing) (map_last operation_of (take k ops) op) ∙ map_last closed_standing (map operation_of (take k ops)) (operation_of op) ∙ ap (λ n. front ++ (n, []) ∷ []) (sym size) in
       filled_next line k front (map closed_standing (map operation_of (take (k + 1) ops))) (len, []) (entries xs) (entries mid) (entries ys) count next before after
 
-  -- the open operation, behind the closed ones
+  -- the open operation, after the closed ones
   pub all_next : {E : Type 0} (r : Result (Unit {0}) E) (line k len : ℕ) (locals : List Word) (d : HeldDraft) (b : HeldBegun) (blocks : List HeldBlock) (ops : List HeldOperation) (xs mid ys : List (Vec Origin Z))
       → d.begun ≡ Some b → blocks ≡ b.blocks.items → locals ≡ b.locals.items → ops ≡ d.operations.items → k ≡ length ops → len ≡ min (size_so_far (blocks_of blocks)) 64
       → AreFilled line (closed_at (map operation_of ops)) xs mid → OnOk r (AreFilled line (alone_at k (len, locals)) mid ys)
@@ -286,12 +286,12 @@ module _ {Z : Type 0} where
   -- no line is left
   pub are_done : (n : ℕ) (d : Drafted) (rest lines : List (List ℕ)) (rows : List (Vec Origin Z)) (origins : Origins) (same : entries origins.operations.items ≡ entries rows) → rest ≡ []
       → ((o p : ℕ) → either (slice_get (entries_at rows o) p) (origin_from n d rest o p) ≡ origin_from 1 nothing lines o p)
-      → behind_lines d rest ≡ behind_lines nothing lines → origins.indexed.items ≡ are_indexed d → AreOrigins lines origins
+      → after_lines d rest ≡ after_lines nothing lines → origins.indexed.items ≡ are_indexed d → AreOrigins lines origins
   are_done n d rest lines rows origins same none so drafts indexed = (
     (λ o p.
         ap (λ table. slice_get (get_or table o []) p) same
         ∙ sym (either_none (slice_get (entries_at rows o) p))
         ∙ ap (λ l. either (slice_get (entries_at rows o) p) (origin_from n d l o p)) (sym none)
         ∙ so o p),
-    indexed ∙ ap are_indexed (ap (behind_lines d) (sym none) ∙ drafts),
+    indexed ∙ ap are_indexed (ap (after_lines d) (sym none) ∙ drafts),
   )

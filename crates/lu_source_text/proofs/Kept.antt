@@ -12,7 +12,7 @@ use Rattle.lu_source.specs.Expressions.{Expr}
 use Rattle.lu_source.specs.Expressions.Expr.{Number, Local}
 use Rattle.lu_source_text.specs.declared.infix.Infix.{Infix}
 use Rattle.lu_source_text.specs.declared.infix.Infix.TheVariants.{Or as Or', And as And', Joins}
-use Rattle.lu_source_text.specs.Grammar.{Inner, Kind, Read', Scope, all_read, behind_word, binding, cas_with, cell_with, closed_with, constant_from, either, exchange_with, expr_from, first_number, infix_from, infix_in, inner_by, is_free_name, is_word, joined, local_in, most_behind, name_with, named_expr, number_of, on_first, on_ok, or_fault, pick_from, shared_from, steps_for, swapped_with, unary_with, unless, where_some}
+use Rattle.lu_source_text.specs.Grammar.{Inner, Kind, Read', Scope, all_read, after_word, binding, cas_with, cell_with, closed_with, constant_from, either, exchange_with, expr_from, first_number, infix_from, infix_in, inner_by, is_free_name, is_word, joined, local_in, most_after, name_with, named_expr, number_of, on_first, on_ok, or_fault, pick_from, shared_from, steps_for, swapped_with, unary_with, unless, where_some}
 use Rattle.lu_source_text.specs.declared.draft.Constant.{Constant}
 use Rattle.lu_source_text.specs.declared.draft.Shared.{Shared}
 use Rattle.lu_source_text.specs.declared.fault.SourceFaultKind.TheVariants.{Form, Number as Number', Limit, Name}
@@ -128,9 +128,9 @@ module _ (s : Scope) (values : AreValues s.constants) where
       any None = tt
       any (Some k) = tt
 
-  -- behind a word that stands there
-  pub behind_holds : {A : Type 0} (P : A → Type 0) (text : List ℕ) (ws : List Word) (go : List Word → Result A Kind) → ((rest : List Word) → Holds P (go rest)) → Holds P (on_ok (behind_word text ws) go)
-  behind_holds P text ws go h = then_holds (λ r. Unit {0}) P (behind_word text ws) go (any_holds (behind_word text ws)) (λ rest t. h rest)
+  -- after a word that stands there
+  pub after_holds : {A : Type 0} (P : A → Type 0) (text : List ℕ) (ws : List Word) (go : List Word → Result A Kind) → ((rest : List Word) → Holds P (go rest)) → Holds P (on_ok (after_word text ws) go)
+  after_holds P text ws go h = then_holds (λ r. Unit {0}) P (after_word text ws) go (any_holds (after_word text ws)) (λ rest t. h rest)
 
   -- a number
   literal_fine : (w : Word) (ws : List Word) → Holds Fine (on_ok (or_fault Number' (value_in w)) (λ k. Ok (Number k, ws)))
@@ -144,14 +144,14 @@ module _ (s : Scope) (values : AreValues s.constants) where
     inner = record { scope = s; read = read }
 
     closed_fine : (text : List ℕ) (ws : List Word) → Holds Fine (closed_with text inner ws)
-    closed_fine text ws = then_holds Fine Fine (read 1 ws) _ (inner_fine 1 ws) (λ r h. behind_holds Fine text r.1 _ (λ more. h))
+    closed_fine text ws = then_holds Fine Fine (read 1 ws) _ (inner_fine 1 ws) (λ r h. after_holds Fine text r.1 _ (λ more. h))
 
     pub cell_fine : (w : Word) (ws : List Word) → Holds FineCell (cell_with w inner ws)
     cell_fine w ws =
         then_holds (λ (r : ℕ × Bool). r.0 < 0 + length s.words) FineCell (or_fault Name (shared_from 0 s.words w)) _
         (or_holds (λ (r : ℕ × Bool). r.0 < 0 + length s.words) Name (shared_from 0 s.words w) (shared_within 0 s.words w)) (λ r h.
         if_holds FineCell r.1 _ _
-        (behind_holds FineCell (codes "[") ws _ (λ index.
+        (after_holds FineCell (codes "[") ws _ (λ index.
         then_holds Fine FineCell (closed_with (codes "]") inner index) _ (closed_fine (codes "]") index) (λ e k. (omega arith, k))))
         (omega arith, lit< tt))
 
@@ -164,15 +164,15 @@ module _ (s : Scope) (values : AreValues s.constants) where
     FinePair r = IsExpr (length s.words) r.0.0 × IsExpr (length s.words) r.0.1
 
     swapped_fine : (ws : List Word) → Holds FineCell (swapped_with inner ws)
-    swapped_fine ws = behind_holds FineCell (codes "(") ws _ (λ inside. of_first inside)
+    swapped_fine ws = after_holds FineCell (codes "(") ws _ (λ inside. of_first inside)
       where
         of_first : (inside : List Word) → Holds FineCell (on_first inside (λ w rest.
-            on_ok (cell_with w inner rest) (λ (cell, second). on_ok (behind_word (codes ",") second) (λ third.
+            on_ok (cell_with w inner rest) (λ (cell, second). on_ok (after_word (codes ",") second) (λ third.
             Ok (cell, third)))))
         of_first [] = tt
         of_first (w ∷ rest) =
             then_holds FineCell FineCell (cell_with w inner rest) _ (cell_fine w rest) (λ cell h.
-            behind_holds FineCell (codes ",") cell.1 _ (λ third. h))
+            after_holds FineCell (codes ",") cell.1 _ (λ third. h))
 
     exchange_fine : (ws : List Word) → Holds FinePair (exchange_with inner ws)
     exchange_fine ws =
@@ -186,13 +186,13 @@ module _ (s : Scope) (values : AreValues s.constants) where
 
     pick_fine : (ws : List Word) → Holds Fine (pick_from s.constants ws)
     pick_fine ws =
-        behind_holds Fine (codes "(") ws _ (λ inside.
+        after_holds Fine (codes "(") ws _ (λ inside.
         then_holds (λ r. Unit {0}) Fine (first_number s.constants inside) _ (any_holds (first_number s.constants inside)) (λ r t.
         unless_holds Fine (nat_lt r.0 1 || nat_lt 8 r.0) Limit _ (λ small.
         let parts = or_parts (nat_lt r.0 1) (nat_lt 8 r.0) small in
         let low = ltb-false r.0 1 parts.0 in
         let high = ltb-false 8 r.0 parts.1 in
-        behind_holds Fine (codes ")") r.1 _ (λ more. (low, high)))))
+        after_holds Fine (codes ")") r.1 _ (λ more. (low, high)))))
 
     unary_fine : (w : Word) (ws : List Word) → Holds Fine (unary_with w inner ws)
     unary_fine w ws =
@@ -220,7 +220,7 @@ module _ (s : Scope) (values : AreValues s.constants) where
         if_holds Fine (nat_lt (binding by) least) (Ok (left, w ∷ ws)) _ h
         (if_holds Fine (nat_lt most (binding by)) (Err Form) _ tt
         (then_holds Fine Fine (expr_from n s (binding by + 1) ws) _ (expr_fine n (binding by + 1) ws) (λ r k.
-        chain_fine n least (most_behind by) (joined by left r.0) r.1 (joined_fine by left r.0 h k)))))
+        chain_fine n least (most_after by) (joined by left r.0) r.1 (joined_fine by left r.0 h k)))))
       where
         any : (o : Option Infix) → MatchOption o (Unit {0}) (λ by. Unit {0})
         any None = tt

@@ -16,7 +16,7 @@ use Rattle.lu_source.specs.declared.tree.Action.TheVariants as action
 use Rattle.lu_source.specs.Code.{falls, instr_of}
 use Rattle.lu_source.specs.Expressions.{Coded, Expr, as_test, coded, needed, past, put}
 use Rattle.lu_source.specs.Expressions.Expr.{Number, Local, Read, Swap, Pick, Binary, Not, And, Or}
-use Rattle.lu_source_text.specs.Grammar.{Begun, Block, Drafted, Kind, Opening, added, added_to, all_read, assign, await_tree, awaited, awaiting, awaits_equal, behind_word, both_of, cas_in, cas_tree, cas_with, cell_in, closed_by, closing, code_for, compared, deeper, does_too, else_line, end_block, let_in, expr_before_brace, expr_from, expr_in, if_line, in_loop, inner_of, is_free_name, is_still, is_word, leave, let_line, local_in, lock_in, lock_number, loop_line, new_name, on_first, on_ok, or_fault, other_by, other_side, owner_tree, place_from, return_tree, scope_of, set_tree, simple, statement, steps_for, store_tree, tested, where_some, while_line, with_blocks, is_keyword, is_taken}
+use Rattle.lu_source_text.specs.Grammar.{Begun, Block, Drafted, Kind, Opening, added, added_to, all_read, assign, await_tree, awaited, awaiting, awaits_equal, after_word, both_of, cas_in, cas_tree, cas_with, cell_in, closed_by, closing, code_for, compared, deeper, does_too, else_line, end_block, let_in, expr_before_brace, expr_from, expr_in, if_line, in_loop, inner_of, is_free_name, is_still, is_word, leave, let_line, local_in, lock_in, lock_number, loop_line, new_name, on_first, on_ok, or_fault, other_by, other_side, owner_tree, place_from, return_tree, scope_of, set_tree, simple, statement, steps_for, store_tree, tested, where_some, while_line, with_blocks, is_keyword, is_taken}
 use Rattle.lu_source_text.specs.declared.fault.SourceFaultKind.TheVariants.{Form, Limit, Registers, Flow, Name}
 use Rattle.lu_source_text.specs.Grammar.Opening.{Whole, Test, Other, Turns}
 use Rattle.lu_source.specs.Sound.{IsExpr, IsTree}
@@ -128,8 +128,8 @@ module _ (d : Drafted) (values : AreValues d.constants) where
   expr_holds : {A : Type 0} (P : A → Type 0) (b : Begun) (ws : List Word) (go : Expr → Result A Kind) → ((e : Expr) → IsExpr (length d.words) e → Holds P (go e)) → Holds P (on_ok (expr_in d b ws) go)
   expr_holds P b ws go next = then_holds (IsExpr (length d.words)) P (expr_in d b ws) go (whole_fine (scope_of d b) values ws) next
 
-  words_hold : {A : Type 0} (P : A → Type 0) (text : List ℕ) (ws : List Word) (go : List Word → Result A Kind) → ((rest : List Word) → Holds P (go rest)) → Holds P (on_ok (behind_word text ws) go)
-  words_hold P text ws go next = then_holds (λ r. Unit {0}) P (behind_word text ws) go (any_holds (behind_word text ws)) (λ rest t. next rest)
+  words_hold : {A : Type 0} (P : A → Type 0) (text : List ℕ) (ws : List Word) (go : List Word → Result A Kind) → ((rest : List Word) → Holds P (go rest)) → Holds P (on_ok (after_word text ws) go)
+  words_hold P text ws go next = then_holds (λ r. Unit {0}) P (after_word text ws) go (any_holds (after_word text ws)) (λ rest t. next rest)
 
   first_holds : {A : Type 0} (P : A → Type 0) (ws : List Word) (go : Word → List Word → Result A Kind) → ((w : Word) (rest : List Word) → Holds P (go w rest)) → Holds P (on_first ws go)
   first_holds P [] go next = tt

@@ -4,7 +4,7 @@ use Rattle.std.specs.Prelude.{codes, nat_lt, if◌then◌else◌, Ok, Err}
 use Rattle.lu_text.specs.Words.{Word}
 use Rattle.lu_source.specs.Expressions.{Expr}
 use Rattle.lu_source_text.specs.declared.fault.SourceFaultKind.TheVariants.{Form}
-use Rattle.lu_source_text.specs.Grammar.{Drafted, Scope, is_word, names_from, new_name, binding, expr_from, infix_from, infix_in, inner_by, joined, most_behind, on_ok, unary_with, where_some}
+use Rattle.lu_source_text.specs.Grammar.{Drafted, Scope, is_word, names_from, new_name, binding, expr_from, infix_from, infix_in, inner_by, joined, most_after, on_ok, unary_with, where_some}
 
 pub expr_more : (n m : ℕ) (s : Scope) (least : ℕ) (ws : List Word) (w : Word) (rest : List Word) → n ≡ m + 1 → ws ≡ w ∷ rest
     → expr_from n s least ws ≡ on_ok (unary_with w (inner_by m s) rest) (λ (left, more). infix_from m s least 5 left more)
@@ -15,7 +15,7 @@ pub infix_more : (n m : ℕ) (s : Scope) (least most : ℕ) (left : Expr) (ws : 
     if nat_lt (binding by) least then Ok (left, w ∷ rest)
     else (if nat_lt most (binding by) then Err Form
     else on_ok (expr_from m s (binding by + 1) rest)
-    (λ (right, more). infix_from m s least (most_behind by) (joined by left right) more)))
+    (λ (right, more). infix_from m s least (most_after by) (joined by left right) more)))
 infix_more n m s least most left ws w rest e is = rw (e, is, add-one) refl
 
 pub names_more : (d : Drafted) (names : List Word) (ws : List Word) (w c : Word) (rest : List Word) → ws ≡ w ∷ c ∷ rest

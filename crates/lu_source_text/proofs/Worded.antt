@@ -28,7 +28,7 @@ words_enough (suc n) (suc m) (b ∷ bs) h k =
     ap (λ ws. (if is_blank b then [] else take (item_len (b ∷ bs)) (b ∷ bs) ∷ []) ++ ws)
     (words_enough n m (drop (item_len (b ∷ bs)) (b ∷ bs)) (omega (arith, l)) (omega (arith, l)))
 
--- the first word or blank, and the words behind it
+-- the first word or blank, and the words after it
 pub words_first : (bytes : List ℕ) → 0 < length bytes → words_in bytes ≡ (if is_blank (get_or bytes 0 0) then [] else take (item_len bytes) bytes ∷ []) ++ words_in (drop (item_len bytes) bytes)
 words_first [] h = absurd (omega arith)
 words_first (b ∷ bs) h =

@@ -196,7 +196,7 @@ pub record Scope : Type 0 where
   pub words : List Shared
   pub locals : List Word
 
--- what is read of words, with the words behind it
+-- what is read of words, with the words after it
 abbrev pub Read' : Type 0 → Type 0
 Read' A = Result (A × List Word) Kind
 
@@ -231,10 +231,10 @@ joined Or' a b = Or a b
 joined And' a b = And a b
 joined (Joins by) a b = Binary by a b
 
--- the words behind this one, which stands first
-abbrev pub behind_word : List ℕ → List Word → Result (List Word) Kind
-behind_word text [] = Err Form
-behind_word text (w ∷ ws) = if is_word w text then Ok ws else Err Form
+-- the words after this one, which stands first
+abbrev pub after_word : List ℕ → List Word → Result (List Word) Kind
+after_word text [] = Err Form
+after_word text (w ∷ ws) = if is_word w text then Ok ws else Err Form
 
 -- the first, or else the fault
 abbrev pub or_fault : {A : Type 0} → Kind → Option A → Result A Kind
@@ -250,9 +250,9 @@ either (Some x) other = Some x
 abbrev pub number_of : List Constant → Word → Result ℕ Kind
 number_of constants w = or_fault Number' (either (value_in w) (constant_from constants w))
 
--- how tightly a further operator may bind behind this one: comparisons do not chain
-abbrev pub most_behind : Infix → ℕ
-most_behind by = if binding by == 3 then 2 else binding by
+-- how tightly a further operator may bind after this one: comparisons do not chain
+abbrev pub most_after : Infix → ℕ
+most_after by = if binding by == 3 then 2 else binding by
 
 -- what a name stands for that is not followed by an index
 abbrev pub named_expr : Scope → Word → Option Expr
@@ -260,7 +260,7 @@ named_expr s w =
     either (option_map Local (local_in s.locals w))
     (option_map Number (constant_from s.constants w))
 
--- a number and the words behind it
+-- a number and the words after it
 abbrev pub first_number : List Constant → List Word → Read' ℕ
 first_number constants [] = Err Form
 first_number constants (w ∷ ws) = on_ok (number_of constants w) (λ k. Ok (k, ws))
@@ -279,13 +279,13 @@ pub record Inner : Type 0 where
 -- an expression, and then this word
 abbrev pub closed_with : List ℕ → Inner → List Word → Read' Expr
 closed_with text inner ws =
-    on_ok (inner.read 1 ws) (λ (e, rest). on_ok (behind_word text rest) (λ more. Ok (e, more)))
+    on_ok (inner.read 1 ws) (λ (e, rest). on_ok (after_word text rest) (λ more. Ok (e, more)))
 
 -- a shared word, with an index where it has many cells
 abbrev pub cell_with : Word → Inner → List Word → Read' (ℕ × Expr)
 cell_with w inner ws =
     on_ok (or_fault Name (shared_from 0 inner.scope.words w)) (λ (k, indexed).
-    if indexed then on_ok (behind_word (codes "[") ws) (λ index.
+    if indexed then on_ok (after_word (codes "[") ws) (λ index.
     on_ok (closed_with (codes "]") inner index) (λ (i, rest). Ok ((k, i), rest)))
     else Ok ((k, Number 0), ws))
 
@@ -296,33 +296,33 @@ name_with w inner ws =
     (on_ok (cell_with w inner ws) (λ (cell, rest). Ok (Read cell.0 cell.1, rest)))
     (λ e. Ok (e, ws))
 
--- `(CELL,` behind `cas`
+-- `(CELL,` after `cas`
 abbrev pub swapped_with : Inner → List Word → Read' (ℕ × Expr)
 swapped_with inner ws =
-    on_ok (behind_word (codes "(") ws) (λ inside. on_first inside (λ w rest.
+    on_ok (after_word (codes "(") ws) (λ inside. on_first inside (λ w rest.
     on_ok (cell_with w inner rest) (λ (cell, second).
-    on_ok (behind_word (codes ",") second) (λ third. Ok (cell, third)))))
+    on_ok (after_word (codes ",") second) (λ third. Ok (cell, third)))))
 
--- `OLD, NEW)` behind it
+-- `OLD, NEW)` after it
 abbrev pub exchange_with : Inner → List Word → Read' (Expr × Expr)
 exchange_with inner ws =
     on_ok (closed_with (codes ",") inner ws) (λ (old, rest).
     on_ok (closed_with (codes ")") inner rest) (λ (new, more). Ok ((old, new), more)))
 
--- `(CELL, OLD, NEW)` behind `cas`
+-- `(CELL, OLD, NEW)` after `cas`
 abbrev pub cas_with : Inner → List Word → Read' Expr
 cas_with inner ws =
     on_ok (swapped_with inner ws) (λ (cell, rest).
     on_ok (exchange_with inner rest) (λ ((old, new), more).
     Ok (Swap cell.0 cell.1 old new, more)))
 
--- `(K)` behind `pick`
+-- `(K)` after `pick`
 abbrev pub pick_from : List Constant → List Word → Read' Expr
 pick_from constants ws =
-    on_ok (behind_word (codes "(") ws) (λ inside.
+    on_ok (after_word (codes "(") ws) (λ inside.
     on_ok (first_number constants inside) (λ (k, rest).
     unless (nat_lt k 1 || nat_lt 8 k) Limit
-    (on_ok (behind_word (codes ")") rest) (λ more. Ok (Pick k, more)))))
+    (on_ok (after_word (codes ")") rest) (λ more. Ok (Pick k, more)))))
 
 -- an expression without operators between two values in it, but for those in parentheses
 abbrev pub unary_with : Word → Inner → List Word → Read' Expr
@@ -346,7 +346,7 @@ abbrev mutual
       on_ok (unary_with w (record { scope = s; read = expr_from n s }) rest)
       (λ (left, more). infix_from n s least 5 left more))
 
-  -- operators behind a left side, at least and at most so tight
+  -- operators after a left side, at least and at most so tight
   pub infix_from : ℕ → Scope → ℕ → ℕ → Expr → List Word → Read' Expr
   infix_from zero s least most left ws = Err Form
   infix_from (suc n) s least most left [] = Ok (left, [])
@@ -355,7 +355,7 @@ abbrev mutual
       if nat_lt (binding by) least then Ok (left, w ∷ ws)
       else (if nat_lt most (binding by) then Err Form
       else on_ok (expr_from n s (binding by + 1) ws)
-      (λ (right, rest). infix_from n s least (most_behind by) (joined by left right) rest)))
+      (λ (right, rest). infix_from n s least (most_after by) (joined by left right) rest)))
 
 -- expressions inside of another, by so many steps
 abbrev pub inner_by : ℕ → Scope → Inner
@@ -376,9 +376,9 @@ inner_of s ws = inner_by (steps_for ws) s
 
 -- what was read, and then this word, which is the last
 abbrev pub last_word : {A : Type 0} → List ℕ → A × List Word → Result A Kind
-last_word text (x, ws) = on_ok (behind_word text ws) (λ more. all_read (x, more))
+last_word text (x, ws) = on_ok (after_word text ws) (λ more. all_read (x, more))
 
--- a number, behind which no word is left
+-- a number, after which no word is left
 abbrev pub last_number : List Constant → List Word → Result ℕ Kind
 last_number constants ws = on_ok (first_number constants ws) all_read
 
@@ -409,7 +409,7 @@ local_line d ws =
 abbrev pub const_line : Drafted → List Word → Result Drafted Kind
 const_line d ws =
     on_first ws (λ w rest. on_ok (new_name d [] w) (λ name.
-    on_ok (behind_word (codes "=") rest) (λ more. on_ok (last_number d.constants more) (λ n.
+    on_ok (after_word (codes "=") rest) (λ more. on_ok (last_number d.constants more) (λ n.
     Ok (record d { constants = d.constants ++ record { name = name; value = n } ∷ [] })))))
 
 -- `[LEN]` or nothing
@@ -417,14 +417,14 @@ abbrev pub len_in : Drafted → List Word → Read' (ℕ × Bool)
 len_in d [] = Ok ((1, false), [])
 len_in d (w ∷ ws) =
     if is_word w (codes "[") then on_ok (first_number d.constants ws) (λ (n, rest).
-    on_ok (behind_word (codes "]") rest) (λ more. Ok ((n, true), more)))
+    on_ok (after_word (codes "]") rest) (λ more. Ok ((n, true), more)))
     else Ok ((1, false), w ∷ ws)
 
 -- `= INIT` or nothing
 abbrev pub init_in : Drafted → List Word → Result ℕ Kind
 init_in d [] = Ok 0
 init_in d (w ∷ ws) =
-    on_ok (behind_word (codes "=") (w ∷ ws)) (last_number d.constants)
+    on_ok (after_word (codes "=") (w ∷ ws)) (last_number d.constants)
 
 -- `word NAME`, `word NAME = INIT`, `word NAME[LEN]` or `word NAME[LEN] = INIT`
 abbrev pub word_line : Drafted → List Word → Result Drafted Kind
@@ -485,8 +485,8 @@ op_fault d name args =
 abbrev pub op_line : Drafted → List Word → Result Drafted Kind
 op_line d ws =
     on_first ws (λ name rest. unless (not (is_free_name name)) Form
-    (on_ok (behind_word (codes "(") rest) (λ inner. on_ok (names_in d inner) (λ (names, more).
-    on_ok (behind_word (codes "{") more) (λ end. on_ok (all_read (names, end)) (λ args.
+    (on_ok (after_word (codes "(") rest) (λ inner. on_ok (names_in d inner) (λ (names, more).
+    on_ok (after_word (codes "{") more) (λ end. on_ok (all_read (names, end)) (λ args.
     where_some (op_fault d name args) (Ok (record d { begun = Some (begun_as name args) }))
     Err))))))
 
@@ -501,7 +501,7 @@ declaration d w ws =
 
 -- ---- statements
 
--- The block does this too. Behind what does not come to its end stands nothing.
+-- The block does this too. After what does not come to its end stands nothing.
 abbrev pub does_too : Block → Tree → Result Block Kind
 does_too block t =
     unless (not (falls block.does)) Flow (Ok (record block { does = Then block.does t }))
@@ -530,11 +530,11 @@ deeper b opening chained =
 abbrev pub code_for : Expr → ℕ → ℕ → Result Coded Kind
 code_for e to free = unless (nat_lt 8 (needed e to free)) Registers (Ok (coded e to free))
 
--- the same behind the locals
+-- the same after the locals
 abbrev pub value_of : Begun → Expr → Result Coded Kind
 value_of b e = code_for e (length b.locals) (length b.locals)
 
--- the code of an index, and of a value behind it
+-- the code of an index, and of a value after it
 abbrev pub both_of : Begun → Expr → Expr → Result (Coded × Coded) Kind
 both_of b i e =
     on_ok (value_of b i) (λ x.
@@ -554,11 +554,11 @@ abbrev pub expr_before_brace : Drafted → Begun → List Word → Result Expr K
 expr_before_brace d b ws =
     on_ok (expr_from (steps_for ws) (scope_of d b) 1 ws) (last_word (codes "{"))
 
--- `(CELL, OLD, NEW)` behind `cas`, which all the words are
+-- `(CELL, OLD, NEW)` after `cas`, which all the words are
 abbrev pub cas_in : Drafted → Begun → List Word → Result Expr Kind
 cas_in d b ws = on_ok (cas_with (inner_of (scope_of d b) ws) ws) all_read
 
--- a cell, and the words behind it
+-- a cell, and the words after it
 abbrev pub cell_in : Word → Drafted → Begun → List Word → Read' (ℕ × Expr)
 cell_in w d b ws = cell_with w (inner_of (scope_of d b) ws) ws
 
@@ -566,7 +566,7 @@ cell_in w d b ws = cell_with w (inner_of (scope_of d b) ws) ws
 abbrev pub let_in : Drafted → Begun → List Word → Result (Word × Tree) Kind
 let_in d b ws =
     on_first ws (λ w rest. on_ok (new_name d b.locals w) (λ name.
-    on_ok (behind_word (codes "=") rest) (λ more. on_ok (expr_in d b more) (λ e.
+    on_ok (after_word (codes "=") rest) (λ more. on_ok (expr_in d b more) (λ e.
     unless (nat_le 8 (length b.locals)) Registers
     (on_ok (value_of b e) (λ x. Ok (name, put_at (length b.locals) x)))))))
 
@@ -579,7 +579,7 @@ let_line d b ws =
 -- `NAME = EXPR` of a local
 abbrev pub set_tree : ℕ → Drafted → Begun → List Word → Result Tree Kind
 set_tree r d b ws =
-    on_ok (behind_word (codes "=") ws) (λ more. on_ok (expr_in d b more) (λ e.
+    on_ok (after_word (codes "=") ws) (λ more. on_ok (expr_in d b more) (λ e.
     on_ok (code_for e r (length b.locals)) (λ x. Ok (put_at r x))))
 
 -- the codes of two values, and then the action
@@ -590,7 +590,7 @@ both_then first second last = Then first (Then second (Plain last))
 abbrev pub store_tree : Word → Drafted → Begun → List Word → Result Tree Kind
 store_tree w d b ws =
     on_ok (cell_in w d b ws) (λ (cell, rest).
-    on_ok (behind_word (codes "=") rest) (λ more. on_ok (expr_in d b more) (λ e.
+    on_ok (after_word (codes "=") rest) (λ more. on_ok (expr_in d b more) (λ e.
     on_ok (both_of b cell.1 e) (λ (x, y).
     Ok (both_then x.code y.code (action.Store cell.0 x.at y.at))))))
 
@@ -614,7 +614,7 @@ awaits_equal w =
 abbrev pub awaiting : Bool → ℕ → Operand → Operand → Action
 awaiting equal w i v = if equal then action.Await w i v else action.AwaitNot w i v
 
--- `== EXPR` or `!= EXPR` behind the cell: whether it is to be equal, and what to
+-- `== EXPR` or `!= EXPR` after the cell: whether it is to be equal, and what to
 abbrev pub compared : Drafted → Begun → List Word → Result (Bool × Expr) Kind
 compared d b ws =
     on_first ws (λ by rest. on_ok (or_fault Form (awaits_equal by)) (λ equal.
@@ -694,12 +694,12 @@ while_line d b ws =
 -- `loop {`
 abbrev pub loop_line : Begun → List Word → Result Begun Kind
 loop_line b ws =
-    on_ok (behind_word (codes "{") ws) (λ rest. on_ok (all_read (b, rest)) (λ here.
+    on_ok (after_word (codes "{") ws) (λ rest. on_ok (all_read (b, rest)) (λ here.
     deeper here Turns false))
 
 -- ---- `}`
 
--- what a block does that a `}` closes, behind which nothing else stands
+-- what a block does that a `}` closes, after which nothing else stands
 abbrev pub closed_by : Opening → Tree → Tree
 closed_by Whole does = does
 closed_by (Test v) does = If v does
@@ -766,14 +766,14 @@ other_by b block Turns = Err Form
 abbrev pub other_side : Begun → Block → Result Begun Kind
 other_side b block = other_by b block block.opening
 
--- `{` and `if EXPR {`, behind `} else`
+-- `{` and `if EXPR {`, after `} else`
 abbrev pub else_line : Drafted → Begun → List Word → Result Begun Kind
 else_line d b ws =
     on_first ws (λ w rest.
     if is_word w (codes "{") then all_read (b, rest)
     else (if is_word w (codes "if") then if_line true d b rest else Err Form))
 
--- a line that begins with `}`, where this is the innermost block, and these words come behind
+-- a line that begins with `}`, where this is the innermost block, and these words come after
 abbrev pub closes : Block → Drafted → Begun → List Word → Result Drafted Kind
 closes block d b [] = end_line d b block
 closes block d b (w ∷ ws) =
@@ -786,7 +786,7 @@ abbrev pub close_blocks : List Block → Drafted → Begun → List Word → Res
 close_blocks [] d b ws = Err Flow
 close_blocks (block ∷ blocks) d b ws = closes block d (record b { blocks = blocks }) ws
 
--- a line that begins with `}`, and the words behind it
+-- a line that begins with `}`, and the words after it
 abbrev pub close_line : Drafted → Begun → List Word → Result Drafted Kind
 close_line d b ws = close_blocks b.blocks d b ws
 

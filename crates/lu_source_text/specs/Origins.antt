@@ -54,30 +54,30 @@ standing_at d o = get_or (standings d) o (0, [])
 
 -- ---- lines
 
--- a line, and the locals that are in scope behind it
+-- a line, and the locals that are in scope after it
 abbrev pub Entry : Type 0
 Entry = ℕ × List Word
 
--- the draft behind a line; a line with a fault changes nothing
+-- the draft after a line; a line with a fault changes nothing
 abbrev pub behind : Drafted → List ℕ → Drafted
 behind d line = (going_on d (line_of d line)).0
 
--- line n, where an operation that stands so behind it has an instruction p
+-- line n, where an operation that stands so after it has an instruction p
 abbrev pub if_there : ℕ → Standing → ℕ → Option Entry
 if_there n s p = if nat_lt p s.0 then Some (n, s.1) else None
 
 -- Where instruction p of operation o comes from, of lines from number n on that follow on a draft:
--- the first line behind which it is there.
+-- the first line after which it is there.
 abbrev pub origin_from : ℕ → Drafted → List (List ℕ) → ℕ → ℕ → Option Entry
 origin_from n d [] o p = None
 origin_from n d (line ∷ lines) o p =
     either (if_there n (standing_at (behind d line) o) p)
     (origin_from (n + 1) (behind d line) lines o p)
 
--- the draft behind lines that follow on a draft
-abbrev pub behind_lines : Drafted → List (List ℕ) → Drafted
-behind_lines d [] = d
-behind_lines d (line ∷ lines) = behind_lines (behind d line) lines
+-- the draft after lines that follow on a draft
+abbrev pub after_lines : Drafted → List (List ℕ) → Drafted
+after_lines d [] = d
+after_lines d (line ∷ lines) = after_lines (behind d line) lines
 
 -- of each shared word, whether it is written with an index
 abbrev pub are_indexed : Drafted → List Bool
@@ -96,7 +96,7 @@ entries rows = map (λ row. map entry_of row.items) rows
 abbrev pub entries_at : {Z : Type 0} → List (Vec Origin Z) → ℕ → List Entry
 entries_at rows o = get_or (entries rows) o []
 
--- the entries with those of line n that are missing, where the operation stands so behind it
+-- the entries with those of line n that are missing, where the operation stands so after it
 abbrev pub filled : ℕ → Standing → List Entry → List Entry
 filled n s xs = xs ++ replicate (s.0 - length xs) (n, s.1)
 
@@ -104,7 +104,7 @@ filled n s xs = xs ++ replicate (s.0 - length xs) (n, s.1)
 abbrev pub IsFilled : ℕ → Standing → List Origin → List Origin → Type 0
 IsFilled n s old new = map entry_of new ≡ filled n s (map entry_of old)
 
--- the entries of each operation are filled so, where it stands so behind line n
+-- the entries of each operation are filled so, where it stands so after line n
 abbrev pub AreFilled : {Z : Type 0} → ℕ → (ℕ → Standing) → List (Vec Origin Z) → List (Vec Origin Z)
     → Type 0
 AreFilled n at old new = (o : ℕ) → entries_at new o ≡ filled n (at o) (entries_at old o)
@@ -123,7 +123,7 @@ abbrev pub AreOrigins : List (List ℕ) → Origins → Type 0
 AreOrigins lines origins =
     ((o p : ℕ)
     → slice_get (entries_at origins.operations.items o) p ≡ origin_from 1 nothing lines o p)
-    × (origins.indexed.items ≡ are_indexed (behind_lines nothing lines))
+    × (origins.indexed.items ≡ are_indexed (after_lines nothing lines))
 
 -- the code of operation o of a source; none where it has no such operation
 abbrev pub code_of : Program → ℕ → List Instr

@@ -1,7 +1,7 @@
 -- What is read of a source.
 use Rattle.std.specs.Prelude.{◌≡◌, ℕ, List, Result, Ok}
 use Rattle.std.specs.Result.{result_map_both}
-use Rattle.lu_component.specs.Component.{Declarations, IsComponent}
+use Rattle.lu_component.specs.Component.{Component, IsComponent}
 use Rattle.lu_text.specs.declared.fault.Fault.{Fault}
 use Rattle.lu_text.specs.Faults.{Gives, OnLine, meaning_of}
 use Rattle.lu_source.specs.Programs.{program_of}
@@ -25,15 +25,15 @@ program_in s = program_of s.name s.local s.arrays s.locks s.operations.items
 abbrev pub GivesSource : Result Source (Fault Kind) → Result Program (Fault Kind) → Type 0
 GivesSource returned meant = Gives (result_map_both program_in (λ e. e) returned) meant
 
--- the draft behind line n, or the fault of this line, unless memory ran out
+-- the draft after line n, or the fault of this line, unless memory ran out
 abbrev pub GivesDraft : ℕ → Result Draft (Fault Kind) → Result Drafted Kind → Type 0
 GivesDraft n returned meant = OnLine n (result_map_both drafted_of (λ e. e) returned) meant
 
 -- the component of a text, or the text's first fault
-abbrev pub component_meant : List ℕ → Result Declarations (Fault Kind)
+abbrev pub component_meant : List ℕ → Result Component (Fault Kind)
 component_meant text = result_map_both compiled (λ e. e) (meaning_of source_grammar text)
 
 -- the component is compiled from the source that the text spells, and does as that source
-abbrev pub IsCompiledFrom : List ℕ → Declarations → Type 0
+abbrev pub IsCompiledFrom : List ℕ → Component → Type 0
 IsCompiledFrom text c =
     (p : Program) × (meaning_of source_grammar text ≡ Ok p) × IsCompiled p c

@@ -41,7 +41,7 @@ Reads seen (Err e) meant = IsRefused e meant
 abbrev pub Left : Type 0
 Left = Bor (List (Bor Word))
 
--- what is read of words, seen so, and the words behind it
+-- what is read of words, seen so, and the words after it
 abbrev pub with_rest : {A B : Type 0} → (A → B) → A × Left → B × List Word
 with_rest seen read = (seen read.0, texts read.1.now)
 
@@ -68,9 +68,9 @@ meanings s = record { constants = s.constants.now; words = s.words.now; locals =
 abbrev pub by_steps : {A : Type 0} → (Inner → List Word → A) → ℕ → Lent → List (Bor Word) → A
 by_steps said steps s words = said (inner_by steps (meanings s)) (texts words)
 
--- what is said of operators behind this left side, at least and at most so tight
-abbrev pub infix_behind : Boxed → ℕ → ℕ → ℕ → Lent → List (Bor Word) → Read' Expr
-infix_behind left least most steps s words =
+-- what is said of operators after this left side, at least and at most so tight
+abbrev pub infix_after : Boxed → ℕ → ℕ → ℕ → Lent → List (Bor Word) → Read' Expr
+infix_after left least most steps s words =
     infix_from steps (meanings s) least most (expr_of left) (texts words)
 
 -- ---- values
@@ -88,7 +88,7 @@ ReadsBegun returned meant = Reads begun_of returned meant
 abbrev pub ReadsValue : Result ℕ Refusal → Result ℕ Kind → Type 0
 ReadsValue returned meant = ReadsAlone returned meant
 
--- a length, whether it is written, and the words behind it
+-- a length, whether it is written, and the words after it
 abbrev pub ReadsSize : Result (ℕ × Bool × Left) Refusal → Result ((ℕ × Bool) × List Word) Kind
     → Type 0
 ReadsSize returned meant = Reads (λ (n, written, rest). ((n, written), texts rest.now)) returned meant
@@ -146,11 +146,11 @@ abbrev pub ReadsExchange : Result ((Boxed × Boxed) × Left) Refusal
 ReadsExchange returned meant =
     Reads (with_rest (λ (old, new). (expr_of old, expr_of new))) returned meant
 
--- no word stands behind an expression that was read
+-- no word stands after an expression that was read
 abbrev pub ReadsNoMore : Result (Unit {0}) Refusal → List Word → Type 0
 ReadsNoMore returned ws = (e : Expr) → Reads (λ _. e) returned (all_read (e, ws))
 
--- this word stands behind it, as the last one
+-- this word stands after it, as the last one
 abbrev pub ReadsLast : Result (Unit {0}) Refusal → List ℕ → List Word → Type 0
 ReadsLast returned text ws = (e : Expr) → Reads (λ _. e) returned (last_word text (e, ws))
 
@@ -177,7 +177,7 @@ ReadsTree returned meant = Reads tree_of returned meant
 abbrev pub ReadsCode : Result Evaluation Refusal → Result Coded Kind → Type 0
 ReadsCode returned meant = Reads coded_of returned meant
 
--- the code of an index, and of a value behind it
+-- the code of an index, and of a value after it
 abbrev pub ReadsBoth : Result (Evaluation × Evaluation) Refusal → HeldBegun → Boxed → Boxed → Type 0
 ReadsBoth returned b i e =
     Reads (λ (x, y). (coded_of x, coded_of y)) returned

@@ -71,7 +71,7 @@ pub(crate) fn add_to(alloc: Global, blocks: &mut Vec<Block>, stmt: Stmt) -> Resu
     Ok(())
 }
 
-/// What a block does that a `}` closes, behind which nothing else stands.
+/// What a block does that a `}` closes, after which nothing else stands.
 pub(crate) fn closed_by(alloc: Global, opening: Opening, does: Stmt) -> Result<Stmt, Refusal>
     ensures { ReadsTree result (Ok (spec.closed_by (opening_of opening) (tree_of does))) }
 {

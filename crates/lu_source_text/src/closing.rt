@@ -99,7 +99,7 @@ fn other_side(begun: &mut Begun, block: Block) -> Result<(), Refusal>
     Ok(())
 }
 
-/// `{` and `if EXPR {`, behind `} else`.
+/// `{` and `if EXPR {`, after `} else`.
 fn else_line(
     alloc: Global,
     draft: &Draft,
@@ -123,7 +123,7 @@ fn else_line(
     }
 }
 
-/// A line that begins with `}`, where this is the innermost block, and these words come behind.
+/// A line that begins with `}`, where this is the innermost block, and these words come after.
 fn closes(
     alloc: Global,
     draft: Draft,
@@ -145,7 +145,7 @@ fn closes(
     }
 }
 
-/// A line that begins with `}`, and the words behind it.
+/// A line that begins with `}`, and the words after it.
 pub(crate) fn close_line(
     alloc: Global,
     draft: Draft,

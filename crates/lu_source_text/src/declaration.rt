@@ -9,7 +9,7 @@ ghost use Rattle.lu_source_text.specs.Grammar as spec;
 ghost use Rattle.lu_source_text.specs.Reads.{ReadsAlone, ReadsBegun, ReadsConstant, ReadsDraft, ReadsLocal, ReadsLock, ReadsNames, ReadsObject, ReadsOp, ReadsShared, ReadsSize, ReadsValue, in_draft};
 
 use crate::draft::{Begun, Block, Constant, Draft, Opening, Shared};
-use crate::expression::{behind_word, first_number};
+use crate::expression::{after_word, first_number};
 use crate::fault::{Refusal, SourceFaultKind};
 use crate::names::{constant_from, is_free_name, place_from, shared_from};
 use lu_component::{
@@ -81,7 +81,7 @@ pub(crate) fn object_line(
     Ok(draft)
 }
 
-/// A number, behind which no word is left.
+/// A number, after which no word is left.
 fn last_number(constants: &[Constant], words: &[&[u8]]) -> Result<u32, Refusal>
     ensures { ReadsValue result (spec.last_number constants.now (texts words.now)) }
 {
@@ -122,7 +122,7 @@ fn constant_in(alloc: Global, draft: &Draft, words: &[&[u8]]) -> Result<Constant
         return Err(Refusal::Kind(SourceFaultKind::Form));
     };
     let name = new_name(alloc, draft, &[], word)?;
-    let more = behind_word(b"=".as_slice(), rest)?;
+    let more = after_word(b"=".as_slice(), rest)?;
     let value = last_number(&draft.constants, more)?;
     Ok(Constant { name, value })
 }
@@ -136,7 +136,7 @@ fn const_line(alloc: Global, mut draft: Draft, words: &[&[u8]]) -> Result<Draft,
     Ok(draft)
 }
 
-/// `[LEN]` or nothing: the length, whether it is written, and the words behind it.
+/// `[LEN]` or nothing: the length, whether it is written, and the words after it.
 fn len_in<'a>(draft: &Draft, words: &'a [&'a [u8]]) -> Result<(u32, bool, &'a [&'a [u8]]), Refusal>
     ensures { ReadsSize result (spec.len_in (drafted_of draft.now) (texts words.now)) }
 {
@@ -147,7 +147,7 @@ fn len_in<'a>(draft: &Draft, words: &'a [&'a [u8]]) -> Result<(u32, bool, &'a [&
         return Ok((1, false, words));
     }
     let (len, more) = first_number(&draft.constants, rest)?;
-    let end = behind_word(b"]".as_slice(), more)?;
+    let end = after_word(b"]".as_slice(), more)?;
     Ok((len, true, end))
 }
 
@@ -158,7 +158,7 @@ fn init_in(draft: &Draft, words: &[&[u8]]) -> Result<u32, Refusal>
     if words.split_first().is_none() {
         return Ok(0);
     }
-    let rest = behind_word(b"=".as_slice(), words)?;
+    let rest = after_word(b"=".as_slice(), words)?;
     last_number(&draft.constants, rest)
 }
 
@@ -217,7 +217,7 @@ fn lock_line(alloc: Global, mut draft: Draft, words: &[&[u8]]) -> Result<Draft, 
     Ok(draft)
 }
 
-/// Names parted by commas and then `)`, behind the names that were there; and the words behind.
+/// Names parted by commas and then `)`, after the names that were there; and the words after.
 fn names_from<'a>(
     alloc: Global,
     draft: &Draft,
@@ -242,7 +242,7 @@ fn names_from<'a>(
     }
 }
 
-/// `)`, or names and then `)`; and the words behind.
+/// `)`, or names and then `)`; and the words after.
 fn names_in<'a>(
     alloc: Global,
     draft: &Draft,
@@ -295,9 +295,9 @@ fn op_in(alloc: Global, draft: &Draft, words: &[&[u8]]) -> Result<Begun, Refusal
     if !is_free_name(word) {
         return Err(Refusal::Kind(SourceFaultKind::Form));
     }
-    let inside = behind_word(b"(".as_slice(), rest)?;
+    let inside = after_word(b"(".as_slice(), rest)?;
     let (locals, more) = names_in(alloc, draft, inside)?;
-    let end = behind_word(b"{".as_slice(), more)?;
+    let end = after_word(b"{".as_slice(), more)?;
     if let Some(_) = end.split_first() {
         return Err(Refusal::Kind(SourceFaultKind::Form));
     }

@@ -6,23 +6,23 @@ ghost use Rattle.lu_text.specs.Lines.{texts};
 ghost use Rattle.lu_source.specs.Evaluations.{expr_of};
 ghost use Rattle.lu_source.specs.Expressions.Expr.{Not};
 ghost use Rattle.lu_source_text.specs.Grammar as spec;
-ghost use Rattle.lu_source_text.specs.Reads.{ReadsCell, ReadsExchange, ReadsExpr, ReadsLast, ReadsNoMore, ReadsNumber, ReadsWords, by_steps, infix_behind, meanings, swap_of};
+ghost use Rattle.lu_source_text.specs.Reads.{ReadsCell, ReadsExchange, ReadsExpr, ReadsLast, ReadsNoMore, ReadsNumber, ReadsWords, by_steps, infix_after, meanings, swap_of};
 
 use crate::draft::Constant;
 use crate::fault::{Refusal, SourceFaultKind};
-use crate::infix::{Infix, binding, infix_in, most_behind};
+use crate::infix::{Infix, binding, infix_in, most_after};
 use crate::names::{constant_from, is_free_name, number_of, place_from, shared_from};
 use crate::scope::{Cell, Scope};
 use lu_source::Expr;
 use lu_text::{Name, value_in};
 use std::alloc::{AllocError, Global};
 
-/// An expression, and the words behind it.
+/// An expression, and the words after it.
 type Parsed<'a> = (Expr, &'a [&'a [u8]]);
 
-/// The words behind this one, which stands first.
-pub(crate) fn behind_word<'a>(text: &[u8], words: &'a [&'a [u8]]) -> Result<&'a [&'a [u8]], Refusal>
-    ensures { ReadsWords result (spec.behind_word text.now (texts words.now)) }
+/// The words after this one, which stands first.
+pub(crate) fn after_word<'a>(text: &[u8], words: &'a [&'a [u8]]) -> Result<&'a [&'a [u8]], Refusal>
+    ensures { ReadsWords result (spec.after_word text.now (texts words.now)) }
 {
     let Some((word, rest)) = words.split_first() else {
         return Err(Refusal::Kind(SourceFaultKind::Form));
@@ -34,7 +34,7 @@ pub(crate) fn behind_word<'a>(text: &[u8], words: &'a [&'a [u8]]) -> Result<&'a 
     }
 }
 
-/// Whether nothing stands behind what was read.
+/// Whether nothing stands after what was read.
 pub(crate) fn nothing_left(words: &[&[u8]]) -> Result<(), Refusal>
     ensures { ReadsNoMore result (texts words.now) }
 {
@@ -44,14 +44,14 @@ pub(crate) fn nothing_left(words: &[&[u8]]) -> Result<(), Refusal>
     }
 }
 
-/// Whether this word stands behind what was read, as the last one.
+/// Whether this word stands after what was read, as the last one.
 pub(crate) fn last_word(text: &[u8], words: &[&[u8]]) -> Result<(), Refusal>
     ensures { ReadsLast result text.now (texts words.now) }
 {
-    nothing_left(behind_word(text, words)?)
+    nothing_left(after_word(text, words)?)
 }
 
-/// A number, and the words behind it.
+/// A number, and the words after it.
 pub(crate) fn first_number<'a>(
     constants: &[Constant],
     words: &'a [&'a [u8]],
@@ -102,16 +102,16 @@ fn joined(alloc: Global, by: Infix, left: Expr, right: Expr) -> Result<Expr, All
     })
 }
 
-/// `(K)` behind `pick`.
+/// `(K)` after `pick`.
 fn pick_from<'a>(constants: &[Constant], words: &'a [&'a [u8]]) -> Result<Parsed<'a>, Refusal>
     ensures { ReadsExpr result (spec.pick_from constants.now (texts words.now)) }
 {
-    let inside = behind_word(b"(".as_slice(), words)?;
+    let inside = after_word(b"(".as_slice(), words)?;
     let (count, rest) = first_number(constants, inside)?;
     if count < 1 || count > 8 {
         return Err(Refusal::Kind(SourceFaultKind::Limit));
     }
-    let more = behind_word(b")".as_slice(), rest)?;
+    let more = after_word(b")".as_slice(), rest)?;
     Ok((Expr::Pick(count as u8), more))
 }
 
@@ -127,7 +127,7 @@ fn closed_with<'a>(
     ensures { ReadsExpr result (by_steps (spec.closed_with text.now) steps scope.entry words.now) }
 {
     let (expr, rest) = expr_from(alloc, steps, scope, 1, words)?;
-    let more = behind_word(text, rest)?;
+    let more = after_word(text, rest)?;
     Ok((expr, more))
 }
 
@@ -147,7 +147,7 @@ pub(crate) fn cell_with<'a>(
     };
     let array = place as u8;
     if indexed {
-        let inside = behind_word(b"[".as_slice(), words)?;
+        let inside = after_word(b"[".as_slice(), words)?;
         let (index, rest) = closed_with(alloc, steps, scope, b"]".as_slice(), inside)?;
         Ok((Cell { array, index }, rest))
     } else {
@@ -175,7 +175,7 @@ fn name_with<'a>(
     Ok((Expr::Read(cell.array, index), rest))
 }
 
-/// `(CELL,` behind `cas`.
+/// `(CELL,` after `cas`.
 #[cycle(expression)]
 fn swapped_with<'a>(
     alloc: Global,
@@ -185,16 +185,16 @@ fn swapped_with<'a>(
 ) -> Result<(Cell, &'a [&'a [u8]]), Refusal>
     ensures { ReadsCell result (by_steps spec.swapped_with steps scope.entry words.now) }
 {
-    let inside = behind_word(b"(".as_slice(), words)?;
+    let inside = after_word(b"(".as_slice(), words)?;
     let Some((word, rest)) = inside.split_first() else {
         return Err(Refusal::Kind(SourceFaultKind::Form));
     };
     let (cell, second) = cell_with(alloc, steps, scope, word, rest)?;
-    let third = behind_word(b",".as_slice(), second)?;
+    let third = after_word(b",".as_slice(), second)?;
     Ok((cell, third))
 }
 
-/// `OLD, NEW)` behind it.
+/// `OLD, NEW)` after it.
 #[cycle(expression)]
 fn exchange_with<'a>(
     alloc: Global,
@@ -209,7 +209,7 @@ fn exchange_with<'a>(
     Ok(((old, new), more))
 }
 
-/// `(CELL, OLD, NEW)` behind `cas`.
+/// `(CELL, OLD, NEW)` after `cas`.
 #[cycle(expression)]
 pub(crate) fn cas_with<'a>(
     alloc: Global,
@@ -297,7 +297,7 @@ pub(crate) fn expr_from<'a>(
     infix_from(alloc, steps - 1, scope, least, 5, left, more)
 }
 
-/// Operators behind a left side, which bind at least and at most so tightly.
+/// Operators after a left side, which bind at least and at most so tightly.
 #[cycle(expression)]
 fn infix_from<'a>(
     alloc: Global,
@@ -308,7 +308,7 @@ fn infix_from<'a>(
     left: Expr,
     words: &'a [&'a [u8]],
 ) -> Result<Parsed<'a>, Refusal>
-    ensures { ReadsExpr result (infix_behind left least most steps scope.entry words.now) }
+    ensures { ReadsExpr result (infix_after left least most steps scope.entry words.now) }
 {
     if steps == 0 {
         return Err(Refusal::Kind(SourceFaultKind::Form));
@@ -328,5 +328,5 @@ fn infix_from<'a>(
     }
     let (right, more) = expr_from(alloc, steps - 1, scope, binds + 1, rest)?;
     let both = joined(alloc, by, left, right)?;
-    infix_from(alloc, steps - 1, scope, least, most_behind(by), both, more)
+    infix_from(alloc, steps - 1, scope, least, most_after(by), both, more)
 }

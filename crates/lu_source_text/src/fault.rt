@@ -60,7 +60,7 @@ impl SourceFaultKind {
     }
 }
 
-/// Why a text is no source: the first fault by line, or want of memory, which is shown as `memory`.
+/// Why a text is no source: the first fault by line, or refused memory, which is shown as `memory`.
 pub type SourceFault = Fault<SourceFaultKind>;
 
 /// Why a line is not read.

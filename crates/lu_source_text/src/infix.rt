@@ -62,9 +62,9 @@ pub(crate) fn binding(by: Infix) -> u8
     }
 }
 
-/// How tightly a further operator may bind behind this one: comparisons do not chain.
-pub(crate) fn most_behind(by: Infix) -> u8
-    ensures { result ≡ spec.most_behind by }
+/// How tightly a further operator may bind after this one: comparisons do not chain.
+pub(crate) fn most_after(by: Infix) -> u8
+    ensures { result ≡ spec.most_after by }
 {
     match binding(by) {
         3 => 2,

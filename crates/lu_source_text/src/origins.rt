@@ -139,7 +139,7 @@ fn fill_closed(
     Ok(())
 }
 
-/// Adds the entries that are missing behind this line.
+/// Adds the entries that are missing after this line.
 fn fill_all(
     alloc: Global,
     rows: &mut Vec<Vec<Origin>>,
@@ -206,8 +206,8 @@ fn origins_of_lines(alloc: Global, lines: &[&[u8]]) -> Result<Origins, SourceFau
 }
 
 /// Where the instructions of the component come from that a source's text is compiled to
-/// (`compile_text`). An instruction comes from the first line behind which its operation has it;
-/// in scope are the locals behind that line, and none where it closes the operation.
+/// (`compile_text`). An instruction comes from the first line after which its operation has it;
+/// in scope are the locals after that line, and none where it closes the operation.
 ///
 /// A fault is that of `compile_text`.
 ///

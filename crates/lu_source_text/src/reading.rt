@@ -127,7 +127,7 @@ fn read_line(alloc: Global, draft: Draft, text: &[u8]) -> Result<Draft, Refusal>
     short_line(alloc, draft, &words)
 }
 
-/// The draft behind a line, or the fault with the line's number.
+/// The draft after a line, or the fault with the line's number.
 pub(crate) fn line_read(
     alloc: Global,
     line: usize,

@@ -12,7 +12,7 @@ ghost use Rattle.lu_source_text.specs.Reads.{Reads, ReadsAwaited, ReadsBoth, Rea
 
 use crate::draft::{Begun, Block, Draft, Opening};
 use crate::expression::{
-    behind_word, cas_with, cell_with, expr_from, last_word, local_in, nothing_left,
+    after_word, cas_with, cell_with, expr_from, last_word, local_in, nothing_left,
 };
 use crate::fault::{Refusal, SourceFaultKind};
 use crate::names::{is_free_name, place_from};
@@ -62,7 +62,7 @@ pub(crate) fn expr_before_brace(
     Ok(expr)
 }
 
-/// `(CELL, OLD, NEW)` behind `cas`, which all the words are.
+/// `(CELL, OLD, NEW)` after `cas`, which all the words are.
 fn cas_in(alloc: Global, draft: &Draft, begun: &Begun, words: &[&[u8]]) -> Result<Expr, Refusal>
     ensures { ReadsWhole result (in_begun spec.cas_in draft.now begun.now words.now) }
 {
@@ -72,7 +72,7 @@ fn cas_in(alloc: Global, draft: &Draft, begun: &Begun, words: &[&[u8]]) -> Resul
     Ok(expr)
 }
 
-/// A cell of a shared word, and the words behind it.
+/// A cell of a shared word, and the words after it.
 fn cell_in<'a>(
     alloc: Global,
     draft: &Draft,
@@ -96,7 +96,7 @@ fn code_for(alloc: Global, expr: &Expr, to: u8, free: u8) -> Result<Evaluation, 
     }
 }
 
-/// The same behind the locals.
+/// The same after the locals.
 pub(crate) fn value_of(alloc: Global, begun: &Begun, expr: &Expr) -> Result<Evaluation, Refusal>
     ensures { ReadsCode result (spec.value_of (begun_of begun.now) (expr_of expr.now)) }
 {
@@ -104,7 +104,7 @@ pub(crate) fn value_of(alloc: Global, begun: &Begun, expr: &Expr) -> Result<Eval
     code_for(alloc, expr, free, free)
 }
 
-/// The code of an index, and of a value behind it.
+/// The code of an index, and of a value after it.
 fn both_of(
     alloc: Global,
     begun: &Begun,
@@ -145,7 +145,7 @@ fn set_tree(
 ) -> Result<Stmt, Refusal>
     ensures { ReadsTree result (in_begun (spec.set_tree register) draft.now begun.now words.now) }
 {
-    let more = behind_word(b"=".as_slice(), words)?;
+    let more = after_word(b"=".as_slice(), words)?;
     let expr = expr_in(alloc, draft, begun, more)?;
     let value = code_for(alloc, &expr, register, begun.locals.len() as u8)?;
     Ok(put_value(alloc, value, register)?)
@@ -162,7 +162,7 @@ fn store_tree(
     ensures { ReadsTree result (in_begun (spec.store_tree word.now) draft.now begun.now words.now) }
 {
     let (cell, rest) = cell_in(alloc, draft, begun, word, words)?;
-    let more = behind_word(b"=".as_slice(), rest)?;
+    let more = after_word(b"=".as_slice(), rest)?;
     let expr = expr_in(alloc, draft, begun, more)?;
     let (index, value) = both_of(alloc, begun, &cell.index, &expr)?;
     let action = Action::Store {
@@ -219,7 +219,7 @@ fn awaiting(equal: bool, array: u8, index: Operand, value: Operand) -> Action
     }
 }
 
-/// `== EXPR` or `!= EXPR` behind the cell: whether it is to be equal, and what to.
+/// `== EXPR` or `!= EXPR` after the cell: whether it is to be equal, and what to.
 fn compared(
     alloc: Global,
     draft: &Draft,

@@ -12,7 +12,7 @@ ghost use Rattle.lu_source_text.specs.Reads.{Becomes, ReadsLet, ReadsLine, Reads
 use crate::blocks::{add_to, are_deep, push_block};
 use crate::declaration::{new_name, open_block};
 use crate::draft::{Begun, Draft, Opening};
-use crate::expression::behind_word;
+use crate::expression::after_word;
 use crate::fault::{Refusal, SourceFaultKind};
 use crate::simple::{expr_before_brace, expr_in, put_value, simple, value_of};
 use lu_component::Operand;
@@ -54,7 +54,7 @@ fn let_in(
         return Err(Refusal::Kind(SourceFaultKind::Form));
     };
     let name = new_name(alloc, draft, &begun.locals, word)?;
-    let more = behind_word(b"=".as_slice(), rest)?;
+    let more = after_word(b"=".as_slice(), rest)?;
     let expr = expr_in(alloc, draft, begun, more)?;
     if begun.locals.len() >= REGISTERS as usize {
         return Err(Refusal::Kind(SourceFaultKind::Registers));
@@ -131,7 +131,7 @@ fn while_line(
 fn loop_line(begun: &mut Begun, words: &[&[u8]]) -> Result<(), Refusal>
     ensures { Becomes result begun.old begun.new (λ b. spec.loop_line b (texts words.now)) }
 {
-    let rest = behind_word(b"{".as_slice(), words)?;
+    let rest = after_word(b"{".as_slice(), words)?;
     if let Some(_) = rest.split_first() {
         return Err(Refusal::Kind(SourceFaultKind::Form));
     }

@@ -9,7 +9,7 @@ use Rattle.lu_trie.specs.Members.{Adds, behind}
 use Rattle.lu_trie.specs.Branches.{Branch, joined, branches_of, IsBranching}
 use Rattle.lu_spec.specs.Beginnings.{Has, IsBelow, AddsBelow}
 use Rattle.lu_spec.specs.Specs.{AllHaveOutcomes, HasOutcome}
-use Rattle.lu_spec.proofs.Sets.{has_either, has_left, has_right, has_behind, behind_has, adds_one, one_added, old_kept, joined_next, below_some, parted, of_branch, in_joined, serial_front}
+use Rattle.lu_spec.proofs.Sets.{has_either, has_left, has_right, has_after, after_has, adds_one, one_added, old_kept, joined_next, below_some, parted, of_branch, in_joined, serial_front}
 
 -- the path is added
 pub here_added : (old new : List (List SerialOp)) (path : List SerialOp) → Adds old new path → AddsBelow old new path []
@@ -30,24 +30,24 @@ below_more path xs ys q (inr (begin, h, e, b, has)) = inr (begin, h, e, b, has_l
 
 -- with one kid more
 kid_below : (path : List SerialOp) (xs below : List (List SerialOp)) (op : SerialOp) (some : (h : List SerialOp) × Has below h) (q : List SerialOp) → IsBelow (path ++ op ∷ []) below q → IsBelow path (xs ++ behind op below) q
-kid_below path xs below op some q (inl is) = inr (op ∷ [], op ∷ some.0, is, (some.0, refl), has_right xs (behind op below) (op ∷ some.0) (behind_has op below some.0 some.1))
+kid_below path xs below op some q (inl is) = inr (op ∷ [], op ∷ some.0, is, (some.0, refl), has_right xs (behind op below) (op ∷ some.0) (after_has op below some.0 some.1))
 kid_below path xs below op some q (inr (begin, h, e, b, has)) =
-    inr (op ∷ begin, op ∷ h, e ∙ append_assoc path (op ∷ []) begin, (b.0, ap (λ (x : List SerialOp). op ∷ x) b.1), has_right xs (behind op below) (op ∷ h) (behind_has op below h has))
+    inr (op ∷ begin, op ∷ h, e ∙ append_assoc path (op ∷ []) begin, (b.0, ap (λ (x : List SerialOp). op ∷ x) b.1), has_right xs (behind op below) (op ∷ h) (after_has op below h has))
 
 below_kid : (path : List SerialOp) (xs below : List (List SerialOp)) (op : SerialOp) (q : List SerialOp) → IsBelow path (xs ++ behind op below) q → IsBelow path xs q ⊎ IsBelow (path ++ op ∷ []) below q
 below_kid path xs below op q (inl is) = inl (inl is)
 below_kid path xs below op q (inr (begin, h, e, b, has)) = elim (has_either xs (behind op below) h has) [
   | inl before ↦ inl (inr (begin, h, e, b, before))
-  | inr kid ↦ let found = has_behind op below h kid in by_begin begin b.0 found.0 e (sym b.1 ∙ found.1) found.2
+  | inr kid ↦ let found = has_after op below h kid in by_begin begin b.0 found.0 e (sym b.1 ∙ found.1) found.2
 ]
   where
     by_begin : (x rest later : List SerialOp) → q ≡ path ++ x → x ++ rest ≡ op ∷ later → Has below later → IsBelow path xs q ⊎ IsBelow (path ++ op ∷ []) below q
     by_begin [] rest later is begins kept = inl (inl (is ∙ append-nil path))
     by_begin (first ∷ x) rest later is begins kept =
         let same : first ≡ op = cc in
-        let behind_it : later ≡ x ++ rest = cc in
+        let after_it : later ≡ x ++ rest = cc in
         let here : q ≡ (path ++ op ∷ []) ++ x = is ∙ (ap (λ (o : SerialOp). path ++ o ∷ x) same ∙ sym (append_assoc path (op ∷ []) x)) in
-        inr (inr (x, later, here, (rest, behind_it), kept))
+        inr (inr (x, later, here, (rest, after_it), kept))
 
 -- after the first i kids
 abbrev pub AddedTo : List (List SerialOp) → List SerialOp → List Branch → ℕ → List (List SerialOp) → Type 0
@@ -112,7 +112,7 @@ kid_outcomes hs i op below at first kid before q has =
     elim (has_either (joined (take i (branches_of hs))) (behind op below) q (subst (λ (x : List (List SerialOp)). Has x q) (joined_next (branches_of hs) i op below at) has)) [
       | inl was ↦ before q was
       | inr here ↦
-          let found = has_behind op below q here in
+          let found = has_after op below q here in
           subst (λ (x : List SerialOp). All HasOutcome x) (sym found.1) (All-cons HasOutcome op found.0 first (kid found.0 found.2))
     ]
 

@@ -17,7 +17,7 @@ use Rattle.lu_trie.proofs.Trees.{branching-at}
 use Rattle.lu_spec.specs.Beginnings.{Has}
 use Rattle.lu_spec.specs.SpecText.{ComesAfter, entry_text, history_line}
 use Rattle.lu_spec.specs.Listed.{AreEnds, IsEnd, IsEndHere, IsListing, IsMaximal, Rises}
-use Rattle.lu_spec.proofs.Sets.{has_either, has_left, has_right, has_behind, behind_has, has_first, has_cons, joined_next, below_some, parted, of_branch, in_joined}
+use Rattle.lu_spec.proofs.Sets.{has_either, has_left, has_right, has_after, after_has, has_first, has_cons, joined_next, below_some, parted, of_branch, in_joined}
 
 -- ---- lines
 
@@ -55,7 +55,7 @@ unfolding IsStrictlySortedBy
 taken_below [] i b h sorted at has = absurd cc
 taken_below (k ∷ ks) zero b h sorted at has = absurd cc
 taken_below (k ∷ ks) (suc i) b h sorted at has = elim (has_either (behind k.0 k.1) (joined (take i ks)) h has) [
-  | inl first ↦ let found = has_behind k.0 k.1 h first in (k.0, found.0, found.1, label_below ks i sorted.0 at)
+  | inl first ↦ let found = has_after k.0 k.1 h first in (k.0, found.0, found.1, label_below ks i sorted.0 at)
   | inr later ↦ taken_below ks i b h sorted.1 at later
 ]
   where
@@ -119,11 +119,11 @@ module _ (below : List (List SerialOp)) (law : IsBranching below) (i : ℕ) (op 
         | inl was ↦ let found = so_far.among q was in (found.0, found.1, subst (λ (x : List (List SerialOp)). Has x found.0) (sym next) (has_left (joined (take i (branches_of below))) (behind op kid) found.0 found.2))
         | inr now ↦
             let end = (ends.are q).0 now in
-            (op ∷ end.rest, end.is ∙ append_assoc path (op ∷ []) end.rest, subst (λ (x : List (List SerialOp)). Has x (op ∷ end.rest)) (sym next) (has_right (joined (take i (branches_of below))) (behind op kid) (op ∷ end.rest) (behind_has op kid end.rest end.member)))
+            (op ∷ end.rest, end.is ∙ append_assoc path (op ∷ []) end.rest, subst (λ (x : List (List SerialOp)). Has x (op ∷ end.rest)) (sym next) (has_right (joined (take i (branches_of below))) (behind op kid) (op ∷ end.rest) (after_has op kid end.rest end.member)))
       ];
       each = λ q end has. elim (has_either (joined (take i (branches_of below))) (behind op kid) end.rest (subst (λ (x : List (List SerialOp)). Has x end.rest) next has)) [
         | inl was ↦ has_left listed more q (so_far.each q end was)
-        | inr here ↦ let found = has_behind op kid end.rest here in has_right listed more q ((ends.are q).1 (end_kid q end found.0 found.1 found.2))
+        | inr here ↦ let found = has_after op kid end.rest here in has_right listed more q ((ends.are q).1 (end_kid q end found.0 found.1 found.2))
       ];
       rises = rises_on listed more so_far.rises ends.rises across;
     }
@@ -140,7 +140,7 @@ module _ (below : List (List SerialOp)) (law : IsBranching below) (i : ℕ) (op 
             let second : q ≡ path ++ op ∷ end.rest = end.is ∙ append_assoc path (op ∷ []) end.rest in
             subst (ComesAfter p) (sym second) (subst (λ (x : List SerialOp). ComesAfter x (path ++ op ∷ end.rest)) (sym first) (comes_behind path smaller.1 end.rest smaller.0 op smaller.3))
 
--- ---- before and behind the kids
+-- ---- before and after the kids
 
 -- what is listed before kid i
 pub record IsListedTo (path : List SerialOp) (below : List (List SerialOp)) (i : ℕ) (listed : List (List SerialOp)) : Type 0 where

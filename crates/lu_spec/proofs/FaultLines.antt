@@ -134,42 +134,42 @@ leaves_next matrix listed after line q next (inl (p, taken, is)) =
 leaves_next matrix listed after line q next (inr (none, is)) = absurd (none q (taken_next matrix listed line q next))
 
 -- the lines list more histories, or have this fault first
-abbrev ToldBehind : Matrix → List (List SerialOp) → List (List ℕ) → List SpecLineFault → Type 0
-ToldBehind matrix listed lines [] = (more : List (List SerialOp)) × AreListed matrix (listed ++ more) × (lines ≡ map history_line more)
-ToldBehind matrix listed lines (first ∷ others) = IsFaultAmong matrix (map history_line listed ++ lines) first.kind first.line
+abbrev ToldAfter : Matrix → List (List SerialOp) → List (List ℕ) → List SpecLineFault → Type 0
+ToldAfter matrix listed lines [] = (more : List (List SerialOp)) × AreListed matrix (listed ++ more) × (lines ≡ map history_line more)
+ToldAfter matrix listed lines (first ∷ others) = IsFaultAmong matrix (map history_line listed ++ lines) first.kind first.line
 
-one_behind : (matrix : Matrix) (listed : List (List SerialOp)) (q : List SerialOp) (line : List ℕ) (lines : List (List ℕ)) (faults : List SpecLineFault) → line ≡ history_line q → ToldBehind matrix (listed ++ q ∷ []) lines faults → ToldBehind matrix listed (line ∷ lines) faults
-one_behind matrix listed q line lines [] is (more, are, lists) =
+one_after : (matrix : Matrix) (listed : List (List SerialOp)) (q : List SerialOp) (line : List ℕ) (lines : List (List ℕ)) (faults : List SpecLineFault) → line ≡ history_line q → ToldAfter matrix (listed ++ q ∷ []) lines faults → ToldAfter matrix listed (line ∷ lines) faults
+one_after matrix listed q line lines [] is (more, are, lists) =
     (q ∷ more, subst (AreListed matrix) (append_assoc listed (q ∷ []) more) are, ap (λ (x : List ℕ). x ∷ lines) is ∙ ap (λ (x : List (List ℕ)). history_line q ∷ x) lists)
-one_behind matrix listed q line lines (first ∷ others) is among =
+one_after matrix listed q line lines (first ∷ others) is among =
     let whole : map history_line (listed ++ q ∷ []) ++ lines ≡ map history_line listed ++ line ∷ lines =
     ap (λ (x : List (List ℕ)). x ++ lines) (map_push history_line listed q) ∙ (append_assoc (map history_line listed) (history_line q ∷ []) lines ∙ ap (λ (x : List ℕ). map history_line listed ++ x ∷ lines) (sym is)) in
     subst (λ (x : List (List ℕ)). IsFaultAmong matrix x first.kind first.line) whole among
 
-told_behind : (matrix : Matrix) (lines : List (List ℕ)) (n : ℕ) (listed : List (List SerialOp)) (faults : List SpecLineFault) → AreListed matrix listed → n ≡ length listed + 2 → AreFaultsFrom matrix n listed lines faults → ToldBehind matrix listed lines faults
-told_behind matrix [] n listed faults are numbered none =
-    let nothing : ToldBehind matrix listed [] [] = ([], subst (AreListed matrix) (sym (append-nil listed)) are, refl) in
-    subst (ToldBehind matrix listed []) (sym none) nothing
-told_behind matrix (line ∷ lines) n listed faults are numbered (fault, after, others, judged, leaves, from, is) =
-    subst (ToldBehind matrix listed (line ∷ lines)) (sym is) (by_fault fault judged (λ q more rest. told_behind matrix lines (n + 1) (listed ++ q ∷ []) others more (omega (arith, numbered, length-append listed (q ∷ []))) rest))
+told_after : (matrix : Matrix) (lines : List (List ℕ)) (n : ℕ) (listed : List (List SerialOp)) (faults : List SpecLineFault) → AreListed matrix listed → n ≡ length listed + 2 → AreFaultsFrom matrix n listed lines faults → ToldAfter matrix listed lines faults
+told_after matrix [] n listed faults are numbered none =
+    let nothing : ToldAfter matrix listed [] [] = ([], subst (AreListed matrix) (sym (append-nil listed)) are, refl) in
+    subst (ToldAfter matrix listed []) (sym none) nothing
+told_after matrix (line ∷ lines) n listed faults are numbered (fault, after, others, judged, leaves, from, is) =
+    subst (ToldAfter matrix listed (line ∷ lines)) (sym is) (by_fault fault judged (λ q more rest. told_after matrix lines (n + 1) (listed ++ q ∷ []) others more (omega (arith, numbered, length-append listed (q ∷ []))) rest))
   where
     by_fault : (fault : Option SpecLineFault) → IsJudgedAs matrix listed n line fault
-        → ((q : List SerialOp) → AreListed matrix (listed ++ q ∷ []) → AreFaultsFrom matrix (n + 1) (listed ++ q ∷ []) lines others → ToldBehind matrix (listed ++ q ∷ []) lines others)
-        → ToldBehind matrix listed (line ∷ lines) (option_to_list fault ++ others)
+        → ((q : List SerialOp) → AreListed matrix (listed ++ q ∷ []) → AreFaultsFrom matrix (n + 1) (listed ++ q ∷ []) lines others → ToldAfter matrix (listed ++ q ∷ []) lines others)
+        → ToldAfter matrix listed (line ∷ lines) (option_to_list fault ++ others)
     by_fault None (q, next) again =
         let rest : AreFaultsFrom matrix (n + 1) (listed ++ q ∷ []) lines others = subst (λ (x : List (List SerialOp)). AreFaultsFrom matrix (n + 1) x lines others) (leaves_next matrix listed after line q next leaves) from in
-        one_behind matrix listed q line lines others next.is.0 (again q (listed_more matrix listed are line q next) rest)
+        one_after matrix listed q line lines others next.is.0 (again q (listed_more matrix listed are line q next) rest)
     by_fault (Some f) (here, wrong) again = record { listed = listed; are = are; line = line; rest = lines; parts = refl; numbered = here ∙ numbered; fault = wrong }
 
 pub told_as_read : (matrix : Matrix) (text : List ℕ) (faults : List SpecLineFault) → AreSpecFaults matrix text faults → IsToldAsRead matrix text faults
 told_as_read matrix text faults are = by_lines (kept_lines text) refl are
   where
-    none_behind : (lines : List (List ℕ)) (others : List SpecLineFault) → kept_lines text ≡ first_line ∷ lines → ToldBehind matrix [] lines others → IsToldAsRead matrix text others
-    none_behind lines [] cut (listed, listing, is) = (listed, listing, sym (joined_lines text) ∙ (ap concat (cut ∙ ap (λ (x : List (List ℕ)). first_line ∷ x) is) ∙ ap (λ (x : List ℕ). first_line ++ x) (concat_lines listed)))
-    none_behind lines (first ∷ others) cut among = inr (lines, cut, among)
+    none_after : (lines : List (List ℕ)) (others : List SpecLineFault) → kept_lines text ≡ first_line ∷ lines → ToldAfter matrix [] lines others → IsToldAsRead matrix text others
+    none_after lines [] cut (listed, listing, is) = (listed, listing, sym (joined_lines text) ∙ (ap concat (cut ∙ ap (λ (x : List (List ℕ)). first_line ∷ x) is) ∙ ap (λ (x : List ℕ). first_line ++ x) (concat_lines listed)))
+    none_after lines (first ∷ others) cut among = inr (lines, cut, among)
 
-    by_first : (first : List ℕ) (lines : List (List ℕ)) (fault : Option SpecLineFault) (others : List SpecLineFault) → kept_lines text ≡ first ∷ lines → IsFirstLineFault first fault → ToldBehind matrix [] lines others → IsToldAsRead matrix text (option_to_list fault ++ others)
-    by_first first lines None others cut is told = none_behind lines others (cut ∙ ap (λ (x : List ℕ). x ∷ lines) is) told
+    by_first : (first : List ℕ) (lines : List (List ℕ)) (fault : Option SpecLineFault) (others : List SpecLineFault) → kept_lines text ≡ first ∷ lines → IsFirstLineFault first fault → ToldAfter matrix [] lines others → IsToldAsRead matrix text (option_to_list fault ++ others)
+    by_first first lines None others cut is told = none_after lines others (cut ∙ ap (λ (x : List ℕ). x ∷ lines) is) told
     by_first first lines (Some fault) others cut (other, is) told =
         inl (ap (λ (x : SpecLineFault). x.kind) is, ap (λ (x : SpecLineFault). x.line) is, λ rest e. other (let both : first ∷ lines ≡ first_line ∷ rest = sym cut ∙ e in let same : first ≡ first_line = cc in same))
 
@@ -178,7 +178,7 @@ told_as_read matrix text faults are = by_lines (kept_lines text) refl are
         let none : IsToldAsRead matrix text (first_line_fault ∷ []) = inl (refl, refl, λ rest e. let both : [] ≡ first_line ∷ rest = sym cut ∙ e in cc) in
         subst (IsToldAsRead matrix text) (sym is) none
     by_lines (first ∷ lines) cut (fault, others, is, from, whole) =
-        let told = told_behind matrix lines 2 [] others (no_histories matrix) refl from in
+        let told = told_after matrix lines 2 [] others (no_histories matrix) refl from in
         subst (IsToldAsRead matrix text) (sym whole) (by_first first lines fault others cut is told)
 
 -- nothing is told of a text that is read

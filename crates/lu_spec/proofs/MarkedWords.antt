@@ -137,7 +137,7 @@ marked_entries [] are k d h = absurd (omega arith)
 marked_entries (e ∷ q) are zero d h = are zero e.op (omega arith)
 marked_entries (e ∷ q) are (suc k) d h = marked_entries q (λ j f l. are (suc j) f (omega arith)) k d (omega arith)
 
--- entries of no words behind the first say no history
+-- entries of no words after the first say no history
 not_listable : (words : List (List ℕ)) (entries : List MarkedOp) → All IsMarkedEntry entries → words ≡ map marked_text entries → (IsListable (erased entries) → ⊥) → (first : List ℕ) (q : List MarkedOp) → IsListable (erased q) → first ∷ words ≡ marked_words q → ⊥
 not_listable words entries are say none first q listable e =
     let rest : words ≡ map marked_text q = cc in

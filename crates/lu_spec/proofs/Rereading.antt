@@ -156,9 +156,9 @@ some_longer (g ∷ hs) q = elim (goes_on_or_is q g) [
 goes_on_long : (q h : List SerialOp) (op : SerialOp) (rest : List SerialOp) → h ≡ q ++ op ∷ rest → length q + 1 ≤ length h
 goes_on_long q h op rest e = omega (arith, ap length e, length-append q (op ∷ rest))
 
-rises_behind : (xs : List (List SerialOp)) (p : List SerialOp) (ys : List (List SerialOp)) → Rises (xs ++ p ∷ ys) → Rises (p ∷ ys)
-rises_behind [] p ys rises = rises
-rises_behind (x ∷ xs) p ys rises = rises_behind xs p ys rises.1
+rises_after : (xs : List (List SerialOp)) (p : List SerialOp) (ys : List (List SerialOp)) → Rises (xs ++ p ∷ ys) → Rises (p ∷ ys)
+rises_after [] p ys rises = rises
+rises_after (x ∷ xs) p ys rises = rises_after xs p ys rises.1
 
 module _ (matrix : Matrix) (members listed : List (List SerialOp)) (is_matrix : IsMatrix matrix) (spec : IsSpec members) (of : AreOf matrix members) (is : IsListing members listed) where
   member : (q : List SerialOp) → Has listed q → Has members q
@@ -179,7 +179,7 @@ module _ (matrix : Matrix) (members listed : List (List SerialOp)) (is_matrix : 
   in_order : (before : List (List SerialOp)) (q : List SerialOp) (after : List (List SerialOp)) → listed ≡ before ++ q ∷ after → MayFollow before q
   in_order before q after parts front p last =
       let whole : listed ≡ front ++ p ∷ (q ∷ after) = parts ∙ (ap (λ (x : List (List SerialOp)). x ++ q ∷ after) last ∙ append_assoc front (p ∷ []) (q ∷ after)) in
-      (rises_behind front p (q ∷ after) (subst Rises whole is.rises)).0.0
+      (rises_after front p (q ∷ after) (subst Rises whole is.rises)).0.0
 
   are_listed : AreListed matrix listed
   are_listed = record {

@@ -14,7 +14,7 @@ use Rattle.lu_witness.specs.Witnesses.{entries}
 use Rattle.lu_witness.proofs.Entries.{entries_own}
 use Rattle.lu_spec.specs.Beginnings.{Has}
 use Rattle.lu_spec.specs.Specs.{FitsIn, AllFitIn}
-use Rattle.lu_spec.proofs.Sets.{has_either, has_behind, joined_next, below_some, parted, of_branch, in_joined}
+use Rattle.lu_spec.proofs.Sets.{has_either, has_after, joined_next, below_some, parted, of_branch, in_joined}
 
 pub entries_other : (t : ℕ) (op : SerialOp) (q : List SerialOp) → (op.thread == t) ≡ false → entries t (op ∷ q) ≡ entries t q
 entries_other t op q other = ap (λ (b : Bool). if b then op.outcome ∷ entries t q else entries t q) other
@@ -53,7 +53,7 @@ module _ (left : List ℕ) (hs : List (List SerialOp)) (is : IsBranching hs) (i 
   kid_fits within some before kid q has =
       elim (has_either (joined (take i (branches_of hs))) (behind op below) q (subst (λ (x : List (List SerialOp)). Has x q) (joined_next (branches_of hs) i op below at) has)) [
         | inl was ↦ before q was
-        | inr here ↦ let found = has_behind op below q here in subst (FitsIn left) (sym found.1) (fits_more left op found.0 within some (kid found.0 found.2))
+        | inr here ↦ let found = has_after op below q here in subst (FitsIn left) (sym found.1) (fits_more left op found.0 within some (kid found.0 found.2))
       ]
 
   -- all fit, so those of the kid do
@@ -89,9 +89,9 @@ none_first left [] d some none fits = absurd (omega arith)
 none_first left (op ∷ h) d some none fits = none_left left op h none fits
 
 pub fits_first : (left others : List ℕ) (h rest : List SerialOp) (d : SerialOp) (t : ℕ) (b : Bool) → 1 ≤ length h → t ≡ (get_or h 0 d).thread → t < length left → (get_or left t 0 ≡ 0 → ⊥) → others ≡ lessened left t → rest ≡ take (length h - 1) (drop 1 h) → (IsTrue b ↔ FitsIn others rest) → (IsTrue b ↔ FitsIn left h)
-fits_first left others [] rest d t b empty number within some less behind_it answer = absurd (omega arith)
-fits_first left others (op ∷ h) rest d t b one number within some less behind_it answer =
-    let whole : rest ≡ h = behind_it ∙ take_all (length (op ∷ h) - 1) h (omega arith) in
+fits_first left others [] rest d t b empty number within some less after_it answer = absurd (omega arith)
+fits_first left others (op ∷ h) rest d t b one number within some less after_it answer =
+    let whole : rest ≡ h = after_it ∙ take_all (length (op ∷ h) - 1) h (omega arith) in
     let fewer : others ≡ lessened left op.thread = less ∙ ap (lessened left) number in
     let inside : op.thread < length left = omega arith in
     let left_some : 0 < get_or left op.thread 0 = subst (λ (i : ℕ). 0 < get_or left i 0) number (omega (arith, some)) in (

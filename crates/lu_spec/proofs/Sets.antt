@@ -45,19 +45,19 @@ pub has_some : (hs : List (List SerialOp)) → hs ≢ [] → (h : List SerialOp)
 has_some [] some = absurd (some refl)
 has_some (h ∷ hs) some = (h, has_first h hs)
 
--- behind an entry
-pub has_behind : (op : SerialOp) (hs : List (List SerialOp)) (q : List SerialOp) → Has (behind op hs) q → (h : List SerialOp) × (q ≡ op ∷ h) × Has hs h
-has_behind op [] q has = absurd cc
-has_behind op (h ∷ hs) q has = elim (has_cons (op ∷ h) (behind op hs) q has) [
+-- after an entry
+pub has_after : (op : SerialOp) (hs : List (List SerialOp)) (q : List SerialOp) → Has (behind op hs) q → (h : List SerialOp) × (q ≡ op ∷ h) × Has hs h
+has_after op [] q has = absurd cc
+has_after op (h ∷ hs) q has = elim (has_cons (op ∷ h) (behind op hs) q has) [
   | inl is ↦ (h, is, has_first h hs)
-  | inr later ↦ let found = has_behind op hs q later in (found.0, found.1, has_next h hs found.0 found.2)
+  | inr later ↦ let found = has_after op hs q later in (found.0, found.1, has_next h hs found.0 found.2)
 ]
 
-pub behind_has : (op : SerialOp) (hs : List (List SerialOp)) (h : List SerialOp) → Has hs h → Has (behind op hs) (op ∷ h)
-behind_has op [] h has = absurd cc
-behind_has op (first ∷ hs) h has = elim (has_cons first hs h has) [
+pub after_has : (op : SerialOp) (hs : List (List SerialOp)) (h : List SerialOp) → Has hs h → Has (behind op hs) (op ∷ h)
+after_has op [] h has = absurd cc
+after_has op (first ∷ hs) h has = elim (has_cons first hs h has) [
   | inl is ↦ let same : op ∷ h ≡ op ∷ first = ap (λ (x : List SerialOp). op ∷ x) is in subst (Has (behind op (first ∷ hs))) (sym same) (has_first (op ∷ first) (behind op hs))
-  | inr later ↦ has_next (op ∷ first) (behind op hs) (op ∷ h) (behind_has op hs h later)
+  | inr later ↦ has_next (op ∷ first) (behind op hs) (op ∷ h) (after_has op hs h later)
 ]
 
 -- the old members, and one more
@@ -92,7 +92,7 @@ below_some (k ∷ ks) (suc i) b full at = below_some ks i b full.1 at
 -- a history of a branch
 pub in_joined : (bs : List Branch) (i : ℕ) (b : Branch) (h : List SerialOp) → slice_get bs i ≡ Some b → Has b.1 h → Has (joined bs) (b.0 ∷ h)
 in_joined [] i b h at has = absurd cc
-in_joined (k ∷ ks) zero b h at has = let e : b ≡ k = cc in has_left (behind k.0 k.1) (joined ks) (b.0 ∷ h) (subst (λ (x : Branch). Has (behind x.0 x.1) (b.0 ∷ h)) e (behind_has b.0 b.1 h has))
+in_joined (k ∷ ks) zero b h at has = let e : b ≡ k = cc in has_left (behind k.0 k.1) (joined ks) (b.0 ∷ h) (subst (λ (x : Branch). Has (behind x.0 x.1) (b.0 ∷ h)) e (after_has b.0 b.1 h has))
 in_joined (k ∷ ks) (suc i) b h at has = has_right (behind k.0 k.1) (joined ks) (b.0 ∷ h) (in_joined ks i b h at has)
 
 -- the members: the empty one, or one of a branch

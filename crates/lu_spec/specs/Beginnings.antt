@@ -32,8 +32,8 @@ IsBelow path below q =
     × Has below h)
 
 -- the path is serial with each history below it
-abbrev pub AreSerialBehind : List SerialOp → List (List SerialOp) → Type 0
-AreSerialBehind path below = (q : List SerialOp) → Has below q → IsSerial (path ++ q)
+abbrev pub AreSerialAfter : List SerialOp → List (List SerialOp) → Type 0
+AreSerialAfter path below = (q : List SerialOp) → Has below q → IsSerial (path ++ q)
 
 -- new is old, the path, and what goes on from it with the beginnings of the histories below
 abbrev pub AddsBelow : List (List SerialOp) → List (List SerialOp) → List SerialOp

@@ -67,7 +67,7 @@ IsCollectedAs matrix text closed =
     (listed : List (List SerialOp)) × AreCollected matrix (listing_lines text) listed
     × IsClosureOf listed closed
 
--- ---- what is wrong with a line behind the listed histories
+-- ---- what is wrong with a line after the listed histories
 
 -- no history; one that does not fit the matrix; or one that conflicts with a listed one
 abbrev pub IsFaultOfWords : Matrix → List (List SerialOp) → List Word → SpecFaultKind → Type 0
@@ -88,7 +88,7 @@ pub record IsFaultOfListing (matrix : Matrix) (lines : List (ℕ × List Word)) 
   pub parts : lines ≡ before ++ (n, words) ∷ rest
   pub fault : IsFaultOfWords matrix listed words kind
 
--- the first fault of a text that lists no histories of the matrix, or want of memory
+-- the first fault of a text that lists no histories of the matrix, or refused memory
 abbrev pub IsCollectFault : Matrix → List ℕ → Fault SpecFaultKind → Type 0
 IsCollectFault matrix text (At kind n) = IsFaultOfListing matrix (listing_lines text) kind n
 IsCollectFault matrix text Memory = Unit {0}
@@ -102,7 +102,7 @@ pub record IsOneMore (matrix : Matrix) (set : List (List SerialOp)) (words : Lis
   pub fits : FitsMatrix matrix q
   pub apart : HasConflictIn set q → ⊥
 
--- the line's fault, which is line n, or want of memory
+-- the line's fault, which is line n, or refused memory
 abbrev pub IsWordsRefusal : Matrix → List (List SerialOp) → List Word → ℕ → Fault SpecFaultKind
     → Type 0
 IsWordsRefusal matrix set words n (At kind number) =
@@ -117,19 +117,19 @@ AddsLine matrix begun set words new =
     ((q : List SerialOp) × IsOneMore matrix set words q × AddsBeginnings set new q)
     (new ≡ set)
 
--- the fault of a line that is to list a history, or want of memory
+-- the fault of a line that is to list a history, or refused memory
 abbrev pub IsLineRefusal : Matrix → Bool → List (List SerialOp) → List Word → ℕ
     → Fault SpecFaultKind → Type 0
 IsLineRefusal matrix begun set words n (At kind number) =
     (lists begun words ≡ true) × (number ≡ n) × IsFaultOfWords matrix set words kind
 IsLineRefusal matrix begun set words n Memory = Unit {0}
 
--- ---- one line behind the lines of a draft
+-- ---- one line after the lines of a draft
 
 -- the next draft has the history that the line lists, where it lists one
 abbrev pub CollectsLine : Matrix → CollectedDraft → List Word → CollectedDraft → Type 0
 CollectsLine matrix draft words next = AddsLine matrix draft.begun draft.set words next.set
 
--- the line's fault, which is line n, or want of memory
+-- the line's fault, which is line n, or refused memory
 abbrev pub RefusesLine : Matrix → CollectedDraft → List Word → ℕ → Fault SpecFaultKind → Type 0
 RefusesLine matrix draft words n fault = IsLineRefusal matrix draft.begun draft.set words n fault

@@ -21,7 +21,7 @@ pub record IsTaken (matrix : Matrix) (gathered : List (List SerialOp)) (line : L
 abbrev pub TakesNone : Matrix → List (List SerialOp) → List ℕ → Type 0
 TakesNone matrix gathered line = (q : List SerialOp) → IsTaken matrix gathered line q → ⊥
 
--- Behind a line its history is gathered, where it says such a one, in order or not. A line that
+-- After a line its history is gathered, where it says such a one, in order or not. A line that
 -- says none is left out.
 abbrev pub Leaves : Matrix → List (List SerialOp) → List ℕ → List (List SerialOp) → Type 0
 Leaves matrix gathered line after =
@@ -34,7 +34,7 @@ IsJudgedAs matrix gathered n line None = (q : List SerialOp) × IsNextOf matrix 
 IsJudgedAs matrix gathered n line (Some fault) =
     (fault.line ≡ n) × IsFaultOfLine matrix gathered line fault.kind
 
--- these are the faults of the lines, of which the first is line n, behind these histories
+-- these are the faults of the lines, of which the first is line n, after these histories
 abbrev pub AreFaultsFrom : Matrix → ℕ → List (List SerialOp) → List (List ℕ) → List SpecLineFault
     → Type 0
 AreFaultsFrom matrix n gathered [] faults = faults ≡ []
@@ -52,7 +52,7 @@ abbrev pub IsFirstLineFault : List ℕ → Option SpecLineFault → Type 0
 IsFirstLineFault line None = line ≡ first_line
 IsFirstLineFault line (Some fault) = (line ≢ first_line) × (fault ≡ first_line_fault)
 
--- these are the faults of the lines of a text; those behind the first are read as if it were right
+-- these are the faults of the lines of a text; those after the first are read as if it were right
 abbrev pub AreFaultsOfLines : Matrix → List (List ℕ) → List SpecLineFault → Type 0
 AreFaultsOfLines matrix [] faults = faults ≡ first_line_fault ∷ []
 AreFaultsOfLines matrix (first ∷ lines) faults =
@@ -64,9 +64,9 @@ AreFaultsOfLines matrix (first ∷ lines) faults =
 abbrev pub AreSpecFaults : Matrix → List ℕ → List SpecLineFault → Type 0
 AreSpecFaults matrix text faults = AreFaultsOfLines matrix (kept_lines text) faults
 
--- ---- what is returned of a line, behind the histories of a draft
+-- ---- what is returned of a line, after the histories of a draft
 
--- a draft of the histories that are gathered behind the line
+-- a draft of the histories that are gathered after the line
 abbrev pub LeavesDraft : Matrix → List (List SerialOp) → List ℕ → ListedDraft → Type 0
 LeavesDraft matrix gathered line next =
     (after : List (List SerialOp)) × Leaves matrix gathered line after
@@ -85,7 +85,7 @@ Judges matrix draft n line returned =
     → IsGatheredDraft matrix gathered draft.set draft.last.items
     → IsJudgedAs matrix gathered n line returned.1 × LeavesDraft matrix gathered line returned.0
 
--- the faults behind these are those of the lines, of which the first is line 2
+-- the faults after these are those of the lines, of which the first is line 2
 abbrev pub AddsFaults : Matrix → List (List ℕ) → List SpecLineFault → List SpecLineFault → Type 0
 AddsFaults matrix lines before after =
     (faults : List SpecLineFault) × AreFaultsFrom matrix 2 [] lines faults

@@ -23,7 +23,7 @@ pub record IsTakenFreely (matrix : Matrix) (gathered : List (List MarkedOp)) (wo
   pub fits : FitsMatrix matrix (erased q)
   pub apart : HasFirmConflictIn gathered q → ⊥
 
--- Behind a line its history is gathered; a line that has a fault is left out.
+-- After a line its history is gathered; a line that has a fault is left out.
 abbrev pub IsFreelyJudged : Matrix → List (List MarkedOp) → ℕ × List Word → Option SpecLineFault
     → List (List MarkedOp) → Type 0
 IsFreelyJudged matrix gathered line None after =
@@ -33,7 +33,7 @@ IsFreelyJudged matrix gathered line (Some fault) after =
     × IsFaultOfFree matrix (HasFirmConflictIn gathered) line.1 fault.kind
     × (after ≡ gathered)
 
--- these are the faults of lines that are to list histories, behind these histories
+-- these are the faults of lines that are to list histories, after these histories
 abbrev pub AreFreeFaultsFrom : Matrix → List (List MarkedOp) → List (ℕ × List Word)
     → List SpecLineFault → Type 0
 AreFreeFaultsFrom matrix gathered [] faults = faults ≡ []
@@ -79,7 +79,7 @@ GivenToldAsRead =
     (matrix : Matrix) (text : List ℕ) (faults : List SpecLineFault) →
     AreGivenFaults matrix text faults → IsGivenToldAsRead matrix text faults
 
--- ---- one line behind those of a draft
+-- ---- one line after those of a draft
 
 -- the next draft has the history that the line lists, where it lists one; or it has the same
 -- histories, and the fault is the line's, which is line n

@@ -44,7 +44,7 @@ abbrev pub KeepsMore : FirmEnds → FirmEnds → List MarkedOp → Type 0
 KeepsMore old new q =
     AddsEnds with_outcome old.ends new.ends q × AddsEnds without_outcome old.asked new.asked q
 
--- behind this beginning the operation is kept with other outcomes alone
+-- after this beginning the operation is kept with other outcomes alone
 abbrev pub Refuses : FirmEnds → List SerialOp → SerialOp → Type 0
 Refuses kept begin op =
     Has kept.asked (begin ++ without_outcome op ∷ []) × (Has kept.ends (begin ++ op ∷ []) → ⊥)
@@ -55,7 +55,7 @@ RefusesSome kept q =
     (i : ℕ) × (op : SerialOp) × (slice_get q i ≡ Some (firm op))
     × Refuses kept (take i (erased q)) op
 
--- ---- one line behind those of a draft
+-- ---- one line after those of a draft
 
 -- the words say q, which is of the matrix, and no entry of which is refused
 pub record IsOneMoreFree (matrix : Matrix) (kept : FirmEnds) (words : List Word)
@@ -64,7 +64,7 @@ pub record IsOneMoreFree (matrix : Matrix) (kept : FirmEnds) (words : List Word)
   pub fits : FitsMatrix matrix (erased q)
   pub apart : RefusesSome kept q → ⊥
 
--- the line's fault, which is line n, or want of memory
+-- the line's fault, which is line n, or refused memory
 abbrev pub IsFreeRefusal : Matrix → FirmEnds → List Word → ℕ → Fault SpecFaultKind → Type 0
 IsFreeRefusal matrix kept words n (At kind number) =
     (number ≡ n) × IsFaultOfFree matrix (RefusesSome kept) words kind
@@ -87,7 +87,7 @@ CollectsFreely matrix draft words next =
     ((q : List MarkedOp) × IsOneMoreFree matrix draft.kept words q × AddsFreely draft next q)
     (ListsTheSame draft next)
 
--- the fault of a line that is to list a history, which is line n, or want of memory
+-- the fault of a line that is to list a history, which is line n, or refused memory
 abbrev pub RefusesFreely : Matrix → FreeDraft → List Word → ℕ → Fault SpecFaultKind → Type 0
 RefusesFreely matrix draft words n (At kind number) =
     (lists draft.begun words ≡ true) × (number ≡ n)

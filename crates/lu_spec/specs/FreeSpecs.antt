@@ -88,7 +88,7 @@ pub record IsFaultOfFreeListing (matrix : Matrix) (lines : List (ℕ × List Wor
   pub parts : lines ≡ before ++ (n, words) ∷ rest
   pub fault : IsFaultOfFree matrix (HasFirmConflictIn listed) words kind
 
--- the first fault of a text that lists no histories of the matrix, or want of memory
+-- the first fault of a text that lists no histories of the matrix, or refused memory
 abbrev pub IsFreeFault : Matrix → List ℕ → Fault SpecFaultKind → Type 0
 IsFreeFault matrix text (At kind n) = IsFaultOfFreeListing matrix (listing_lines text) kind n
 IsFreeFault matrix text Memory = Unit {0}
@@ -127,7 +127,7 @@ IsGivenAs matrix text members =
     MatchBool (has_free_entries text) (IsListedFreely matrix text members)
     (IsReadAs matrix text members)
 
--- the first fault of such a text, or want of memory
+-- the first fault of such a text, or refused memory
 abbrev pub IsGivenFault : Matrix → List ℕ → Fault SpecFaultKind → Type 0
 IsGivenFault matrix text (At kind n) =
     MatchBool (has_free_entries text) (IsFreeFault matrix text (At kind n))

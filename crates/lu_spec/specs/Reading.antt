@@ -67,7 +67,7 @@ abbrev pub IsNextDraft : Matrix → List (List SerialOp) → List ℕ → List (
 IsNextDraft matrix listed line set last =
     (line ≡ history_line last) × IsListedDraft matrix (listed ++ last ∷ []) set last
 
--- the fault of line n, or want of memory
+-- the fault of line n, or refused memory
 abbrev pub IsRefusal : Matrix → List (List SerialOp) → List ℕ → ℕ → Fault SpecFaultKind → Type 0
 IsRefusal matrix listed line n (At kind number) =
     (number ≡ n) × IsFaultOfLine matrix listed line kind
@@ -79,7 +79,7 @@ abbrev pub IsRefusalAmong : Matrix → List (List ℕ) → Fault SpecFaultKind �
 IsRefusalAmong matrix lines (At kind n) = IsFaultAmong matrix lines kind n
 IsRefusalAmong matrix lines Memory = Unit {0}
 
--- ---- what is returned of a line, which is line n, behind the histories of a draft
+-- ---- what is returned of a line, which is line n, after the histories of a draft
 
 -- the history of the line
 abbrev pub FindsNext : {Z E : Type 0} → Matrix → List (List SerialOp) → List SerialOp → List ℕ

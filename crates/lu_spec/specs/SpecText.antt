@@ -89,7 +89,7 @@ ComesAfter [] q = ⊥
 ComesAfter (a ∷ p) [] = ⊥
 ComesAfter (a ∷ p) (b ∷ q) = (op_cmp a b ≡ Less) ⊎ (a ≡ b) × ComesAfter p q
 
--- q may stand behind the listed histories: it comes after the last one
+-- q may stand after the listed histories: it comes after the last one
 abbrev pub MayFollow : List (List SerialOp) → List SerialOp → Type 0
 MayFollow listed q =
     (before : List (List SerialOp)) (p : List SerialOp) → listed ≡ before ++ p ∷ [] → ComesAfter p q
@@ -101,7 +101,7 @@ pub record AreListed (matrix : Matrix) (listed : List (List SerialOp)) : Type 0 
       → listed ≡ before ++ q ∷ after → MayFollow before q
   pub deterministic : IsDeterministic listed
 
--- ---- what is wrong with a line behind the listed histories
+-- ---- what is wrong with a line after the listed histories
 
 -- the line is that of a history that may stand there
 abbrev pub IsHistoryLine : List (List SerialOp) → List ℕ → List SerialOp → Type 0
@@ -121,7 +121,7 @@ IsFaultOfLine matrix listed line Foreign =
 IsFaultOfLine matrix listed line Nondeterministic =
     (q : List SerialOp) × IsHistoryLine listed line q × FitsMatrix matrix q × HasConflictIn listed q
 
--- among the lines behind the first line, those before line n are of listed histories, and line n
+-- among the lines after the first line, those before line n are of listed histories, and line n
 -- has this fault
 pub record IsFaultAmong (matrix : Matrix) (lines : List (List ℕ)) (kind : SpecFaultKind)
     (n : ℕ) : Type 0 where
@@ -133,9 +133,9 @@ pub record IsFaultAmong (matrix : Matrix) (lines : List (List ℕ)) (kind : Spec
   pub numbered : n ≡ length listed + 2
   pub fault : IsFaultOfLine matrix listed line kind
 
--- the first line is there, and one behind it has this fault
-abbrev pub IsFaultBehind : Matrix → List ℕ → SpecFaultKind → ℕ → Type 0
-IsFaultBehind matrix text kind n =
+-- the first line is there, and one after it has this fault
+abbrev pub IsFaultAfter : Matrix → List ℕ → SpecFaultKind → ℕ → Type 0
+IsFaultAfter matrix text kind n =
     (lines : List (List ℕ)) × (kept_lines text ≡ first_line ∷ lines)
     × IsFaultAmong matrix lines kind n
 
@@ -144,9 +144,9 @@ abbrev pub HasNoFirstLine : List ℕ → SpecFaultKind → ℕ → Type 0
 HasNoFirstLine text kind n =
     (kind ≡ Form) × (n ≡ 1) × ((rest : List (List ℕ)) → kept_lines text ≡ first_line ∷ rest → ⊥)
 
--- the first fault of a text that is no specification of the matrix, or want of memory
+-- the first fault of a text that is no specification of the matrix, or refused memory
 abbrev pub IsSpecFault : Matrix → List ℕ → Fault SpecFaultKind → Type 0
-IsSpecFault matrix text (At kind n) = HasNoFirstLine text kind n ⊎ IsFaultBehind matrix text kind n
+IsSpecFault matrix text (At kind n) = HasNoFirstLine text kind n ⊎ IsFaultAfter matrix text kind n
 IsSpecFault matrix text Memory = Unit {0}
 
 -- the text lists these histories, of which the set is the closure

@@ -2,7 +2,7 @@
 
 ghost use Rattle.std.specs.Prelude.{◌≡◌, OnOk};
 ghost use Rattle.lu_history.specs.Serial.{IsSerial};
-ghost use Rattle.lu_spec.specs.Beginnings.{AddsBelow, AreSerialBehind};
+ghost use Rattle.lu_spec.specs.Beginnings.{AddsBelow, AreSerialAfter};
 ghost use Rattle.lu_spec.specs.Specs.{AllHaveOutcomes};
 
 use lu_history::SerialOp;
@@ -18,7 +18,7 @@ pub(crate) fn add_below<A: Allocator + Clone, T: SerialTree>(
 ) -> Result<(), AllocError>
     requires place { T.is_place tree.now place }
     requires path { IsSerial path.old.items }
-    requires serial { AreSerialBehind path.old.items (T.below tree.now place) }
+    requires serial { AreSerialAfter path.old.items (T.below tree.now place) }
     ensures path { OnOk result (path.new.items ≡ path.old.items) }
     ensures outcomes { OnOk result (AllHaveOutcomes (T.below tree.now place)) }
     ensures adds { OnOk result (AddsBelow set.old set.new path.old.items (T.below tree.now place)) }

@@ -36,7 +36,7 @@ impl SpecFaultKind {
     }
 }
 
-/// Why a text is no specification: the first fault by line, or want of memory, which is shown as
+/// Why a text is no specification: the first fault by line, or refused memory, which is shown as
 /// `memory`.
 pub type SpecFault = Fault<SpecFaultKind>;
 

@@ -43,7 +43,7 @@ fn taken_in(
     }
 }
 
-/// The draft behind a line that has a fault: with its history, where that is one to be taken.
+/// The draft after a line that has a fault: with its history, where that is one to be taken.
 fn left_by(
     alloc: Global,
     matrix: &Matrix,
@@ -63,7 +63,7 @@ fn left_by(
     }
 }
 
-/// The draft behind a line, which is line `number` of the text, and the fault of the line.
+/// The draft after a line, which is line `number` of the text, and the fault of the line.
 fn judge_line(
     alloc: Global,
     matrix: &Matrix,
@@ -147,7 +147,7 @@ fn first_fault(line: &[u8]) -> Option<SpecLineFault>
 /// one of a line. There is none exactly where [`crate::read_spec`] reads the text, and else the
 /// first is the reader's.
 ///
-/// Lines behind one with a fault are read so: a first line that is another stands for the right
+/// Lines after one with a fault are read so: a first line that is another stands for the right
 /// one. A history that the matrix has and that conflicts with none before it counts where it stands
 /// out of order too, so that the next line has to come after it. Each other line with a fault is
 /// left out.

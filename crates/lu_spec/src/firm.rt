@@ -96,7 +96,7 @@ pub(crate) fn keep_more(
     Ok(kept)
 }
 
-/// Whether the operation is kept behind this beginning, with other outcomes alone.
+/// Whether the operation is kept after this beginning, with other outcomes alone.
 fn refuses(
     alloc: Global,
     kept: &FirmEnds,

@@ -117,7 +117,7 @@ pub(crate) fn no_lines(alloc: Global) -> Result<FreeDraft, AllocError>
 }
 
 /// Reads a specification that may leave outcomes free. Its text is that of [`crate::collect_spec`],
-/// and an entry may have the mark `?`, as in `history 0=0? 1=1`: where its operation comes behind
+/// and an entry may have the mark `?`, as in `history 0=0? 1=1`: where its operation comes after
 /// the same operations, another line may say another outcome. Two lines conflict firmly where their
 /// operations conflict and neither of the two entries at which they part has a mark. The
 /// specification is that of all beginnings of the listed histories, and of the empty one.

@@ -13,7 +13,7 @@ use lu_test::Matrix;
 use lu_text::{Fault, lines_of, words_of};
 use std::alloc::{AllocError, Global};
 
-/// The draft behind line `number`, and the fault of the line where it is to list a history and has
+/// The draft after line `number`, and the fault of the line where it is to list a history and has
 /// one.
 fn judge_free_line(
     alloc: Global,

@@ -103,7 +103,7 @@ pub(crate) fn is_listable(entries: &[SerialOp]) -> bool
     !entries.is_empty() && entries.len() <= MOST_CALLS && is_serial(entries)
 }
 
-/// The history that words say behind `history`, where a specification may list it.
+/// The history that words say after `history`, where a specification may list it.
 pub(crate) fn history_of(
     alloc: Global,
     words: &[&[u8]],

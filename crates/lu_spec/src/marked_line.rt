@@ -68,7 +68,7 @@ fn are_listable(alloc: Global, entries: &[MarkedOp]) -> Result<bool, AllocError>
     Ok(is_listable(&history))
 }
 
-/// The entries that words say behind `history`, where a specification may list their operations.
+/// The entries that words say after `history`, where a specification may list their operations.
 pub(crate) fn marked_history_of(
     alloc: Global,
     words: &[&[u8]],

@@ -41,7 +41,7 @@ pub(crate) fn add_beginnings<A: Allocator + Clone>(
     Ok(())
 }
 
-/// Whether a history may stand behind `last`, where that is not empty.
+/// Whether a history may stand after `last`, where that is not empty.
 fn goes_on(last: &[SerialOp], history: &[SerialOp]) -> bool
     ensures { IsTrue result ↔ (last.now ≢ [] → ComesAfter last.now history.now) }
 {

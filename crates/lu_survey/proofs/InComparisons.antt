@@ -4,7 +4,7 @@ use Rattle.std.specs.Prelude.{IfOk, IsSomeAnd, MatchOption}
 use Rattle.std.specs.List.{AllZip}
 use Rattle.std.proofs.lemmas.Slice.Zip.{AllZip-left}
 use Rattle.lu_component.specs.declared.component.Op.{Op}
-use Rattle.lu_component.specs.Component.{Declarations}
+use Rattle.lu_component.specs.Component.{Component}
 use Rattle.lu_test.specs.declared.matrix.Call.{Call}
 use Rattle.lu_test.specs.Matrix.{IsCallOf, IsOf, Matrix}
 use Rattle.lu_machine.specs.Starts.{AllEnd, CanRun}
@@ -32,7 +32,7 @@ alike_more i ops others op other less long all is its alike =
 
 -- ---- a matrix of one is one of the other
 
-call_too : (c d : Declarations) → HasSameOperations c d → (call : Call) → IsCallOf c call → IsCallOf d call
+call_too : (c d : Component) → HasSameOperations c d → (call : Call) → IsCallOf c call → IsCallOf d call
 call_too c d same call is =
     with_op (slice_get c.operations call.op) is (AllZip-left IsAlike c.operations d.operations same call.op)
   where
@@ -44,13 +44,13 @@ call_too c d same call is =
     with_op None size alike = absurd size
     with_op (Some op) size alike = with_other op (slice_get d.operations call.op) size alike
 
-pub of_too : (c d : Declarations) (matrix : Matrix) → HasSameOperations c d → IsOf matrix c → IsOf matrix d
+pub of_too : (c d : Component) (matrix : Matrix) → HasSameOperations c d → IsOf matrix c → IsOf matrix d
 of_too c d matrix same of = (
   (λ k e h. call_too c d same _ (of.0 k e h)),
   (λ t row h k e w. call_too c d same _ (of.1 t row h k e w)),
 )
 
-pub at_runs_too : (asked : Asked) (trusted : Declarations) (number : ℕ) (matrix : Matrix) → CanCompare asked trusted → IsMatrixAt asked number matrix → CanRun trusted matrix
+pub at_runs_too : (asked : Asked) (trusted : Component) (number : ℕ) (matrix : Matrix) → CanCompare asked trusted → IsMatrixAt asked number matrix → CanRun trusted matrix
 at_runs_too asked trusted number matrix can at = record {
   of = of_too asked.component trusted matrix can.operations (at_of asked number matrix can.asked_is at);
   settles = subst (λ (m : Matrix). AllEnd trusted m.setup) (sym at.fills) can.settles;
@@ -59,19 +59,19 @@ at_runs_too asked trusted number matrix can at = record {
 -- ---- one matrix
 
 -- over the set of the trusted component
-pub differs_by : (trusted c : Declarations) (matrix : Matrix) (bound serial : ℕ) (members : List (List SerialOp)) → AreHistories trusted matrix serial members → (found : Option Difference) → IsDifferenceBy members c matrix bound serial found → IsDifferenceIfAny trusted c matrix bound serial found
+pub differs_by : (trusted c : Component) (matrix : Matrix) (bound serial : ℕ) (members : List (List SerialOp)) → AreHistories trusted matrix serial members → (found : Option Difference) → IsDifferenceBy members c matrix bound serial found → IsDifferenceIfAny trusted c matrix bound serial found
 differs_by trusted c matrix bound serial members set None is = (members, set, is)
 differs_by trusted c matrix bound serial members set (Some (Serially u)) is = (members, set, is)
 differs_by trusted c matrix bound serial members set (Some (Concurrently r)) is = (members, set, is)
 differs_by trusted c matrix bound serial members set (Some (TrustedCut u)) is = absurd is
 differs_by trusted c matrix bound serial members set (Some (TrustedConflict u before earlier)) is = absurd is
 
-pub differs_where : {E : Type 0} (trusted c : Declarations) (matrix : Matrix) (bound serial : ℕ) (members : List (List SerialOp)) → AreHistories trusted matrix serial members → (result : Result (Option Difference) E) → IfOk result (IsDifferenceBy members c matrix bound serial) → IfOk result (IsDifferenceIfAny trusted c matrix bound serial)
+pub differs_where : {E : Type 0} (trusted c : Component) (matrix : Matrix) (bound serial : ℕ) (members : List (List SerialOp)) → AreHistories trusted matrix serial members → (result : Result (Option Difference) E) → IfOk result (IsDifferenceBy members c matrix bound serial) → IfOk result (IsDifferenceIfAny trusted c matrix bound serial)
 differs_where trusted c matrix bound serial members set (Ok found) is = differs_by trusted c matrix bound serial members set found is
 differs_where trusted c matrix bound serial members set (Err e) is = tt
 
 -- what is found of the matrix is found of its choice
-pub found_at : (trusted : Declarations) (asked : Asked) (number : ℕ) (matrix : Matrix) (found : Option Difference) → (at : IsMatrixAt asked number matrix) → IsDifferenceIfAny trusted asked.component matrix asked.bound asked.serial found → MatchOption found (AgreesAt trusted asked at.choice) (λ difference. DiffersAt trusted asked difference at.choice)
+pub found_at : (trusted : Component) (asked : Asked) (number : ℕ) (matrix : Matrix) (found : Option Difference) → (at : IsMatrixAt asked number matrix) → IsDifferenceIfAny trusted asked.component matrix asked.bound asked.serial found → MatchOption found (AgreesAt trusted asked at.choice) (λ difference. DiffersAt trusted asked difference at.choice)
 found_at trusted asked number matrix None at is = subst (λ (m : Matrix). IsDifferenceIfAny trusted asked.component m asked.bound asked.serial None) at.fills is
 found_at trusted asked number matrix (Some difference) at is = subst (λ (m : Matrix). IsDifferenceIfAny trusted asked.component m asked.bound asked.serial (Some difference)) at.fills is
 

@@ -7,7 +7,7 @@ use Rattle.std.proofs.lemmas.Bool.{cases_lt}
 use Rattle.std.proofs.lemmas.List.{nil_from_length}
 use Rattle.std.proofs.lemmas.List.Folds.{find-append}
 use Rattle.std.proofs.lemmas.List.Sums.{count_by-le-length, sum_by-append, sum_by-cons}
-use Rattle.lu_component.specs.Component.{Declarations}
+use Rattle.lu_component.specs.Component.{Component}
 use Rattle.lu_certify.specs.declared.certificate.Certificate.{Certificate}
 use Rattle.lu_certify.specs.declared.certificate.Certificate.TheVariants.{Linearizable, Livelock, NotLinearizable, Undecided}
 use Rattle.lu_certify.specs.Certificates.{AreSame}
@@ -143,17 +143,17 @@ surveyed_all asked nodes from to start end number survey end_is start_is past so
 
 -- ---- what is shown
 
-first_shown : (c : Declarations) (first : Option CertifiedMatrix) (one : CertifiedMatrix) → IsShownOf c one → IfSome first (IsShownOf c) → IfSome (option_or first (Some one)) (IsShownOf c)
+first_shown : (c : Component) (first : Option CertifiedMatrix) (one : CertifiedMatrix) → IsShownOf c one → IfSome first (IsShownOf c) → IfSome (option_or first (Some one)) (IsShownOf c)
 first_shown c None one shown is = shown
 first_shown c (Some x) one shown is = is
 
-pub shown_more : (c : Declarations) (survey : Survey) (one : CertifiedMatrix) (certificate : Certificate) → IsShownOf c one → AreShownOf c survey → AreShownOf c (survey_by certificate survey one)
+pub shown_more : (c : Component) (survey : Survey) (one : CertifiedMatrix) (certificate : Certificate) → IsShownOf c one → AreShownOf c survey → AreShownOf c (survey_by certificate survey one)
 shown_more c survey one (Linearizable members) shown are = record { linearizable = first_shown c survey.linearizable.first one shown are.linearizable; not_linearizable = are.not_linearizable; livelock = are.livelock; undecided = are.undecided }
 shown_more c survey one (NotLinearizable smaller r) shown are = record { linearizable = are.linearizable; not_linearizable = first_shown c survey.not_linearizable.first one shown are.not_linearizable; livelock = are.livelock; undecided = are.undecided }
 shown_more c survey one (Livelock smaller u) shown are = record { linearizable = are.linearizable; not_linearizable = are.not_linearizable; livelock = first_shown c survey.livelock.first one shown are.livelock; undecided = are.undecided }
 shown_more c survey one (Undecided smaller r) shown are = record { linearizable = are.linearizable; not_linearizable = are.not_linearizable; livelock = are.livelock; undecided = first_shown c survey.undecided.first one shown are.undecided }
 
-pub none_shown : (c : Declarations) (survey : Survey) → IsSurveyOf [] survey → AreShownOf c survey
+pub none_shown : (c : Component) (survey : Survey) → IsSurveyOf [] survey → AreShownOf c survey
 none_shown c survey of = record {
   linearizable = nothing of.linearizable.first;
   not_linearizable = nothing of.not_linearizable.first;

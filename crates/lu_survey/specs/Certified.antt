@@ -1,6 +1,6 @@
 -- Campaigns whose matrices are certified.
 use Rattle.std.specs.Prelude.{ℕ, List}
-use Rattle.lu_component.specs.Component.{Declarations}
+use Rattle.lu_component.specs.Component.{Component}
 use Rattle.lu_test.specs.Matrix.{IsOf}
 use Rattle.lu_certify.specs.declared.certificate.Certificate.{Certificate}
 use Rattle.lu_certify.specs.declared.certificate.Certificate.TheVariants.{Linearizable, Livelock, NotLinearizable, Undecided}
@@ -56,6 +56,6 @@ IsCertifiedAnswer asked nodes from to found =
 
 -- the matrix that is found is one of the component, and so is the cut that its certificate names,
 -- if any
-abbrev pub IsCertifiedOf : Declarations → CertifiedCampaign → Type 0
+abbrev pub IsCertifiedOf : Component → CertifiedCampaign → Type 0
 IsCertifiedOf c (AllLinearizable count) = Unit {0}
 IsCertifiedOf c (First matrix certificate) = IsOf matrix c × NamesCutOf c certificate

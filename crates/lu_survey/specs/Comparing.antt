@@ -2,7 +2,7 @@
 use Rattle.std.specs.Prelude.{◌≡◌, ℕ, List, Option, Some, None}
 use Rattle.std.specs.List.{AllZip}
 use Rattle.lu_component.specs.declared.component.Op.{Op}
-use Rattle.lu_component.specs.Component.{Declarations}
+use Rattle.lu_component.specs.Component.{Component}
 use Rattle.lu_test.specs.declared.schedule.Move.{Move}
 use Rattle.lu_test.specs.Matrix.{IsOf, Matrix}
 use Rattle.lu_machine.specs.Schedules.{IsLeast}
@@ -28,12 +28,12 @@ abbrev pub IsAlike : Op → Op → Type 0
 IsAlike one other = (one.name ≡ other.name) × (one.args ≡ other.args)
 
 -- the components have operations of the same names in the same order, each with as many arguments
-abbrev pub HasSameOperations : Declarations → Declarations → Type 0
+abbrev pub HasSameOperations : Component → Component → Type 0
 HasSameOperations c other = AllZip IsAlike c.operations other.operations
 
 -- the trusted component has the operations of the other one, and each call of the setup ends with
 -- it too
-pub record CanCompare (asked : Asked) (trusted : Declarations) : Type 0 where
+pub record CanCompare (asked : Asked) (trusted : Component) : Type 0 where
   pub asked_is : CanAsk asked
   pub operations : HasSameOperations asked.component trusted
   pub settles : AllEnd trusted asked.setup
@@ -41,12 +41,12 @@ pub record CanCompare (asked : Asked) (trusted : Declarations) : Type 0 where
 -- ---- one matrix
 
 -- without serial offence, these are the serial histories of the component on the matrix
-abbrev pub AreHistories : Declarations → Matrix → ℕ → List (List SerialOp) → Type 0
+abbrev pub AreHistories : Component → Matrix → ℕ → List (List SerialOp) → Type 0
 AreHistories c matrix serial members = FromEachStart c matrix (λ s. IsSetOf s serial members)
 
--- the component agrees with this set: none of its serial runs has a history outside (behind no
+-- the component agrees with this set: none of its serial runs has a history outside (after no
 -- smaller one that is cut), and its report against the set is a pass
-pub record AgreesWith (members : List (List SerialOp)) (c : Declarations) (matrix : Matrix)
+pub record AgreesWith (members : List (List SerialOp)) (c : Component) (matrix : Matrix)
     (bound serial : ℕ) : Type 0 where
   pub within : FromEachStart c matrix (λ s. (u : List Move) → IsOutside s serial members u → ⊥)
   pub report : Report
@@ -54,19 +54,19 @@ pub record AgreesWith (members : List (List SerialOp)) (c : Declarations) (matri
   pub passes : IsPass report.finding
 
 -- u is the least serial run with a history outside the set
-abbrev pub IsFirstSerially : List (List SerialOp) → Declarations → Matrix → ℕ → List Move → Type 0
+abbrev pub IsFirstSerially : List (List SerialOp) → Component → Matrix → ℕ → List Move → Type 0
 IsFirstSerially members c matrix serial u =
     FromEachStart c matrix (λ s. IsLeast (IsOutside s serial members) u)
 
 -- no serial run has a history outside, but r is the report against the set, and no pass
-pub record DiffersConcurrently (members : List (List SerialOp)) (c : Declarations)
+pub record DiffersConcurrently (members : List (List SerialOp)) (c : Component)
     (matrix : Matrix) (bound serial : ℕ) (r : Report) : Type 0 where
   pub within : FromEachStart c matrix (λ s. (u : List Move) → IsOutside s serial members u → ⊥)
   pub is : IsReportAgainst (IsMember members) c matrix bound r
   pub no_pass : IsPass r.finding → ⊥
 
 -- how it differs from this set, or none where it agrees
-abbrev pub IsDifferenceBy : List (List SerialOp) → Declarations → Matrix → ℕ → ℕ
+abbrev pub IsDifferenceBy : List (List SerialOp) → Component → Matrix → ℕ → ℕ
     → Option Difference → Type 0
 IsDifferenceBy members c matrix bound serial None = AgreesWith members c matrix bound serial
 IsDifferenceBy members c matrix bound serial (Some (Serially u)) =
@@ -77,7 +77,7 @@ IsDifferenceBy members c matrix bound serial (Some (TrustedCut u)) = ⊥
 IsDifferenceBy members c matrix bound serial (Some (TrustedConflict u before earlier)) = ⊥
 
 -- the component agrees with the serial histories of the trusted one
-abbrev pub Agrees : Declarations → Declarations → Matrix → ℕ → ℕ → Type 0
+abbrev pub Agrees : Component → Component → Matrix → ℕ → ℕ → Type 0
 Agrees trusted c matrix bound serial =
     (members : List (List SerialOp)) × AreHistories trusted matrix serial members
     × AgreesWith members c matrix bound serial
@@ -85,7 +85,7 @@ Agrees trusted c matrix bound serial =
 -- How it does not: the least serial offence of the trusted component, where one of its serial runs
 -- is cut or conflicts with another; else the component's least serial run with another history; or
 -- the report, which is no pass.
-abbrev pub IsDifference : Declarations → Declarations → Matrix → ℕ → ℕ → Difference → Type 0
+abbrev pub IsDifference : Component → Component → Matrix → ℕ → ℕ → Difference → Type 0
 IsDifference trusted c matrix bound serial (TrustedCut u) =
     FromEachStart trusted matrix (λ t. IsFirstCut t serial u)
 IsDifference trusted c matrix bound serial (TrustedConflict u before earlier) =
@@ -98,7 +98,7 @@ IsDifference trusted c matrix bound serial (Concurrently r) =
     × DiffersConcurrently members c matrix bound serial r
 
 -- how it differs, or none where it agrees
-abbrev pub IsDifferenceIfAny : Declarations → Declarations → Matrix → ℕ → ℕ → Option Difference
+abbrev pub IsDifferenceIfAny : Component → Component → Matrix → ℕ → ℕ → Option Difference
     → Type 0
 IsDifferenceIfAny trusted c matrix bound serial None = Agrees trusted c matrix bound serial
 IsDifferenceIfAny trusted c matrix bound serial (Some difference) =
@@ -107,30 +107,30 @@ IsDifferenceIfAny trusted c matrix bound serial (Some difference) =
 -- ---- slices
 
 -- on the matrix that the choice fills it agrees
-abbrev pub AgreesAt : Declarations → Asked → List ℕ → Type 0
+abbrev pub AgreesAt : Component → Asked → List ℕ → Type 0
 AgreesAt trusted asked choice =
     Agrees trusted asked.component (role_matrix asked choice) asked.bound asked.serial
 
 -- on that matrix it differs so
-abbrev pub DiffersAt : Declarations → Asked → Difference → List ℕ → Type 0
+abbrev pub DiffersAt : Component → Asked → Difference → List ℕ → Type 0
 DiffersAt trusted asked difference choice =
     IsDifference trusted asked.component (role_matrix asked choice) asked.bound asked.serial
     difference
 
 -- on each matrix of the slice it agrees, and this is their number; or the first on which it does
 -- not, and how
-abbrev pub IsComparedSlice : Declarations → Asked → ℕ → ℕ → Comparison → Type 0
+abbrev pub IsComparedSlice : Component → Asked → ℕ → ℕ → Comparison → Type 0
 IsComparedSlice trusted asked from to (AllAgree count) =
     AreAllSo asked from to (AgreesAt trusted asked) count
 IsComparedSlice trusted asked from to (First matrix difference) =
     IsFirstOther asked from to (AgreesAt trusted asked) (DiffersAt trusted asked difference) matrix
 
 -- the limits hold, and this is found
-abbrev pub IsCompared : Declarations → Asked → ℕ → ℕ → Comparison → Type 0
+abbrev pub IsCompared : Component → Asked → ℕ → ℕ → Comparison → Type 0
 IsCompared trusted asked from to found =
     AreWithinLimits asked.calls asked.candidates × IsComparedSlice trusted asked from to found
 
 -- the matrix that is found is one of the component
-abbrev pub IsComparedOf : Declarations → Comparison → Type 0
+abbrev pub IsComparedOf : Component → Comparison → Type 0
 IsComparedOf c (AllAgree count) = Unit {0}
 IsComparedOf c (First matrix difference) = IsOf matrix c

@@ -1,7 +1,7 @@
 -- Laws of slices that follow one another.
 use Rattle.std.specs.Prelude.{◌≡◌, ℕ, ◌+◌, ◌^◌, ◌<◌, ◌≤◌, List, Option, Some, None}
 use Rattle.std.specs.Option.{option_or}
-use Rattle.lu_component.specs.Component.{Declarations}
+use Rattle.lu_component.specs.Component.{Component}
 use Rattle.lu_machine.specs.Starts.{AllEnd}
 use Rattle.lu_certify.specs.Certificates.{AreSame}
 use Rattle.lu_refine.specs.ByThread.{Asked, IsRoleChoice, IsWithinSlice, matrix_count}
@@ -127,7 +127,7 @@ joined_comparisons (AllAgree count) (AllAgree others) = AllAgree (count + others
 -- Two slices that follow one another answer together what one slice does.
 abbrev pub ComparedJoin : Type 0
 ComparedJoin =
-    (trusted : Declarations) (asked : Asked) (from middle to : ℕ) (earlier later : Comparison) →
+    (trusted : Component) (asked : Asked) (from middle to : ℕ) (earlier later : Comparison) →
     from ≤ middle → middle ≤ to → IsComparedSlice trusted asked from middle earlier →
     IsComparedSlice trusted asked middle to later
     → IsComparedSlice trusted asked from to (joined_comparisons earlier later)

@@ -1,7 +1,7 @@
 -- Surveys: how many matrices of a slice have a certificate of each kind.
 use Rattle.std.specs.Prelude.{◌≡◌, ◌<◌, ℕ, ◌+◌, ◌^◌, ◌-◌, Bool, true, false, IfSome, List, [], ◌∷◌, length, count_by, find, Some, None}
 use Rattle.std.specs.Option.{option_or}
-use Rattle.lu_component.specs.Component.{Declarations}
+use Rattle.lu_component.specs.Component.{Component}
 use Rattle.lu_test.specs.Matrix.{IsOf}
 use Rattle.lu_certify.specs.declared.certificate.Certificate.{Certificate}
 use Rattle.lu_certify.specs.declared.certificate.Certificate.TheVariants.{Linearizable, Livelock, NotLinearizable, Undecided}
@@ -94,7 +94,7 @@ IsSurveyAnswer asked nodes from to survey =
 abbrev pub tally_none : Tally
 tally_none = record { count = 0; first = None }
 
--- the tally with this one more, which stands behind the others
+-- the tally with this one more, which stands after the others
 abbrev pub tally_with : Tally → CertifiedMatrix → Tally
 tally_with tally one =
     record { count = tally.count + 1; first = option_or tally.first (Some one) }
@@ -120,11 +120,11 @@ pub record HasRoom (survey : Survey) : Type 0 where
 -- ---- what is shown
 
 -- the matrix is one of the component, and so is the cut that its certificate names, if any
-abbrev pub IsShownOf : Declarations → CertifiedMatrix → Type 0
+abbrev pub IsShownOf : Component → CertifiedMatrix → Type 0
 IsShownOf c one = IsOf one.matrix c × NamesCutOf c one.certificate
 
 -- so are those that are the first of their kind
-pub record AreShownOf (c : Declarations) (survey : Survey) : Type 0 where
+pub record AreShownOf (c : Component) (survey : Survey) : Type 0 where
   pub linearizable : IfSome survey.linearizable.first (IsShownOf c)
   pub not_linearizable : IfSome survey.not_linearizable.first (IsShownOf c)
   pub livelock : IfSome survey.livelock.first (IsShownOf c)

@@ -3,7 +3,7 @@
 //! A campaign of checks counts as a pass a matrix of which all schedules were cut.
 //! [`certify_slice`] asks for more: on each matrix the component is linearizable, by its
 //! certificate (Herlihy and Wing, 1990; Burckhardt, Dern, Musuvathi and Tan, 2010).
-//! [`survey_slice`] goes on behind one on which it is not: it tells how many matrices have a
+//! [`survey_slice`] goes on after one on which it is not: it tells how many matrices have a
 //! certificate of each kind. [`compare_slice`] holds a component against a trusted one, which says
 //! what its serial histories are to be.
 //!

@@ -44,7 +44,7 @@ impl Tally {
         }
     }
 
-    /// These and one more, which stands behind them.
+    /// These and one more, which stands after them.
     fn with(self, one: CertifiedMatrix) -> Tally
         requires { self.count < 2 ^ 64 - 1 }
         ensures { result ≡ tally_with self one }
@@ -72,7 +72,7 @@ impl Survey {
         }
     }
 
-    /// The same with one more matrix, which stands behind the others.
+    /// The same with one more matrix, which stands after the others.
     pub(crate) fn with(self, one: CertifiedMatrix) -> Survey
         requires { HasRoom self }
         ensures { result ≡ survey_by one.certificate self one }

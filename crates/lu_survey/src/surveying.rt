@@ -10,7 +10,7 @@ use lu_refine::{CampaignFault, Roles, count_matrices, matrix_at};
 use std::alloc::Global;
 
 /// Certifies the matrices with the numbers `from` to `to - 1`, as
-/// [`certify_slice`](crate::certify_slice) does, and goes on behind each: how many there are of
+/// [`certify_slice`](crate::certify_slice) does, and goes on after each: how many there are of
 /// each kind of certificate, and the first of each kind. Slices that follow one another say
 /// together what one slice says ([`surveys_join`](crate::laws::surveys_join)).
 ///

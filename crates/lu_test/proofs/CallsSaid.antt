@@ -5,9 +5,9 @@ use Rattle.std.proofs.lemmas.List.Elements.{filter_map-append}
 use Rattle.lu_text.specs.Words.{Word}
 use Rattle.lu_test.specs.declared.matrix.Call.{Call}
 use Rattle.lu_test.specs.MatrixText.{arguments_in, call_of, calls_said, named_operation}
-use Rattle.lu_test.specs.Signatures.{OpSignature}
+use Rattle.lu_test.specs.Signatures.{Signature}
 
-module _ (signatures : List OpSignature) (parts : List (List Word)) (i : ℕ) (words : List Word) (within : i < length parts) (is : words ≡ get_or parts i words) where
+module _ (signatures : List Signature) (parts : List (List Word)) (i : ℕ) (words : List Word) (within : i < length parts) (is : words ≡ get_or parts i words) where
   calls_more : calls_said signatures (take (i + 1) parts) ≡ calls_said signatures (take i parts) ++ calls_said signatures (words ∷ [])
   calls_more =
       ap (calls_said signatures) (take_more parts i words within)

@@ -44,7 +44,7 @@ pub is_done : (front : List Move) (n : ℕ) (total : Result (List Move) Schedule
 unfolding moves_of
 is_done front n total so_far = sym so_far ∙ ap (λ (x : List Move). Ok x) (append-nil front)
 
--- a fault that isn't want of memory
+-- a fault that isn't refused memory
 pub told : (f : ScheduleFault) (total : Result (List Move) ScheduleFault) → total ≡ Err f → IsScheduleUnlessMemory f total
 told Memory total e = tt
 told Form total e = e

@@ -8,18 +8,18 @@ use Rattle.std.proofs.lemmas.List.Elements.{All-nil}
 use Rattle.std.proofs.lemmas.List.Sums.{sum_by-append}
 use Rattle.lu_text.specs.Words.{Word}
 use Rattle.lu_text.proofs.Written.{All-last}
-use Rattle.lu_component.specs.Component.{Declarations}
+use Rattle.lu_component.specs.Component.{Component}
 use Rattle.lu_test.specs.declared.matrix.Call.{Call}
 use Rattle.lu_test.specs.Matrix.{AreArguments, AreThreads, IsOf, IsCallOf}
-use Rattle.lu_test.specs.MatrixText.{Drafted, HasRoom, IsDraft, is_nothing, matrix_of, parts_in}
+use Rattle.lu_test.specs.MatrixText.{MatrixDraft, HasRoom, IsDraft, is_nothing, matrix_of, parts_in}
 use Rattle.lu_test.specs.MatrixGoing.{with_empty, mend_parts, mend}
 
 -- the limits hold, and the calls are the component's
-pub record IsKept (c : Declarations) (draft : Drafted) : Type 0 where
+pub record IsKept (c : Component) (draft : MatrixDraft) : Type 0 where
   pub limits : IsDraft draft
   pub fits : IsOf (matrix_of draft) c
 
-empty_kept : (c : Declarations) (d : Drafted) → IsKept c d → (b : Bool) → nat_le 8 (length d.threads) ≡ b → IsKept c (cond b d (record d { threads = d.threads ++ [] ∷ [] }))
+empty_kept : (c : Component) (d : MatrixDraft) → IsKept c d → (b : Bool) → nat_le 8 (length d.threads) ≡ b → IsKept c (cond b d (record d { threads = d.threads ++ [] ∷ [] }))
 empty_kept c d h true e = h
 empty_kept c d h false e =
     let threads = d.threads in
@@ -38,7 +38,7 @@ empty_kept c d h false e =
       fits = (h.fits.0, All-last (λ calls. All (IsCallOf c) calls) threads none h.fits.1 (All-nil (IsCallOf c)));
     }
 
-parts_kept : (c : Declarations) (d : Drafted) → IsKept c d → (parts : List (List Word)) → IsKept c (mend_parts d parts)
+parts_kept : (c : Component) (d : MatrixDraft) → IsKept c d → (parts : List (List Word)) → IsKept c (mend_parts d parts)
 parts_kept c d h [] = h
 parts_kept c d h ([] ∷ []) = h
 parts_kept c d h ([] ∷ part ∷ parts) = empty_kept c d h (nat_le 8 (length d.threads)) refl
@@ -52,14 +52,14 @@ parts_kept c d h ((word ∷ words) ∷ parts) = go (bytes_eq word (codes "setup"
     go false = empty_kept c d h (nat_le 8 (length d.threads)) refl
 
 -- there is room still
-empty_room : (d : Drafted) → HasRoom d → (b : Bool) → HasRoom (cond b d (record d { threads = d.threads ++ [] ∷ [] }))
+empty_room : (d : MatrixDraft) → HasRoom d → (b : Bool) → HasRoom (cond b d (record d { threads = d.threads ++ [] ∷ [] }))
 empty_room d h true = h
 empty_room d h false =
     let none : List Call = [] in
     let sum : sum_by length (d.threads ++ none ∷ []) ≡ sum_by length d.threads = rw (sum_by-append length d.threads (none ∷ [])) (omega arith) in
     omega (arith, h, sum)
 
-parts_room : (d : Drafted) → HasRoom d → (parts : List (List Word)) → HasRoom (mend_parts d parts)
+parts_room : (d : MatrixDraft) → HasRoom d → (parts : List (List Word)) → HasRoom (mend_parts d parts)
 parts_room d h [] = h
 parts_room d h ([] ∷ []) = h
 parts_room d h ([] ∷ part ∷ parts) = empty_room d h (nat_le 8 (length d.threads))
@@ -69,8 +69,8 @@ parts_room d h ((word ∷ words) ∷ parts) = go (bytes_eq word (codes "setup") 
     go true = h
     go false = empty_room d h (nat_le 8 (length d.threads))
 
-pub mend_room : (d : Drafted) → HasRoom d → (line : List ℕ) → HasRoom (mend d line)
+pub mend_room : (d : MatrixDraft) → HasRoom d → (line : List ℕ) → HasRoom (mend d line)
 mend_room d h line = parts_room d h (parts_in line)
 
-pub mend_kept : (c : Declarations) (d : Drafted) → IsKept c d → (line : List ℕ) → IsKept c (mend d line)
+pub mend_kept : (c : Component) (d : MatrixDraft) → IsKept c d → (line : List ℕ) → IsKept c (mend d line)
 mend_kept c d h line = parts_kept c d h (parts_in line)

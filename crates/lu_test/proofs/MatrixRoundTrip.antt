@@ -17,13 +17,13 @@ use Rattle.lu_text.specs.Faults.{meaning_of}
 use Rattle.lu_text.proofs.Written.{IsText, IsLineByte, Reads, reads_nothing, reads_line, reads_on, reads_value, allowed_line, one_line, words_line, words_again, no_comment, split_joined, each_joined, each_weaker}
 use Rattle.lu_text.proofs.WordText.{IsDigit, digits_each, literal_text, name_text, number_text, value_again}
 use Rattle.lu_component.specs.declared.component.Op.{Op}
-use Rattle.lu_component.specs.Component.{Declarations, IsComponent, IsOp}
+use Rattle.lu_component.specs.Component.{Component, IsComponent, IsOp}
 use Rattle.lu_component.proofs.Named.{name_has, place_at}
 use Rattle.lu_test.specs.declared.matrix.Call.{Call}
 use Rattle.lu_test.specs.Matrix.{AreArguments, IsMatrix, IsOf, IsCallOf, Matrix}
 use Rattle.lu_test.specs.Signatures.{signature, signature_place, signatures}
 use Rattle.lu_test.proofs.Signatures.{same_place, signature_at}
-use Rattle.lu_test.specs.MatrixText.{Drafted, nothing, matrix_of, has_name, has_operation, has_arguments, has_values, call_of, calls_said, calls_after, calls_fault, is_full, with_thread, with_setup, by_keyword, by_parts, parts_in, line_of, matrix_grammar, operation_name, arguments_text, call_text, others_text, calls_text, line_text, thread_text, setup_text, matrix_text}
+use Rattle.lu_test.specs.MatrixText.{MatrixDraft, nothing, matrix_of, has_name, has_operation, has_arguments, has_values, call_of, calls_said, calls_after, calls_fault, is_full, with_thread, with_setup, by_keyword, by_parts, parts_in, line_of, matrix_grammar, operation_name, arguments_text, call_text, others_text, calls_text, line_text, thread_text, setup_text, matrix_text}
 
 -- ---- bytes that part no calls
 
@@ -52,7 +52,7 @@ number_part n h = record { text = number_text n h; whole = each_weaker IsDigit (
 
 -- ---- the words of a call
 
-abbrev call_words : Declarations → Call → List Word
+abbrev call_words : Component → Call → List Word
 call_words c call = operation_name c.operations call.op ∷ map decimal call.args
 
 joined : (first : Word) (arguments : List ℕ) → join_with_byte 32 (first ∷ map decimal arguments) ≡ first ++ arguments_text arguments
@@ -72,7 +72,7 @@ number_parts [] h = tt
 number_parts (n ∷ arguments) h = (number_part n (omega (arith, h.0)), number_parts arguments h.1)
 
 -- the words of a call of the component say it again
-record IsSaid (c : Declarations) (call : Call) : Type 0 where
+record IsSaid (c : Component) (call : Call) : Type 0 where
   parts : AllByRecursion IsPart (call_words c call)
   joins : join_with_byte 32 (call_words c call) ≡ call_text c.operations call
   there : has_operation (signatures c.operations) (call_words c call) ≡ true
@@ -80,10 +80,10 @@ record IsSaid (c : Declarations) (call : Call) : Type 0 where
   values : has_values (signatures c.operations) (call_words c call) ≡ true
   again : call_of (signatures c.operations) (call_words c call) ≡ Some call
 
-op_names : (c : Declarations) → IsComponent c → AllByRecursion (λ o. IsName o.name) c.operations
+op_names : (c : Component) → IsComponent c → AllByRecursion (λ o. IsName o.name) c.operations
 op_names c is = each_weaker (IsOp (length c.arrays) (length c.locks)) (λ o. IsName o.name) (λ o h. h.name) c.operations (recursion_from_All (IsOp (length c.arrays) (length c.locks)) c.operations is.operations)
 
-is_said : (c : Declarations) → IsComponent c → (call : Call) → IsCallOf c call → AreArguments call.args → IsSaid c call
+is_said : (c : Component) → IsComponent c → (call : Call) → IsCallOf c call → AreArguments call.args → IsSaid c call
 is_said c is call fits arguments =
     elim (slice_get_cases c.operations call.op).1 [
       | inl (op, within, at, same) ↦ said op within at
@@ -108,27 +108,27 @@ is_said c is call fits arguments =
           again = rw (place, sign) (ap (λ (ns : List ℕ). let made : Call = record { op = call.op; args = ns } in Some made) numbers);
         }
 
-each_said : (c : Declarations) → IsComponent c → (calls : List Call) → AllByRecursion (IsCallOf c) calls → AllByRecursion (λ call. AreArguments call.args) calls → AllByRecursion (IsSaid c) calls
+each_said : (c : Component) → IsComponent c → (calls : List Call) → AllByRecursion (IsCallOf c) calls → AllByRecursion (λ call. AreArguments call.args) calls → AllByRecursion (IsSaid c) calls
 each_said c is [] fits arguments = tt
 each_said c is (call ∷ calls) fits arguments = (is_said c is call fits.0 arguments.0, each_said c is calls fits.1 arguments.1)
 
 -- ---- a line
 
 -- the words of a line's parts
-abbrev line_parts : Declarations → Word → List Call → List (List Word)
+abbrev line_parts : Component → Word → List Call → List (List Word)
 line_parts c word [] = (word ∷ []) ∷ []
 line_parts c word (call ∷ calls) = (word ∷ call_words c call) ∷ map (call_words c) calls
 
 abbrev part_text : List Word → List ℕ
 part_text words = join_with_byte 32 words
 
-others_joined : (c : Declarations) (first : List ℕ) (calls : List Call) → AllByRecursion (IsSaid c) calls → join_with_byte 59 (first ∷ map part_text (map (call_words c) calls)) ≡ first ++ others_text c.operations calls
+others_joined : (c : Component) (first : List ℕ) (calls : List Call) → AllByRecursion (IsSaid c) calls → join_with_byte 59 (first ∷ map part_text (map (call_words c) calls)) ≡ first ++ others_text c.operations calls
 others_joined c first [] h = sym (append-nil first)
 others_joined c first (call ∷ calls) h =
     ap (λ (t : List ℕ). first ++ (59 ∷ join_with_byte 59 (t ∷ map part_text (map (call_words c) calls)))) h.0.joins
     ∙ ap (λ (t : List ℕ). first ++ (59 ∷ t)) (others_joined c (call_text c.operations call) calls h.1)
 
-line_joined : (c : Declarations) (word : Word) (calls : List Call) → AllByRecursion (IsSaid c) calls → join_with_byte 59 (map part_text (line_parts c word calls)) ≡ word ++ calls_text c.operations calls
+line_joined : (c : Component) (word : Word) (calls : List Call) → AllByRecursion (IsSaid c) calls → join_with_byte 59 (map part_text (line_parts c word calls)) ≡ word ++ calls_text c.operations calls
 line_joined c word [] h = sym (append-nil word)
 line_joined c word (call ∷ calls) h =
     ap (λ (t : List ℕ). join_with_byte 59 ((word ++ 32 ∷ t) ∷ map part_text (map (call_words c) calls))) h.0.joins
@@ -141,11 +141,11 @@ thread_part = record { text = literal_text (codes "thread") (omega arith) refl; 
 setup_part : IsPart (codes "setup")
 setup_part = record { text = literal_text (codes "setup") (omega arith) refl; whole = (refl, (refl, (refl, (refl, (refl, tt))))) }
 
-others_are : (c : Declarations) (calls : List Call) → AllByRecursion (IsSaid c) calls → AllByRecursion (AllByRecursion IsPart) (map (call_words c) calls)
+others_are : (c : Component) (calls : List Call) → AllByRecursion (IsSaid c) calls → AllByRecursion (AllByRecursion IsPart) (map (call_words c) calls)
 others_are c [] h = tt
 others_are c (call ∷ calls) h = (h.0.parts, others_are c calls h.1)
 
-parts_are : (c : Declarations) (word : Word) → IsPart word → (calls : List Call) → AllByRecursion (IsSaid c) calls → AllByRecursion (AllByRecursion IsPart) (line_parts c word calls)
+parts_are : (c : Component) (word : Word) → IsPart word → (calls : List Call) → AllByRecursion (IsSaid c) calls → AllByRecursion (AllByRecursion IsPart) (line_parts c word calls)
 parts_are c word part [] h = ((part, tt), tt)
 parts_are c word part (call ∷ calls) h = ((part, h.0.parts), others_are c calls h.1)
 
@@ -184,46 +184,46 @@ parts_again first parts h =
     ap (λ (l : List ℕ). map words_of (slice_split (λ b. b == 59) l)) uncut
     ∙ (ap (λ (ps : List (List ℕ)). map words_of ps) split ∙ words_of_parts (first ∷ parts) h)
 
-line_parts_again : (c : Declarations) (word : Word) → IsPart word → (calls : List Call) → AllByRecursion (IsSaid c) calls → parts_in (line_of_parts (line_parts c word calls)) ≡ line_parts c word calls
+line_parts_again : (c : Component) (word : Word) → IsPart word → (calls : List Call) → AllByRecursion (IsSaid c) calls → parts_in (line_of_parts (line_parts c word calls)) ≡ line_parts c word calls
 line_parts_again c word part [] h = parts_again (word ∷ []) [] (parts_are c word part [] h)
 line_parts_again c word part (call ∷ calls) h = parts_again (word ∷ call_words c call) (map (call_words c) calls) (parts_are c word part (call ∷ calls) h)
 
 after_some : (words : List Word) (parts : List (List Word)) → 0 < length words → calls_after words parts ≡ words ∷ parts
 after_some words parts some = rw (ne_eqb (length words) 0 (λ e. omega arith)) refl
 
-by_line : (c : Declarations) (draft : Drafted) (word : Word) (calls : List Call) → by_parts (signatures c.operations) draft (line_parts c word calls) ≡ by_keyword (signatures c.operations) draft word (map (call_words c) calls)
+by_line : (c : Component) (draft : MatrixDraft) (word : Word) (calls : List Call) → by_parts (signatures c.operations) draft (line_parts c word calls) ≡ by_keyword (signatures c.operations) draft word (map (call_words c) calls)
 by_line c draft word [] = refl
 by_line c draft word (call ∷ calls) = ap (by_keyword (signatures c.operations) draft word) (after_some (call_words c call) (map (call_words c) calls) (omega arith))
 
 -- ---- a thread
 
-all_named : (c : Declarations) (calls : List Call) → list_all has_name (map (call_words c) calls) ≡ true
+all_named : (c : Component) (calls : List Call) → list_all has_name (map (call_words c) calls) ≡ true
 all_named c [] = refl
 all_named c (call ∷ calls) = rw (ne_eqb (length (call_words c call)) 0 (λ e. omega arith), all_named c calls) refl
 
-all_there : (c : Declarations) (calls : List Call) → AllByRecursion (IsSaid c) calls → list_all (has_operation (signatures c.operations)) (map (call_words c) calls) ≡ true
+all_there : (c : Component) (calls : List Call) → AllByRecursion (IsSaid c) calls → list_all (has_operation (signatures c.operations)) (map (call_words c) calls) ≡ true
 all_there c [] h = refl
 all_there c (call ∷ calls) h = rw (h.0.there, all_there c calls h.1) refl
 
-all_counted : (c : Declarations) (calls : List Call) → AllByRecursion (IsSaid c) calls → list_all (has_arguments (signatures c.operations)) (map (call_words c) calls) ≡ true
+all_counted : (c : Component) (calls : List Call) → AllByRecursion (IsSaid c) calls → list_all (has_arguments (signatures c.operations)) (map (call_words c) calls) ≡ true
 all_counted c [] h = refl
 all_counted c (call ∷ calls) h = rw (h.0.count, all_counted c calls h.1) refl
 
-all_values : (c : Declarations) (calls : List Call) → AllByRecursion (IsSaid c) calls → list_all (has_values (signatures c.operations)) (map (call_words c) calls) ≡ true
+all_values : (c : Component) (calls : List Call) → AllByRecursion (IsSaid c) calls → list_all (has_values (signatures c.operations)) (map (call_words c) calls) ≡ true
 all_values c [] h = refl
 all_values c (call ∷ calls) h = rw (h.0.values, all_values c calls h.1) refl
 
-calls_again : (c : Declarations) (calls : List Call) → AllByRecursion (IsSaid c) calls → calls_said (signatures c.operations) (map (call_words c) calls) ≡ calls
+calls_again : (c : Component) (calls : List Call) → AllByRecursion (IsSaid c) calls → calls_said (signatures c.operations) (map (call_words c) calls) ≡ calls
 calls_again c [] h = refl
 calls_again c (call ∷ calls) h = rw h.0.again (ap (λ (rest : List Call). call ∷ rest) (calls_again c calls h.1))
 
 -- nothing is wrong with calls for which there is room
-none_wrong : (c : Declarations) (calls : List Call) (full : Bool) → AllByRecursion (IsSaid c) calls → full ≡ false → calls_fault (signatures c.operations) (map (call_words c) calls) full ≡ None
+none_wrong : (c : Component) (calls : List Call) (full : Bool) → AllByRecursion (IsSaid c) calls → full ≡ false → calls_fault (signatures c.operations) (map (call_words c) calls) full ≡ None
 none_wrong c calls full h room =
     rw (all_named c calls, all_there c calls h, all_counted c calls h, all_values c calls h, room) refl
 
 -- a line that says this of a draft is read so
-line_reads : (c : Declarations) (draft next : Drafted) (word : Word) → IsPart word → (calls : List Call) → AllByRecursion (IsSaid c) calls → by_keyword (signatures c.operations) draft word (map (call_words c) calls) ≡ Ok next
+line_reads : (c : Component) (draft next : MatrixDraft) (word : Word) → IsPart word → (calls : List Call) → AllByRecursion (IsSaid c) calls → by_keyword (signatures c.operations) draft word (map (call_words c) calls) ≡ Ok next
     → Reads (matrix_grammar c) draft (line_text c.operations word calls) next
 unfolding line_of
 line_reads c draft next word part calls h is =
@@ -235,7 +235,7 @@ line_reads c draft next word part calls h is =
     subst (λ (line : List ℕ). Reads (matrix_grammar c) draft line next) whole
     (reads_line (matrix_grammar c) draft next (line_of_parts (line_parts c word calls)) (one_line _ bytes) says)
 
-thread_reads : (c : Declarations) (draft : Drafted) (calls : List Call) → AllByRecursion (IsSaid c) calls → length draft.threads < 8 → length calls ≤ 8 → sum_by length draft.threads + length calls ≤ 16
+thread_reads : (c : Component) (draft : MatrixDraft) (calls : List Call) → AllByRecursion (IsSaid c) calls → length draft.threads < 8 → length calls ≤ 8 → sum_by length draft.threads + length calls ≤ 16
     → Reads (matrix_grammar c) draft (thread_text c.operations calls) (record draft { threads = draft.threads ++ calls ∷ [] })
 thread_reads c draft calls h room few all =
     let n : length (map (call_words c) calls) ≡ length calls = simp length-map in
@@ -256,7 +256,7 @@ setup_again : (calls : List Call) → unwrap_or (setup_of calls) [] ≡ calls
 setup_again [] = refl
 setup_again (call ∷ calls) = refl
 
-setup_reads : (c : Declarations) (calls : List Call) → AllByRecursion (IsSaid c) calls → length calls ≤ 8
+setup_reads : (c : Component) (calls : List Call) → AllByRecursion (IsSaid c) calls → length calls ≤ 8
     → Reads (matrix_grammar c) nothing (setup_text c.operations calls) (record { setup = setup_of calls; threads = [] })
 setup_reads c [] h few = reads_nothing (matrix_grammar c) nothing
 setup_reads c (call ∷ calls) h few =
@@ -267,7 +267,7 @@ setup_reads c (call ∷ calls) h few =
     rw (none_wrong c all _ h free, calls_again c all h) refl in
     line_reads c nothing (record { setup = Some all; threads = [] }) (codes "setup") setup_part all h says
 
-threads_read : (c : Declarations) → IsComponent c → (setup : Option (List Call)) (all done rest : List (List Call)) → all ≡ done ++ rest → length all ≤ 8 → sum_by length all ≤ 16
+threads_read : (c : Component) → IsComponent c → (setup : Option (List Call)) (all done rest : List (List Call)) → all ≡ done ++ rest → length all ≤ 8 → sum_by length all ≤ 16
     → AllByRecursion (λ calls. length calls ≤ 8) rest → AllByRecursion (λ calls. All (IsCallOf c) calls) rest → AllByRecursion (λ calls. All (λ call. AreArguments call.args) calls) rest
     → Reads (matrix_grammar c) (record { setup = setup; threads = done }) (flat_map (thread_text c.operations) rest) (record { setup = setup; threads = all })
 threads_read c is setup all done [] cut few count each fits arguments =
@@ -286,10 +286,10 @@ threads_read c is setup all done (calls ∷ rest) cut few count each fits argume
     (thread_reads c (record { setup = setup; threads = done }) calls said room each.0 fewer)
     (threads_read c is setup all (done ++ calls ∷ []) rest (cut ∙ sym (append_assoc done (calls ∷ []) rest)) few count each.1 fits.1 arguments.1)
 
-pub matrix_again : (c : Declarations) (matrix : Matrix) → IsComponent c → IsMatrix matrix → IsOf matrix c → meaning_of (matrix_grammar c) (matrix_text c matrix) ≡ Ok matrix
+pub matrix_again : (c : Component) (matrix : Matrix) → IsComponent c → IsMatrix matrix → IsOf matrix c → meaning_of (matrix_grammar c) (matrix_text c matrix) ≡ Ok matrix
 matrix_again c matrix is m fits =
     let setup = setup_of matrix.setup in
-    let all : Drafted = record { setup = setup; threads = matrix.threads } in
+    let all : MatrixDraft = record { setup = setup; threads = matrix.threads } in
     let said = each_said c is matrix.setup (recursion_from_All (IsCallOf c) matrix.setup fits.0) (recursion_from_All (λ call. AreArguments call.args) matrix.setup m.before.arguments) in
     let read = threads_read c is setup matrix.threads [] matrix.threads refl m.limits.few m.limits.calls
     (recursion_from_All (λ calls. length calls ≤ 8) matrix.threads m.limits.each)
@@ -301,5 +301,5 @@ matrix_again c matrix is m fits =
     reads_value (matrix_grammar c) (matrix_text c matrix) all matrix both (rw (ne_eqb (length matrix.threads) 0 (λ e. omega arith), whole) refl)
 
 -- the same of a text that is the matrix's
-pub written_again : (c : Declarations) (matrix : Matrix) → IsComponent c → IsMatrix matrix → IsOf matrix c → (text : List ℕ) → text ≡ matrix_text c matrix → meaning_of (matrix_grammar c) text ≡ Ok matrix
+pub written_again : (c : Component) (matrix : Matrix) → IsComponent c → IsMatrix matrix → IsOf matrix c → (text : List ℕ) → text ≡ matrix_text c matrix → meaning_of (matrix_grammar c) text ≡ Ok matrix
 written_again c matrix is m fits text e = rw e (matrix_again c matrix is m fits)

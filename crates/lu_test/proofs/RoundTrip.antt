@@ -64,7 +64,7 @@ moves_again before (m ∷ ms) h all =
 abbrev parts : List Move → List (List ℕ)
 parts ms = codes "schedule" ∷ map move_text ms
 
--- words behind one space each
+-- words after one space each
 abbrev spaced : List (List ℕ) → List ℕ
 spaced words = flat_map (λ word. 32 ∷ word) words
 

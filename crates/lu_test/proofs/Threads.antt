@@ -16,20 +16,20 @@ use Rattle.lu_text.specs.Faults.{or_else}
 use Rattle.lu_text.proofs.Says.{said}
 use Rattle.lu_text.proofs.Written.{All-last}
 use Rattle.lu_component.specs.declared.component.Op.{Op}
-use Rattle.lu_component.specs.Component.{Declarations, IsComponent, IsOp}
+use Rattle.lu_component.specs.Component.{Component, IsComponent, IsOp}
 use Rattle.lu_text.proofs.NumberText.{value_small}
 use Rattle.lu_test.specs.declared.matrix.Call.{Call}
 use Rattle.lu_test.specs.declared.matrix_fault.MatrixFaultKind.{MatrixFaultKind}
 use Rattle.lu_test.specs.declared.matrix_fault.MatrixFaultKind.TheVariants.{Byte, Form, UnknownOp, Arguments, Number, Limit}
 use Rattle.lu_test.specs.Matrix.{AreArguments, AreThreads, IsOf, IsCallOf, Matrix}
-use Rattle.lu_test.specs.Signatures.{OpSignature, signatures, takes}
+use Rattle.lu_test.specs.Signatures.{Signature, signatures, takes}
 use Rattle.lu_test.proofs.Signatures.{signature_at}
-use Rattle.lu_test.specs.MatrixText.{Drafted, HasRoom, IsDraft, nothing, is_nothing, matrix_of, named_operation, has_name, has_operation, has_arguments, has_values, argument_words, arguments_in, call_of, calls_said, calls_fault, is_full, with_thread, with_setup, calls_after, by_keyword, by_parts, parts_in, line_of, finished}
+use Rattle.lu_test.specs.MatrixText.{MatrixDraft, HasRoom, IsDraft, nothing, is_nothing, matrix_of, named_operation, has_name, has_operation, has_arguments, has_values, argument_words, arguments_in, call_of, calls_said, calls_fault, is_full, with_thread, with_setup, calls_after, by_keyword, by_parts, parts_in, line_of, finished}
 
 -- ---- a call
 
 -- a call that the words say, with its operation
-record Named (c : Declarations) (words : List Word) (call : Call) : Type 0 where
+record Named (c : Component) (words : List Word) (call : Call) : Type 0 where
   op : Op
   there : slice_get c.operations call.op ≡ Some op
   within : call.op < length c.operations
@@ -38,7 +38,7 @@ record Named (c : Declarations) (words : List Word) (call : Call) : Type 0 where
   same : call.args ≡ arguments_in (signatures c.operations) words
   arguments : op.args ≡ length (drop 1 words)
 
-named : (c : Declarations) (words : List Word) (call : Call) → has_arguments (signatures c.operations) words ≡ true → call_of (signatures c.operations) words ≡ Some call → Named c words call
+named : (c : Component) (words : List Word) (call : Call) → has_arguments (signatures c.operations) words ≡ true → call_of (signatures c.operations) words ≡ Some call → Named c words call
 named c words call count said = go (named_operation (signatures c.operations) words) refl count said
   where
     go : (o : Option ℕ) → named_operation (signatures c.operations) words ≡ o → option_map_or (λ s. takes s.arity (length (drop 1 words))) (option_and_then (slice_get (signatures c.operations)) o) false ≡ true
@@ -80,19 +80,19 @@ values_small (word ∷ words) = go (value_in word) refl (values_small words)
     go (Some n) e rest = let small = rw e at (value_small word) in rw e (small, rest)
 
 -- what is known of the words of a call, once they are tested
-record IsTested (c : Declarations) (words : List Word) : Type 0 where
+record IsTested (c : Component) (words : List Word) : Type 0 where
   count : has_arguments (signatures c.operations) words ≡ true
   values : has_values (signatures c.operations) words ≡ true
 
 -- its call is one of the component's
-call_fits : (c : Declarations) (words : List Word) (call : Call) → IsTested c words → call_of (signatures c.operations) words ≡ Some call → IsCallOf c call
+call_fits : (c : Component) (words : List Word) (call : Call) → IsTested c words → call_of (signatures c.operations) words ≡ Some call → IsCallOf c call
 call_fits c words call tested is =
     let n = named c words call tested.count is in
     let all = values_all (argument_words (signatures c.operations) words) tested.values in
     let many : length call.args ≡ n.op.args = ap length n.same ∙ (all ∙ (ap length n.all ∙ sym n.arguments)) in
     rw n.there many
 
-call_arguments : (c : Declarations) → IsComponent c → (words : List Word) (call : Call) → IsTested c words → call_of (signatures c.operations) words ≡ Some call → AreArguments call.args
+call_arguments : (c : Component) → IsComponent c → (words : List Word) (call : Call) → IsTested c words → call_of (signatures c.operations) words ≡ Some call → AreArguments call.args
 call_arguments c h words call tested is =
     let n = named c words call tested.count is in
     let all = values_all (argument_words (signatures c.operations) words) tested.values ∙ ap length n.all in
@@ -102,14 +102,14 @@ call_arguments c h words call tested is =
 
 -- ---- a line
 
-record IsSound (c : Declarations) (draft : Drafted) : Type 0 where
+record IsSound (c : Component) (draft : MatrixDraft) : Type 0 where
   limits : IsDraft draft
   fits : IsOf (matrix_of draft) c
 
-abbrev Keeps : (Drafted → Type 0) → Result Drafted MatrixFaultKind → Type 0
-Keeps P r = (next : Drafted) → r ≡ Ok next → P next
+abbrev Keeps : (MatrixDraft → Type 0) → Result MatrixDraft MatrixFaultKind → Type 0
+Keeps P r = (next : MatrixDraft) → r ≡ Ok next → P next
 
-each_call : (c : Declarations) (P : Call → Type 0) → ((words : List Word) (call : Call) → IsTested c words → call_of (signatures c.operations) words ≡ Some call → P call) → (calls : List (List Word)) → list_all (has_arguments (signatures c.operations)) calls ≡ true → list_all (has_values (signatures c.operations)) calls ≡ true → AllByRecursion P (calls_said (signatures c.operations) calls)
+each_call : (c : Component) (P : Call → Type 0) → ((words : List Word) (call : Call) → IsTested c words → call_of (signatures c.operations) words ≡ Some call → P call) → (calls : List (List Word)) → list_all (has_arguments (signatures c.operations)) calls ≡ true → list_all (has_values (signatures c.operations)) calls ≡ true → AllByRecursion P (calls_said (signatures c.operations) calls)
 each_call c P h [] count values = tt
 each_call c P h (words ∷ calls) count values =
     let p = and_parts (has_arguments (signatures c.operations) words) (list_all (has_arguments (signatures c.operations)) calls) count in
@@ -121,7 +121,7 @@ each_call c P h (words ∷ calls) count values =
     go (Some call) e tested rest = rw e (h words call tested e, rest)
 
 -- no more calls than parts
-calls_few : (signatures : List OpSignature) (calls : List (List Word)) → length (calls_said signatures calls) ≤ length calls
+calls_few : (signatures : List Signature) (calls : List (List Word)) → length (calls_said signatures calls) ≤ length calls
 calls_few signatures [] = omega arith
 calls_few signatures (words ∷ calls) = go (call_of signatures words) refl (calls_few signatures calls)
   where
@@ -133,14 +133,14 @@ count_more : (threads : List (List Call)) (calls : List Call) → sum_by length 
 count_more threads calls = rw (sum_by-append length threads (calls ∷ [])) (omega arith)
 
 -- a line without a fault: what its calls tell, and the draft with them
-record IsFree (c : Declarations) (calls : List (List Word)) (full : Bool) (draft next : Drafted) : Type 0 where
+record IsFree (c : Component) (calls : List (List Word)) (full : Bool) (draft next : MatrixDraft) : Type 0 where
   same : draft ≡ next
   room : full ≡ false
   few : length (calls_said (signatures c.operations) calls) ≤ length calls
   fits : All (IsCallOf c) (calls_said (signatures c.operations) calls)
   arguments : All (λ call. AreArguments call.args) (calls_said (signatures c.operations) calls)
 
-free : (c : Declarations) → IsComponent c → (calls : List (List Word)) (full : Bool) (draft next : Drafted) → or_else (calls_fault (signatures c.operations) calls full) draft ≡ Ok next → IsFree c calls full draft next
+free : (c : Component) → IsComponent c → (calls : List (List Word)) (full : Bool) (draft next : MatrixDraft) → or_else (calls_fault (signatures c.operations) calls full) draft ≡ Ok next → IsFree c calls full draft next
 free c is calls full draft next e =
     let x = said
     ((not (list_all has_name calls), Form)
@@ -159,7 +159,7 @@ free c is calls full draft next e =
       arguments = All-from_recursion (λ call. AreArguments call.args) _ (each_call c (λ call. AreArguments call.args) (call_arguments c is) calls count values);
     }
 
-thread_keeps : (c : Declarations) → IsComponent c → (draft : Drafted) → IsSound c draft → (calls : List (List Word)) → Keeps (IsSound c) (with_thread (signatures c.operations) draft calls)
+thread_keeps : (c : Component) → IsComponent c → (draft : MatrixDraft) → IsSound c draft → (calls : List (List Word)) → Keeps (IsSound c) (with_thread (signatures c.operations) draft calls)
 thread_keeps c is draft h calls next e =
     let threads = draft.threads in
     let more : List Call = calls_said (signatures c.operations) calls in
@@ -181,7 +181,7 @@ thread_keeps c is draft h calls next e =
       fits = (h.fits.0, All-last (λ calls. All (IsCallOf c) calls) threads more h.fits.1 x.fits);
     })
 
-setup_keeps : (c : Declarations) → IsComponent c → (draft : Drafted) → IsSound c draft → (calls : List (List Word)) → Keeps (IsSound c) (with_setup (signatures c.operations) draft calls)
+setup_keeps : (c : Component) → IsComponent c → (draft : MatrixDraft) → IsSound c draft → (calls : List (List Word)) → Keeps (IsSound c) (with_setup (signatures c.operations) draft calls)
 setup_keeps c is draft h calls next e =
     let x = free c is calls (nat_lt 8 (length calls)) (record draft { setup = Some (calls_said (signatures c.operations) calls) }) next e in
     let few = ltb-false 8 (length calls) x.room in
@@ -191,7 +191,7 @@ setup_keeps c is draft h calls next e =
     })
 
 -- with one more thread there is room still
-room_kept : (signatures : List OpSignature) (draft : Drafted) → HasRoom draft → (calls : List (List Word)) → Keeps HasRoom (with_thread signatures draft calls)
+room_kept : (signatures : List Signature) (draft : MatrixDraft) → HasRoom draft → (calls : List (List Word)) → Keeps HasRoom (with_thread signatures draft calls)
 room_kept signatures draft h calls next e =
     let threads = draft.threads in
     let more : List Call = calls_said signatures calls in
@@ -209,7 +209,7 @@ room_kept signatures draft h calls next e =
     let few : length more ≤ length calls = calls_few signatures calls in
     subst HasRoom x.same (omega (arith, all, few, count_more threads more))
 
-setup_room_kept : (signatures : List OpSignature) (draft : Drafted) → HasRoom draft → (calls : List (List Word)) → Keeps HasRoom (with_setup signatures draft calls)
+setup_room_kept : (signatures : List Signature) (draft : MatrixDraft) → HasRoom draft → (calls : List (List Word)) → Keeps HasRoom (with_setup signatures draft calls)
 setup_room_kept signatures draft h calls next e =
     let x = said
     ((not (list_all has_name calls), Form)
@@ -222,43 +222,43 @@ setup_room_kept signatures draft h calls next e =
 
 -- ---- what threads and setups keep, lines keep
 
-module _ (P : Drafted → Type 0) where
+module _ (P : MatrixDraft → Type 0) where
   refused : (kind : MatrixFaultKind) → Keeps P (Err kind)
   refused kind next e = absurd cc
 
-  unchanged : (draft : Drafted) → P draft → Keeps P (Ok draft)
+  unchanged : (draft : MatrixDraft) → P draft → Keeps P (Ok draft)
   unchanged draft h next e = let same : draft ≡ next = cc in subst P same h
 
-  keeps_if : (b : Bool) (x y : Result Drafted MatrixFaultKind) → Keeps P x → Keeps P y → Keeps P (cond b x y)
+  keeps_if : (b : Bool) (x y : Result MatrixDraft MatrixFaultKind) → Keeps P x → Keeps P y → Keeps P (cond b x y)
   keeps_if true x y p q = p
   keeps_if false x y p q = q
 
-module _ (P : Drafted → Type 0) (signatures : List OpSignature) (thread : (draft : Drafted) → P draft → (calls : List (List Word)) → Keeps P (with_thread signatures draft calls)) (setup : (draft : Drafted) → P draft → (calls : List (List Word)) → Keeps P (with_setup signatures draft calls)) where
-  keyword_keeps : (draft : Drafted) → P draft → (word : Word) (calls : List (List Word)) → Keeps P (by_keyword signatures draft word calls)
+module _ (P : MatrixDraft → Type 0) (signatures : List Signature) (thread : (draft : MatrixDraft) → P draft → (calls : List (List Word)) → Keeps P (with_thread signatures draft calls)) (setup : (draft : MatrixDraft) → P draft → (calls : List (List Word)) → Keeps P (with_setup signatures draft calls)) where
+  keyword_keeps : (draft : MatrixDraft) → P draft → (word : Word) (calls : List (List Word)) → Keeps P (by_keyword signatures draft word calls)
   keyword_keeps draft h word calls =
       keeps_if P (bytes_eq word (codes "thread")) (with_thread signatures draft calls) _ (thread draft h calls)
       (keeps_if P (bytes_eq word (codes "setup") && is_nothing draft) (with_setup signatures draft calls) (Err Form) (setup draft h calls) (refused P Form))
 
-  parts_keep : (draft : Drafted) → P draft → (parts : List (List Word)) → Keeps P (by_parts signatures draft parts)
+  parts_keep : (draft : MatrixDraft) → P draft → (parts : List (List Word)) → Keeps P (by_parts signatures draft parts)
   parts_keep draft h [] = unchanged P draft h
   parts_keep draft h ([] ∷ []) = unchanged P draft h
   parts_keep draft h ([] ∷ part ∷ parts) = refused P Form
   parts_keep draft h ((word ∷ words) ∷ parts) = keyword_keeps draft h word (calls_after words parts)
 
-  line_keeps : (draft : Drafted) → P draft → (line : List ℕ) → Keeps P (line_of signatures draft line)
+  line_keeps : (draft : MatrixDraft) → P draft → (line : List ℕ) → Keeps P (line_of signatures draft line)
   unfolding line_of
   line_keeps draft h line = keeps_if P (list_all is_allowed line) (by_parts signatures draft (parts_in line)) (Err Byte) (parts_keep draft h (parts_in line)) (refused P Byte)
 
 -- a line without a fault keeps the limits
-pub line_limits : (c : Declarations) → IsComponent c → (draft : Drafted) → IsDraft draft → IsOf (matrix_of draft) c → (line : List ℕ) (next : Drafted) → line_of (signatures c.operations) draft line ≡ Ok next → IsDraft next
+pub line_limits : (c : Component) → IsComponent c → (draft : MatrixDraft) → IsDraft draft → IsOf (matrix_of draft) c → (line : List ℕ) (next : MatrixDraft) → line_of (signatures c.operations) draft line ≡ Ok next → IsDraft next
 line_limits c is draft limits fits line next e = (line_keeps (IsSound c) (signatures c.operations) (thread_keeps c is) (setup_keeps c is) draft (record { limits = limits; fits = fits }) line next e).limits
 
 -- and its calls are the component's
-pub line_fits : (c : Declarations) → IsComponent c → (draft : Drafted) → IsDraft draft → IsOf (matrix_of draft) c → (line : List ℕ) (next : Drafted) → line_of (signatures c.operations) draft line ≡ Ok next → IsOf (matrix_of next) c
+pub line_fits : (c : Component) → IsComponent c → (draft : MatrixDraft) → IsDraft draft → IsOf (matrix_of draft) c → (line : List ℕ) (next : MatrixDraft) → line_of (signatures c.operations) draft line ≡ Ok next → IsOf (matrix_of next) c
 line_fits c is draft limits fits line next e = (line_keeps (IsSound c) (signatures c.operations) (thread_keeps c is) (setup_keeps c is) draft (record { limits = limits; fits = fits }) line next e).fits
 
 -- and there is room still
-pub line_room : (signatures : List OpSignature) (draft : Drafted) → HasRoom draft → (line : List ℕ) (next : Drafted) → line_of signatures draft line ≡ Ok next → HasRoom next
+pub line_room : (signatures : List Signature) (draft : MatrixDraft) → HasRoom draft → (line : List ℕ) (next : MatrixDraft) → line_of signatures draft line ≡ Ok next → HasRoom next
 line_room signatures draft h line next e = line_keeps HasRoom signatures (room_kept signatures) (setup_room_kept signatures) draft h line next e
 
 -- no line is read yet
@@ -271,11 +271,11 @@ nothing_limits = (
 pub nothing_room : HasRoom nothing
 nothing_room = omega arith
 
-pub nothing_fits : (c : Declarations) → IsOf (matrix_of nothing) c
+pub nothing_fits : (c : Component) → IsOf (matrix_of nothing) c
 nothing_fits c = (All-nil (IsCallOf c), All-nil (λ calls. All (IsCallOf c) calls))
 
 -- the calls of the finished matrix are the component's
-pub of_finished : (c : Declarations) (draft : Drafted) (r : Result Matrix MatrixFaultKind) (m : Matrix) → r ≡ finished draft → r ≡ Ok m → IsOf (matrix_of draft) c → IsOf m c
+pub of_finished : (c : Component) (draft : MatrixDraft) (r : Result Matrix MatrixFaultKind) (m : Matrix) → r ≡ finished draft → r ≡ Ok m → IsOf (matrix_of draft) c → IsOf m c
 of_finished c draft r m says is fits =
     let x = said ((length draft.threads == 0, Limit) ∷ []) (matrix_of draft) m (sym says ∙ is) in
     subst (λ (m : Matrix). IsOf m c) x.same fits

@@ -1,7 +1,7 @@
 -- Matrices: the calls of a setup, and for each thread the calls that it makes.
 use Rattle.std.specs.Prelude.{◌≡◌, ℕ, ◌<◌, ◌≤◌, ◌^◌, List, [], ◌∷◌, length, take, remove, slice_set, All, slice_get, sum_by, unwrap_or, IsSomeAnd}
 use Rattle.lu_component.specs.declared.component.Op.{Op}
-use Rattle.lu_component.specs.Component.{Declarations, IsComponent}
+use Rattle.lu_component.specs.Component.{Component, IsComponent}
 use Rattle.lu_test.specs.declared.matrix.Call.{Call}
 
 -- the calls that are made before the start, and those of each thread
@@ -51,16 +51,16 @@ IsCallAmong operations call =
     IsSomeAnd (slice_get operations call.op) (λ op. length call.args ≡ op.args)
 
 -- the component has the call's operation, with as many arguments
-abbrev pub IsCallOf : Declarations → Call → Type 0
+abbrev pub IsCallOf : Component → Call → Type 0
 IsCallOf c call = IsCallAmong c.operations call
 
 -- the component has the operation of each call, with as many arguments
-abbrev pub IsOf : Matrix → Declarations → Type 0
+abbrev pub IsOf : Matrix → Component → Type 0
 IsOf matrix c = All (IsCallOf c) matrix.setup × All (λ calls. All (IsCallOf c) calls) matrix.threads
 
 -- some component has the operation of each call, with as many arguments
 unfoldable pub IsOfSome : Matrix → Type 0
-IsOfSome matrix = (c : Declarations) × IsComponent c × IsOf matrix c
+IsOfSome matrix = (c : Component) × IsComponent c × IsOf matrix c
 
 -- A matrix of some component: the limits of the setup and of the threads hold, and there is a
 -- thread.

@@ -11,7 +11,7 @@ use Rattle.lu_test.specs.Schedule.{AreMoves}
 
 -- ---- the one spelling of a schedule
 
--- the thread, and behind a colon a pick that isn't 0
+-- the thread, and after a colon a pick that isn't 0
 abbrev pub move_text : Move → List ℕ
 move_text m = decimal m.thread ++ (if m.pick == 0 then [] else 58 ∷ decimal m.pick)
 

@@ -5,18 +5,18 @@ use Rattle.std.specs.Str.{bytes_eq}
 use Rattle.lu_component.specs.declared.component.Op.{Op}
 
 -- an operation's name, and how many arguments it takes, where that is known
-pub record OpSignature : Type 0 where
+pub record Signature : Type 0 where
   pub name : List ℕ
   pub arity : Option ℕ
 
-abbrev pub signature : Op → OpSignature
+abbrev pub signature : Op → Signature
 signature op = record { name = op.name; arity = Some op.args }
 
-abbrev pub signatures : List Op → List OpSignature
+abbrev pub signatures : List Op → List Signature
 signatures operations = map signature operations
 
 -- the place of the signature with this name
-abbrev pub signature_place : List OpSignature → List ℕ → Option ℕ
+abbrev pub signature_place : List Signature → List ℕ → Option ℕ
 signature_place signatures name = position (λ s. bytes_eq s.name name) signatures
 
 -- a call may have so many arguments: any number, where it is not known how many

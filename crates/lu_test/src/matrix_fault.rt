@@ -48,5 +48,5 @@ impl MatrixFaultKind {
     }
 }
 
-/// Why a text is no matrix: the first fault by line, or want of memory, which is shown as `memory`.
+/// Why a text is no matrix: the first fault by line, or refused memory, which is shown as `memory`.
 pub type MatrixFault = Fault<MatrixFaultKind>;

@@ -52,7 +52,7 @@ impl<'a> Part<'a> {
 }
 
 impl Part<'_> {
-    /// The words behind the first.
+    /// The words after the first.
     #[tactic(auto, using(crate::proofs::Parts::rest_texts))]
     fn arguments(&self) -> &[&[u8]]
         ensures { texts result.now ≡ drop 1 self.now }
@@ -206,21 +206,21 @@ fn calls_said(
 
 /// The lines of a matrix of which not all are read.
 #[derive(Debug, Drop)]
-pub struct Draft {
+pub struct MatrixDraft {
     /// Of the setup line, where there was one.
     pub setup: Option<Calls>,
     pub threads: Vec<Calls>,
 }
 
-impl Model for Draft {
-    ghost use Rattle.lu_test.specs.MatrixText.{Drafted};
+impl Model for MatrixDraft {
+    ghost use Rattle.lu_test.specs.MatrixText.{MatrixDraft as AMatrixDraft};
 
-    ghost Value = { Drafted };
+    ghost Value = { AMatrixDraft };
 
     ghost view = { λ d. record { setup = d.setup; threads = d.threads.items } };
 }
 
-impl Draft {
+impl MatrixDraft {
     /// Whether no line with words is read.
     pub(crate) fn is_nothing(&self) -> bool
         ensures { result ≡ spec.is_nothing self.now }
@@ -269,7 +269,7 @@ fn calls_fault(
     }
 }
 
-/// The parts behind the first word: none, or the words of the first and the other parts of the
+/// The parts after the first word: none, or the words of the first and the other parts of the
 /// line.
 fn call_parts<'a>(
     alloc: Global,
@@ -291,7 +291,7 @@ fn call_parts<'a>(
     Ok(calls)
 }
 
-impl Draft {
+impl MatrixDraft {
     /// One more thread with these calls.
     fn take_thread(
         &mut self,
@@ -407,7 +407,7 @@ impl Draft {
 }
 
 /// What is wrong at the end of the text.
-pub fn end_fault(draft: &Draft) -> Option<MatrixFaultKind>
+pub fn end_fault(draft: &MatrixDraft) -> Option<MatrixFaultKind>
     ensures { result ≡ fault_in (spec.finished draft.now) }
 {
     if draft.threads.is_empty() {
@@ -428,7 +428,7 @@ fn setup_of(alloc: Global, setup: Option<Calls>) -> Calls
 }
 
 /// The matrix at the end of the text, or what is wrong there.
-fn finish(alloc: Global, draft: Draft) -> Result<Matrix, MatrixFaultKind>
+fn finish(alloc: Global, draft: MatrixDraft) -> Result<Matrix, MatrixFaultKind>
     requires limits { IsDraft draft }
     requires of_some { IsOfSome (spec.matrix_of draft) }
     ensures { result ≡ spec.finished draft }
@@ -452,7 +452,7 @@ fn read_lines(
     ensures exact { Gives result (spec.matrix_said component.now (texts lines.now)) }
     ensures of { IfOk result (λ matrix. IsOf matrix component.now) }
 {
-    let mut draft = Draft {
+    let mut draft = MatrixDraft {
         setup: None,
         threads: Vec::new(alloc),
     };

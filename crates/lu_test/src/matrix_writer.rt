@@ -50,7 +50,7 @@ pub fn write_call(text: &mut String, operations: &[Op], call: &Call) -> Result<(
     put_arguments(text, call.args.as_slice())
 }
 
-/// Adds a call behind `;`.
+/// Adds a call after `;`.
 fn put_other(text: &mut String, operations: &[Op], call: &Call) -> Result<(), AllocError>
     ensures { Writes result text.old text.new (spec.other_text operations.now call.now) }
 {

@@ -11,7 +11,7 @@ use thiserror::Error;
 #[derive(Clone, Copy, Debug, Drop, PartialEq, Eq, Error)]
 #[error("{}", self.code())]
 pub enum ScheduleFault {
-    /// `C1`: the text is not `schedule` and words, each behind one space, in one line with its LF.
+    /// `C1`: the text is not `schedule` and words, each after one space, in one line with its LF.
     Form,
 
     /// `C2`: a word is no move: neither a number nor two numbers with a colon between them, or its

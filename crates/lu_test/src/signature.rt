@@ -22,9 +22,9 @@ pub struct Signature<'a> {
 }
 
 impl<'a> Model for Signature<'a> {
-    ghost use Rattle.lu_test.specs.Signatures.{OpSignature};
+    ghost use Rattle.lu_test.specs.Signatures.{Signature as ASignature};
 
-    ghost Value = { OpSignature };
+    ghost Value = { ASignature };
 
     ghost view = { λ s. record { name = s.name.now; arity = s.arity } };
 }

@@ -2,7 +2,7 @@
 use Rattle.std.proofs.Common.{◌≡◌, ℕ, zero, suc, ◌+◌, ◌-◌, ◌<◌, ◌≤◌, Bool, true, false, MatchBool, List, [], ◌∷◌, ◌++◌, length, take, get_or, slice_get, Option, Some, None, refl, sym, ◌∙◌, ap, subst, arith}
 use Rattle.std.proofs.lemmas.List.{append_assoc, append-nil, length-take, take_all, take_more}
 use Rattle.std.proofs.lemmas.Option.{get_or_from_slice_get, slice_get-get_or, slice_get_within}
-use Rattle.lu_component.specs.Component.{Declarations}
+use Rattle.lu_component.specs.Component.{Component}
 use Rattle.lu_test.specs.declared.schedule.Move.{Move}
 use Rattle.lu_test.specs.Matrix.{Matrix}
 use Rattle.lu_machine.specs.declared.event.Event.{Event}
@@ -59,7 +59,7 @@ no_more how (suc n) s t old h = ([], rw h (refl, refl), sym (append-nil old))
 local_on : (how : Wording) (n : ℕ) (s : State) (t : ℕ) (next end : State) (rest lines : List ℕ) → is_at_local s t ≡ true → OneStep s (record { thread = t; pick = 0 }) next None → LocalLines how n next t end rest → lines ≡ step_line how None s (record { thread = t; pick = 0 }) ++ rest → LocalLines how (suc n) s t end lines
 local_on how n s t next end rest lines h step more is = rw h (next, rest, step, more, is)
 
--- a local instruction and its line, and those behind it
+-- a local instruction and its line, and those after it
 pub once_more : (how : Wording) (most : ℕ) (s : State) (t : ℕ) (next end : State) (event : Option Event) (old mid new : List ℕ) → 0 < most → is_at_local s t ≡ true → OneStep s (record { thread = t; pick = 0 }) next event → mid ≡ old ++ step_line how None s (record { thread = t; pick = 0 }) → AddsLines (LocalLines how (most - 1) next t end) mid new → AddsLines (LocalLines how most s t end) old new
 once_more how zero s t next end event old mid new some h step is adds = absurd (omega (arith, some))
 once_more how (suc n) s t next end event old mid new some h step is adds =
@@ -71,7 +71,7 @@ once_more how (suc n) s t next end event old mid new some h step is adds =
     let rest : LocalLines how n next t end adds.0 = subst (λ k. LocalLines how k next t end adds.0) less adds.1 in
     (step_line how None s m ++ adds.0, local_on how n s t next end adds.0 (step_line how None s m ++ adds.0) h silent rest refl, adds.2 ∙ (ap (λ x. x ++ adds.0) is ∙ append_assoc old (step_line how None s m) adds.0))
 
--- a move's first step and its line, and those behind it
+-- a move's first step and its line, and those after it
 pub move_more : (how : Wording) (number : ℕ) (s : State) (m : Move) (mid end : State) (event : Option Event) (old text new : List ℕ) (more : ℕ) → OneStep s m mid event → more ≡ more_local s m.thread → text ≡ old ++ step_line how (Some number) s m → AddsLines (LocalLines how more mid m.thread end) text new → AddsLines (MoveLines how number s m end) old new
 move_more how number s m mid end event old text new more step count is adds =
     let rest : LocalLines how (more_local s m.thread) mid m.thread end adds.0 = subst (λ k. LocalLines how k mid m.thread end adds.0) count adds.1 in
@@ -106,13 +106,13 @@ traced_more how start u many now old m new text traced below read adds =
     record { lines_are = rw (more, adds.2) on }
 
 -- what is traced to the end
-pub traced_all : (how : Wording) (c : Declarations) (matrix : Matrix) (start : State) (u v : List Move) (many : ℕ) (end : State) (lines : List ℕ) (status : Status) (text : List ℕ) → IsStart c matrix start → u ≡ v → length u ≤ many → IsTraced how start u many end lines → HasStatus end status → text ≡ status_line status ++ lines ++ all_waits how end → IsWordedTrace how c matrix v text
+pub traced_all : (how : Wording) (c : Component) (matrix : Matrix) (start : State) (u v : List Move) (many : ℕ) (end : State) (lines : List ℕ) (status : Status) (text : List ℕ) → IsStart c matrix start → u ≡ v → length u ≤ many → IsTraced how start u many end lines → HasStatus end status → text ≡ status_line status ++ lines ++ all_waits how end → IsWordedTrace how c matrix v text
 traced_all how c matrix start u v many end lines status text is same all traced stands whole =
     let moves : take many u ≡ v = take_all many u all ∙ same in
     (start, end, status, lines, is, rw (← moves) traced.lines_are, stands, whole)
 
 -- what is traced to a move that is not feasible
-pub traced_to : (how : Wording) (c : Declarations) (matrix : Matrix) (start : State) (u v : List Move) (many : ℕ) (now : State) (lines : List ℕ) (m d : Move) → IsStart c matrix start → u ≡ v → many < length u → m ≡ get_or u many d → IsTraced how start u many now lines → (IsFeasible now m → ⊥) → IsInfeasibleAt c matrix v many
+pub traced_to : (how : Wording) (c : Component) (matrix : Matrix) (start : State) (u v : List Move) (many : ℕ) (now : State) (lines : List ℕ) (m d : Move) → IsStart c matrix start → u ≡ v → many < length u → m ≡ get_or u many d → IsTraced how start u many now lines → (IsFeasible now m → ⊥) → IsInfeasibleAt c matrix v many
 traced_to how c matrix start u v many now lines m d is same below read traced infeasible =
     let at : slice_get v many ≡ Some m = rw (← same) (slice_get-get_or u many d below ∙ ap (λ (n : Move). Some n) (sym read)) in
     let lead = lines_lead how 0 start (take many u) now lines traced.lines_are in
@@ -146,12 +146,12 @@ lines_same how number s (m ∷ u) a b k l p q =
 
 -- ---- laws
 
-pub trace_leads : (how : Wording) (c : Declarations) (matrix : Matrix) (u : List Move) (text : List ℕ) → IsWordedTrace how c matrix u text → (end : State) × (history : List Event) × Plays c matrix u end history
+pub trace_leads : (how : Wording) (c : Component) (matrix : Matrix) (u : List Move) (text : List ℕ) → IsWordedTrace how c matrix u text → (end : State) × (history : List Event) × Plays c matrix u end history
 trace_leads how c matrix u text p =
     let lead = lines_lead how 0 p.0 u p.1 p.3 p.5 in
     (p.1, lead.0, (p.0, p.4, lead.1))
 
-pub one_trace : (how : Wording) (c : Declarations) (matrix : Matrix) (u : List Move) (text other : List ℕ) → IsWordedTrace how c matrix u text → IsWordedTrace how c matrix u other → text ≡ other
+pub one_trace : (how : Wording) (c : Component) (matrix : Matrix) (u : List Move) (text other : List ℕ) → IsWordedTrace how c matrix u text → IsWordedTrace how c matrix u other → text ≡ other
 one_trace how c matrix u text other p q =
     let start : q.0 ≡ p.0 = start_same c matrix q.0 p.0 q.4 p.4 in
     let lines = lines_same how 0 p.0 u p.1 q.1 p.3 q.3 p.5 (subst (λ (s : State). TraceLines how 0 s u q.1 q.3) start q.5) in
@@ -160,7 +160,7 @@ one_trace how c matrix u text other p q =
     ∙ (ap (λ x. status_line q.2 ++ x ++ all_waits how p.1) lines.1
     ∙ (ap (λ (x : State). status_line q.2 ++ q.3 ++ all_waits how x) lines.0 ∙ sym q.7)))
 
-pub trace_or_fault : (how : Wording) (c : Declarations) (matrix : Matrix) (u : List Move) (text : List ℕ) (i : ℕ) → IsWordedTrace how c matrix u text → IsInfeasibleAt c matrix u i → ⊥
+pub trace_or_fault : (how : Wording) (c : Component) (matrix : Matrix) (u : List Move) (text : List ℕ) (i : ℕ) → IsWordedTrace how c matrix u text → IsInfeasibleAt c matrix u i → ⊥
 trace_or_fault how c matrix u text i p q =
     let lead = lines_lead how 0 p.0 u p.1 p.3 p.5 in
     let start : q.3.0 ≡ p.0 = start_same c matrix q.3.0 p.0 q.3.1 p.4 in

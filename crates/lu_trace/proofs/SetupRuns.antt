@@ -6,7 +6,7 @@ use Rattle.std.proofs.lemmas.List.{append_assoc, append-nil}
 use Rattle.std.proofs.lemmas.List.Elements.{All-nil}
 use Rattle.std.proofs.lemmas.Option.{same_Some, slice_get-map, slice_get_within}
 use Rattle.lu_text.proofs.Written.{All-one}
-use Rattle.lu_component.specs.Component.{Declarations}
+use Rattle.lu_component.specs.Component.{Component}
 use Rattle.lu_test.specs.declared.matrix.Call.{Call}
 use Rattle.lu_test.specs.declared.schedule.Move.{Move}
 use Rattle.lu_test.specs.Matrix.{IsCallOf, IsMatrix, Matrix, alone, calls_of}
@@ -79,16 +79,16 @@ leads_steps how zero s end history few h = stays how s end (17 * zero) h.0
 leads_steps how (suc n) s end history few h =
     let one = step_steps how s h.0 h.1 few h.3 in
     let same = (step_moved s first_move h.0 h.1 h.3).component in
-    let rest = leads_steps how n h.0 end h.2 (subst (λ (c : Declarations). c.local ≤ 16) (sym same) few) h.4 in
+    let rest = leads_steps how n h.0 end h.2 (subst (λ (c : Component). c.local ≤ 16) (sym same) few) h.4 in
     join how one.steps s h.0 end one.lines 17 (17 * n) (17 * suc n) one.lines_are one.few (omega arith) rest
 
-calls_steps : (how : Wording) (c : Declarations) (calls : List Call) (k : ℕ) (end : State) → c.local ≤ 16 → MakesAll c calls k end → Stepped how (empty_state c (alone calls)) end (4369 * k)
+calls_steps : (how : Wording) (c : Component) (calls : List Call) (k : ℕ) (end : State) → c.local ≤ 16 → MakesAll c calls k end → Stepped how (empty_state c (alone calls)) end (4369 * k)
 calls_steps how c calls zero end few all = stays how (empty_state c (alone calls)) end (4369 * zero) all
 calls_steps how c calls (suc k) end few all =
     let first = calls_steps how c calls k all.0 few all.1 in
     let same = (after c calls k all.0 all.1).component in
     let moves = all.2.few in
-    let here : all.0.component.local ≤ 16 = subst (λ (d : Declarations). d.local ≤ 16) (sym same) few in
+    let here : all.0.component.local ≤ 16 = subst (λ (d : Component). d.local ≤ 16) (sym same) few in
     let last = leads_steps how (suc all.2.moves) all.0 end all.2.history here all.2.leads in
     join how first.steps (empty_state c (alone calls)) all.0 end first.lines (4369 * k) (17 * suc all.2.moves) (4369 * suc k) first.lines_are first.few (omega (arith, moves)) last
 
@@ -100,7 +100,7 @@ none_left s done Idle new event closed h = slice_get_within (calls_of s.matrix 0
 none_left s done (Open f) new event closed h = absurd cc
 
 -- where all calls are made thread 0 has no step
-pub ended : (c : Declarations) (calls : List Call) (end : State) → MakesAll c calls (length calls) end → IsFeasible end first_move → ⊥
+pub ended : (c : Component) (calls : List Call) (end : State) → MakesAll c calls (length calls) end → IsFeasible end first_move → ⊥
 ended c calls end made f =
     let is = after c calls (length calls) end made in
     let one = feasible_one end first_move f in
@@ -127,12 +127,12 @@ same_run how (suc n) (suc m) s a b k l p q over far =
     let rest = same_run how n m p.0 a b p.2 q.2 p.4 on over (λ less. far (omega (arith, less))) in
     (rest.0, p.5 ∙ (ap (λ x. setup_line how s ++ x) rest.1 ∙ sym q.5))
 
--- no thread's calls behind those of this setup
+-- no thread's calls after those of this setup
 alone_after : List Call → Matrix
 alone_after calls = record { setup = calls; threads = [] }
 
 -- the lines up to 34,952, or to where no step is left, are those of the setup
-pub setup_lines : (how : Wording) (c : Declarations) (calls : List Call) (s now : State) (lines : List ℕ) → c.local ≤ 16 → length calls ≤ 8 → AllEnd c calls → s ≡ empty_state c (alone calls) → LinesUpTo how 34952 s now lines → AreSetupLines how c calls lines
+pub setup_lines : (how : Wording) (c : Component) (calls : List Call) (s now : State) (lines : List ℕ) → c.local ≤ 16 → length calls ≤ 8 → AllEnd c calls → s ≡ empty_state c (alone calls) → LinesUpTo how 34952 s now lines → AreSetupLines how c calls lines
 setup_lines how c calls s now lines few short settles is h =
     let start = (start_there c (alone_after calls) settles).1 in
     let all = calls_steps how c calls (length calls) start.end few start.made in
@@ -165,14 +165,14 @@ one_line_more how n s now new event old text next h step is =
 pub up_to : (how : Wording) (most n : ℕ) (s now : State) (old text : List ℕ) → (n < most → IsFeasible now first_move → ⊥) → AddsLines (SetupLines how n s now) old text → AddsLines (LinesUpTo how most s now) old text
 up_to how most n s now old text far h = (h.0, (n, h.1, far), h.2)
 
-pub setup_added : (how : Wording) (c : Declarations) (calls : List Call) (s now : State) (old text : List ℕ) → c.local ≤ 16 → length calls ≤ 8 → AllEnd c calls → s ≡ empty_state c (alone calls) → AddsLines (LinesUpTo how 34952 s now) old text → AddsLines (AreSetupLines how c calls) old text
+pub setup_added : (how : Wording) (c : Component) (calls : List Call) (s now : State) (old text : List ℕ) → c.local ≤ 16 → length calls ≤ 8 → AllEnd c calls → s ≡ empty_state c (alone calls) → AddsLines (LinesUpTo how 34952 s now) old text → AddsLines (AreSetupLines how c calls) old text
 setup_added how c calls s now old text few short settles is h =
     (h.0, setup_lines how c calls s now h.0 few short settles is h.1, h.2)
 
 -- ---- the start of the setup
 
 -- the matrix of the setup's calls can run
-pub alone_runs : (c : Declarations) (matrix other : Matrix) → other ≡ alone matrix.setup → CanRun c matrix → CanRun c other
+pub alone_runs : (c : Component) (matrix other : Matrix) → other ≡ alone matrix.setup → CanRun c matrix → CanRun c other
 alone_runs c matrix other is h =
     let here : CanRun c (alone matrix.setup) = record {
       of = (All-nil (IsCallOf c), All-one (λ calls. All (IsCallOf c) calls) matrix.setup h.of.0);
@@ -186,23 +186,23 @@ alone_short calls m is h =
     let each : All (λ (x : List Call). length x ≤ 8) (calls ∷ []) = subst (λ (x : Matrix). All (λ (y : List Call). length y ≤ 8) x.threads) is h.limits.each in
     each 0 calls (omega arith)
 
-starts_empty : (c : Declarations) (calls : List Call) (s : State) → IsStart c (alone calls) s → s ≡ empty_state c (alone calls)
+starts_empty : (c : Component) (calls : List Call) (s : State) → IsStart c (alone calls) s → s ≡ empty_state c (alone calls)
 starts_empty c calls s is =
     is.is ∙ ap (λ (x : State). empty_on c calls x) is.made
   where
-    empty_on : Declarations → List Call → State → State
+    empty_on : Component → List Call → State → State
     empty_on c calls x = record (empty_state c (alone calls)) { cells = x.cells; locks = x.locks }
 
-pub alone_starts : (c : Declarations) (calls : List Call) (m : Matrix) (s : State) → m ≡ alone calls → IsStart c m s → s ≡ empty_state c (alone calls)
+pub alone_starts : (c : Component) (calls : List Call) (m : Matrix) (s : State) → m ≡ alone calls → IsStart c m s → s ≡ empty_state c (alone calls)
 alone_starts c calls m s is start = starts_empty c calls s (subst (λ (x : Matrix). IsStart c x s) is start)
 
 -- ---- one trace
 
-pub one_setup : (how : Wording) (c : Declarations) (calls : List Call) (a b : List ℕ) → AreSetupLines how c calls a → AreSetupLines how c calls b → a ≡ b
+pub one_setup : (how : Wording) (c : Component) (calls : List Call) (a b : List ℕ) → AreSetupLines how c calls a → AreSetupLines how c calls b → a ≡ b
 one_setup how c calls a b p q =
     (same_run how p.steps q.steps (empty_state c (alone calls)) p.end q.end a b p.lines_are q.lines_are (ended c calls q.end q.made) (λ _. ended c calls p.end p.made)).1
 
-pub one_trace_from_setup : (how : Wording) (c : Declarations) (matrix : Matrix) (u : List Move) (text other : List ℕ) → IsWordedTraceFromSetup how c matrix u text → IsWordedTraceFromSetup how c matrix u other → text ≡ other
+pub one_trace_from_setup : (how : Wording) (c : Component) (matrix : Matrix) (u : List Move) (text other : List ℕ) → IsWordedTraceFromSetup how c matrix u text → IsWordedTraceFromSetup how c matrix u other → text ≡ other
 one_trace_from_setup how c matrix u text other p q =
     let lines = one_setup how c matrix.setup p.0 q.0 p.3 q.3 in
     let start = start_same c matrix p.1 q.1 p.4 q.4 in

@@ -5,16 +5,16 @@ use Rattle.std.specs.Fmt.{decimal}
 use Rattle.lu_component.specs.declared.instr.Instr.{Instr}
 use Rattle.lu_component.specs.declared.instr.Instr.TheVariants.{Set, Compute, Load, Store, Cas, Lock, Unlock, Await, AwaitNot, Pick, Jump, JumpIfZero, Return}
 use Rattle.lu_component.specs.declared.instr.Operand.{Operand}
-use Rattle.lu_component.specs.Component.{Declarations}
+use Rattle.lu_component.specs.Component.{Component}
 use Rattle.lu_lang.specs.ComponentText.{array_word, lock_word}
 use Rattle.lu_test.specs.declared.schedule.Move.{Move}
 use Rattle.lu_machine.specs.declared.thread.Frame.{Frame}
 use Rattle.lu_machine.specs.Effects.{value_of, computed}
 use Rattle.lu_machine.specs.States.{State, cell_at, value_at, owner_of}
 use Rattle.lu_machine.specs.Steps.{owns}
-use Rattle.lu_trace.specs.declared.deeds.Cell.{Cell}
-use Rattle.lu_trace.specs.declared.deeds.Read.{Read}
-use Rattle.lu_trace.specs.declared.deeds.Swap.{Swap}
+use Rattle.lu_trace.specs.declared.effects.Cell.{Cell}
+use Rattle.lu_trace.specs.declared.effects.Read.{Read}
+use Rattle.lu_trace.specs.declared.effects.Swap.{Swap}
 use Rattle.lu_trace.specs.declared.wording.Wording.{Wording}
 use Rattle.lu_trace.specs.Wordings.{goes_on_at, is_indexed, register_becomes, register_name}
 
@@ -25,28 +25,28 @@ abbrev pub index_word : Bool → ℕ → List ℕ
 index_word indexed i = if indexed then codes "[" ++ decimal i ++ codes "]" else []
 
 -- `count[0]`, or `count`
-abbrev pub cell_word : Wording → Declarations → Cell → List ℕ
+abbrev pub cell_word : Wording → Component → Cell → List ℕ
 cell_word how c cell = array_word c cell.array ++ index_word (is_indexed how cell.array) cell.index
 
 -- a cell, what is said of it, and a value
-abbrev pub of_cell : Wording → Declarations → Cell → List ℕ → ℕ → List ℕ
+abbrev pub of_cell : Wording → Component → Cell → List ℕ → ℕ → List ℕ
 of_cell how c cell said n = cell_word how c cell ++ said ++ decimal n
 
 -- `count[0] = 5`: the cell becomes 5
-abbrev pub cell_becomes : Wording → Declarations → Cell → ℕ → List ℕ
+abbrev pub cell_becomes : Wording → Component → Cell → ℕ → List ℕ
 cell_becomes how c cell n = of_cell how c cell (codes " = ") n
 
 -- `count[0] is 5`
-abbrev pub cell_is : Wording → Declarations → Cell → ℕ → List ℕ
+abbrev pub cell_is : Wording → Component → Cell → ℕ → List ℕ
 cell_is how c cell n = of_cell how c cell (codes " is ") n
 
 -- `count[0] is not 5`
-abbrev pub cell_is_not : Wording → Declarations → Cell → ℕ → List ℕ
+abbrev pub cell_is_not : Wording → Component → Cell → ℕ → List ℕ
 cell_is_not how c cell n = of_cell how c cell (codes " is not ") n
 
 -- `, r1 = 5`, where the register has a name
-abbrev pub register_behind : Wording → Frame → ℕ → ℕ → List ℕ
-register_behind how f r n =
+abbrev pub register_after : Wording → Frame → ℕ → ℕ → List ℕ
+register_after how f r n =
     if is_some (register_name how f r) then codes ", " ++ register_becomes how f r n else []
 
 abbrev pub trap : List ℕ
@@ -68,7 +68,7 @@ or_trap said None = trap
 or_trap said (Some n) = said n
 
 -- the register becomes what the cell is; where it has no name, what the cell is
-abbrev pub loaded : Wording → Declarations → Frame → Read → ℕ → List ℕ
+abbrev pub loaded : Wording → Component → Frame → Read → ℕ → List ℕ
 loaded how c f read n =
     if is_some (register_name how f read.to) then register_becomes how f read.to n
     else cell_is how c read.cell n
@@ -83,11 +83,11 @@ swap_of f to w i expected desired = record {
 }
 
 -- where the values are equal the cell becomes `desired` and the register 1, else the register 0
-abbrev pub swapped : Wording → Declarations → Frame → Swap → ℕ → List ℕ
+abbrev pub swapped : Wording → Component → Frame → Swap → ℕ → List ℕ
 swapped how c f swap n =
     if n == swap.expected
-    then cell_becomes how c swap.cell swap.desired ++ register_behind how f swap.to 1
-    else cell_is how c swap.cell n ++ register_behind how f swap.to 0
+    then cell_becomes how c swap.cell swap.desired ++ register_after how f swap.to 1
+    else cell_is how c swap.cell n ++ register_after how f swap.to 0
 
 -- what the cell is
 abbrev pub looked : Wording → State → Frame → ℕ → Operand → List ℕ
@@ -138,11 +138,11 @@ awaited_lock s l =
     codes "waits for lock " ++ lock_word s.component l ++ owned_by (owner_of s l)
 
 -- the value that the cell has to become, and the one that it has
-abbrev pub awaited_is : Wording → Declarations → Cell → ℕ → Option ℕ → List ℕ
+abbrev pub awaited_is : Wording → Component → Cell → ℕ → Option ℕ → List ℕ
 awaited_is how c cell n now = codes "waits until " ++ cell_is how c cell n ++ present now
 
 -- the value that the cell has to lose
-abbrev pub awaited_is_not : Wording → Declarations → Cell → ℕ → List ℕ
+abbrev pub awaited_is_not : Wording → Component → Cell → ℕ → List ℕ
 awaited_is_not how c cell n = codes "waits until " ++ cell_is_not how c cell n
 
 -- What a blocked instruction of the operation f waits for, in the state s.

@@ -1,6 +1,6 @@
 -- Laws of traces.
 use Rattle.std.specs.Prelude.{◌≡◌, ℕ, List}
-use Rattle.lu_component.specs.Component.{Declarations}
+use Rattle.lu_component.specs.Component.{Component}
 use Rattle.lu_test.specs.declared.schedule.Move.{Move}
 use Rattle.lu_test.specs.Matrix.{Matrix}
 use Rattle.lu_machine.specs.declared.event.Event.{Event}
@@ -12,25 +12,25 @@ use Rattle.lu_trace.specs.Setups.{IsWordedTraceFromSetup}
 -- a schedule with a trace leads somewhere from the start
 abbrev pub TraceLeads : Type 0
 TraceLeads =
-    (how : Wording) (c : Declarations) (matrix : Matrix) (u : List Move) (text : List ℕ) →
+    (how : Wording) (c : Component) (matrix : Matrix) (u : List Move) (text : List ℕ) →
     IsWordedTrace how c matrix u text →
     (end : State) × (history : List Event) × Plays c matrix u end history
 
 -- a schedule has one trace in the same words
 abbrev pub OneTrace : Type 0
 OneTrace =
-    (how : Wording) (c : Declarations) (matrix : Matrix) (u : List Move) (text other : List ℕ) →
+    (how : Wording) (c : Component) (matrix : Matrix) (u : List Move) (text other : List ℕ) →
     IsWordedTrace how c matrix u text → IsWordedTrace how c matrix u other → text ≡ other
 
 -- a schedule that has a trace is infeasible nowhere
 abbrev pub TraceOrFault : Type 0
 TraceOrFault =
-    (how : Wording) (c : Declarations) (matrix : Matrix) (u : List Move) (text : List ℕ) (i : ℕ) →
+    (how : Wording) (c : Component) (matrix : Matrix) (u : List Move) (text : List ℕ) (i : ℕ) →
     IsWordedTrace how c matrix u text → IsInfeasibleAt c matrix u i → ⊥
 
 -- and one from the setup on
 abbrev pub OneTraceFromSetup : Type 0
 OneTraceFromSetup =
-    (how : Wording) (c : Declarations) (matrix : Matrix) (u : List Move) (text other : List ℕ) →
+    (how : Wording) (c : Component) (matrix : Matrix) (u : List Move) (text other : List ℕ) →
     IsWordedTraceFromSetup how c matrix u text → IsWordedTraceFromSetup how c matrix u other →
     text ≡ other

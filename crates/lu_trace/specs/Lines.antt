@@ -6,7 +6,7 @@ use Rattle.std.specs.Fmt.{decimal}
 use Rattle.lu_component.specs.declared.instr.Instr.{Instr}
 use Rattle.lu_component.specs.declared.instr.Instr.TheVariants.{Jump, JumpIfZero}
 use Rattle.lu_component.specs.Operands.{operand_word}
-use Rattle.lu_component.specs.Component.{Declarations}
+use Rattle.lu_component.specs.Component.{Component as AComponent}
 use Rattle.lu_lang.specs.declared.keyword.Keyword.TheVariants as keyword
 use Rattle.lu_lang.specs.Words.{keyword_word}
 use Rattle.lu_lang.specs.ComponentText.{instr_words, label_text, leads_to}
@@ -63,11 +63,11 @@ line number t words = line_head number t ++ words ++ codes "\n"
 -- ---- steps
 
 -- the code of an operation
-abbrev pub code_of_operation : Declarations → ℕ → List Instr
+abbrev pub code_of_operation : AComponent → ℕ → List Instr
 code_of_operation c op = option_map_or (λ o. o.code) (slice_get c.operations op) []
 
 -- the instruction at the operation's place as the component's text has it, and what begins a remark
-abbrev pub component_line : Declarations → Frame → Instr → List ℕ
+abbrev pub component_line : AComponent → Frame → Instr → List ℕ
 component_line c f instr =
     label_text (code_of_operation c f.op) f.place ++ join_with_byte 32 (instr_words c instr)
     ++ codes "  # "
@@ -78,7 +78,7 @@ named_label labels op code place =
     if list_any (leads_to place) code then place_word labels op place ++ codes ": " else []
 
 -- the words of an instruction of operation `op`: a jump names the label to which it leads
-abbrev pub labelled_words : List (List (Option (List ℕ))) → Declarations → ℕ → Instr
+abbrev pub labelled_words : List (List (Option (List ℕ))) → AComponent → ℕ → Instr
     → List (List ℕ)
 labelled_words labels c op (Jump target) =
     keyword_word keyword.Jump ∷ place_word labels op target ∷ []
@@ -87,25 +87,25 @@ labelled_words labels c op (JumpIfZero v target) =
 labelled_words labels c op i = instr_words c i
 
 -- one space between them
-abbrev pub labelled_instr : List (List (Option (List ℕ))) → Declarations → ℕ → Instr → List ℕ
+abbrev pub labelled_instr : List (List (Option (List ℕ))) → AComponent → ℕ → Instr → List ℕ
 labelled_instr labels c op i = join_with_byte 32 (labelled_words labels c op i)
 
 -- the instruction at the operation's place with the labels that the component's text has, and what
 -- begins a remark
-abbrev pub labelled_line : List (List (Option (List ℕ))) → Declarations → Frame → Instr → List ℕ
+abbrev pub labelled_line : List (List (Option (List ℕ))) → AComponent → Frame → Instr → List ℕ
 labelled_line labels c f instr =
     named_label labels f.op (code_of_operation c f.op) f.place
     ++ labelled_instr labels c f.op instr ++ codes "  # "
 
 -- what the instruction at the operation's place is told by, and what begins a remark
-abbrev pub told_by : Wording → Declarations → Frame → Instr → List ℕ
+abbrev pub told_by : Wording → AComponent → Frame → Instr → List ℕ
 told_by Component c f instr = component_line c f instr
 told_by (Labelled labels) c f instr = labelled_line labels.now c f instr
 told_by (Source lines origins) c f instr =
     source_line lines.now origins.now f
 
 -- a call as a matrix has it
-abbrev pub call_words : Declarations → Call → List ℕ
+abbrev pub call_words : AComponent → Call → List ℕ
 call_words c call = codes "call " ++ call_text c.operations call
 
 -- the next call of thread t, which has made so many

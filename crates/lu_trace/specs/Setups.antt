@@ -2,7 +2,7 @@
 use Rattle.std.specs.Prelude.{◌≡◌, ℕ, zero, suc, ◌<◌, ◌++◌, List, [], ◌∷◌, length, codes, Option, Some, None, slice_get, Result, String, string_bytes}
 use Rattle.std.specs.Option.{option_map_or}
 use Rattle.std.specs.Fmt.{decimal}
-use Rattle.lu_component.specs.Component.{Declarations}
+use Rattle.lu_component.specs.Component.{Component as AComponent}
 use Rattle.lu_lang.specs.ComponentText.{array_word, lock_word}
 use Rattle.lu_test.specs.declared.matrix.Call.{Call}
 use Rattle.lu_test.specs.declared.schedule.Move.{Move}
@@ -37,7 +37,7 @@ SetupLines how (suc n) s end lines =
     × (lines ≡ setup_line how s ++ rest)
 
 -- These calls, which one thread makes alone as a setup does, have these lines.
-pub record AreSetupLines (how : Wording) (c : Declarations) (calls : List Call) (lines : List ℕ)
+pub record AreSetupLines (how : Wording) (c : AComponent) (calls : List Call) (lines : List ℕ)
     : Type 0 where
   pub end : State
   pub made : MakesAll c calls (length calls) end
@@ -68,7 +68,7 @@ values_text s w zero = []
 values_text s w (suc n) = values_text s w n ++ value_text s w n
 
 -- the number of the cells of array w
-abbrev pub cell_count : Declarations → ℕ → ℕ
+abbrev pub cell_count : AComponent → ℕ → ℕ
 cell_count c w = option_map_or (λ array. array.len) (slice_get c.arrays w) 0
 
 -- the line of array w: its name, and the value of each cell
@@ -112,7 +112,7 @@ found_lines s = all_array_lines s ++ all_lock_lines s
 
 -- The trace of the schedule from the setup on, in these words: the lines of the setup's calls, the
 -- cells and locks at the start, and the trace.
-abbrev pub IsWordedTraceFromSetup : Wording → Declarations → Matrix → List Move → List ℕ → Type 0
+abbrev pub IsWordedTraceFromSetup : Wording → AComponent → Matrix → List Move → List ℕ → Type 0
 IsWordedTraceFromSetup how c matrix u text =
     (lines : List ℕ) × (start : State) × (trace : List ℕ)
     × AreSetupLines how c matrix.setup lines × IsStart c matrix start
@@ -120,14 +120,14 @@ IsWordedTraceFromSetup how c matrix u text =
     × (text ≡ setup_heading matrix.setup ++ lines ++ codes "start\n" ++ found_lines start ++ trace)
 
 -- that trace in the words of the component's text
-abbrev pub IsTraceFromSetup : Declarations → Matrix → List Move → List ℕ → Type 0
+abbrev pub IsTraceFromSetup : AComponent → Matrix → List Move → List ℕ → Type 0
 IsTraceFromSetup c matrix u text = IsWordedTraceFromSetup Component c matrix u text
 
-abbrev pub IsWordedFromSetup : {Z : Type 0} → Wording → Declarations → Matrix → List Move
+abbrev pub IsWordedFromSetup : {Z : Type 0} → Wording → AComponent → Matrix → List Move
     → String Z → Type 0
 IsWordedFromSetup how c matrix u text = IsWordedTraceFromSetup how c matrix u (string_bytes text)
 
-abbrev pub IsTextFromSetup : {Z : Type 0} → Declarations → Matrix → List Move → String Z → Type 0
+abbrev pub IsTextFromSetup : {Z : Type 0} → AComponent → Matrix → List Move → String Z → Type 0
 IsTextFromSetup c matrix u text = IsTraceFromSetup c matrix u (string_bytes text)
 
 -- where it succeeds the text grows by the lines from one state to another

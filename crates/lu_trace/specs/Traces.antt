@@ -1,6 +1,6 @@
 -- Traces: what a schedule does, line by line.
 use Rattle.std.specs.Prelude.{◌≡◌, ℕ, zero, suc, ◌+◌, ◌++◌, List, [], ◌∷◌, Option, Some, None, MatchBool, Result, OnOk, String, string_bytes}
-use Rattle.lu_component.specs.Component.{Declarations}
+use Rattle.lu_component.specs.Component.{Component as AComponent}
 use Rattle.lu_test.specs.declared.schedule.Move.{Move}
 use Rattle.lu_test.specs.Matrix.{Matrix}
 use Rattle.lu_machine.specs.declared.event.Event.{Event}
@@ -28,7 +28,7 @@ LocalLines how (suc n) s t end lines =
     ((end ≡ s) × (lines ≡ []))
 
 -- The move m leads from the state s to the state `new`: its first step has the line of its number,
--- and the local instructions behind it have theirs.
+-- and the local instructions after it have theirs.
 abbrev pub MoveLines : Wording → ℕ → State → Move → State → List ℕ → Type 0
 MoveLines how number s m new lines =
     (mid : State) × (event : Option Event) × (rest : List ℕ)
@@ -46,25 +46,25 @@ TraceLines how number s (m ∷ u) end lines =
 
 -- The trace of the schedule in these words: how the state stands that it leads to, the lines of its
 -- moves from 0 on, and what each blocked thread waits for in the end.
-abbrev pub IsWordedTrace : Wording → Declarations → Matrix → List Move → List ℕ → Type 0
+abbrev pub IsWordedTrace : Wording → AComponent → Matrix → List Move → List ℕ → Type 0
 IsWordedTrace how c matrix u text =
     (start : State) × (end : State) × (status : Status) × (lines : List ℕ)
     × IsStart c matrix start × TraceLines how 0 start u end lines × HasStatus end status
     × (text ≡ status_line status ++ lines ++ all_waits how end)
 
 -- the trace in the words of the component's text
-abbrev pub IsTrace : Declarations → Matrix → List Move → List ℕ → Type 0
+abbrev pub IsTrace : AComponent → Matrix → List Move → List ℕ → Type 0
 IsTrace c matrix u text = IsWordedTrace Component c matrix u text
 
-abbrev pub IsWordedText : {Z : Type 0} → Wording → Declarations → Matrix → List Move → String Z
+abbrev pub IsWordedText : {Z : Type 0} → Wording → AComponent → Matrix → List Move → String Z
     → Type 0
 IsWordedText how c matrix u text = IsWordedTrace how c matrix u (string_bytes text)
 
-abbrev pub IsTraceText : {Z : Type 0} → Declarations → Matrix → List Move → String Z → Type 0
+abbrev pub IsTraceText : {Z : Type 0} → AComponent → Matrix → List Move → String Z → Type 0
 IsTraceText c matrix u text = IsTrace c matrix u (string_bytes text)
 
--- the fault of the schedule; want of memory can come with any
-abbrev pub IsTraceFault : Declarations → Matrix → List Move → TraceFault → Type 0
+-- the fault of the schedule; refused memory can come with any
+abbrev pub IsTraceFault : AComponent → Matrix → List Move → TraceFault → Type 0
 IsTraceFault c matrix u (Infeasible i) = IsInfeasibleAt c matrix u i
 IsTraceFault c matrix u Memory = Unit {0}
 

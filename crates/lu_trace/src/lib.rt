@@ -15,7 +15,7 @@
 //! ```
 #![tactic(auto)]
 
-mod deeds;
+mod effects;
 mod fault;
 mod laws;
 mod lines;

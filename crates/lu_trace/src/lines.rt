@@ -5,7 +5,7 @@ ghost use Rattle.lu_text.specs.Writing.{Writes};
 ghost use Rattle.lu_trace.specs.Lines as spec;
 ghost use Rattle.lu_trace.specs.Lines.{component_line, labelled_instr, labelled_line, told_by};
 
-use crate::deeds::write_deed;
+use crate::effects::write_deed;
 use crate::wording::{Wording, write_place, write_source_line};
 use lu_component::{Component, Instr};
 use lu_lang::{Labels, has_jump_to, write_instr, write_label};

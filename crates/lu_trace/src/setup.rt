@@ -193,7 +193,7 @@ fn write_found(text: &mut String, machine: &Machine<'_>) -> Result<(), AllocErro
 /// the cells and locks as the threads find them: `x is 1 0` has the value of each cell of the array
 /// `x`, in their order; `m is free` or `m is taken by thread 0` tells of the lock `m`, which thread
 /// 0 has where the setup left it taken. All arrays come first, then all locks, each kind in the
-/// order of their declarations. The trace stands behind.
+/// order of their declarations. The trace stands after.
 ///
 /// # Errors
 ///

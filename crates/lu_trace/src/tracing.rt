@@ -61,7 +61,7 @@ fn write_move(
 ///
 /// The first line is `trace complete`, `trace stuck` or `trace running`. Then each move has a line:
 /// its number, from 0, and in its thread's column the call that it opens, or the instruction and
-/// behind `#` what it did. Local instructions that run with a move stand below it, without a
+/// after `#` what it did. Local instructions that run with a move stand below it, without a
 /// number. Last comes a line for each thread that is blocked in the end, with what it waits for.
 ///
 /// An instruction is told as the component's text has it, `load r1 top 0`, and its remark by

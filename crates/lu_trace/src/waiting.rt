@@ -8,7 +8,7 @@ ghost use Rattle.lu_trace.specs.Deeds.{awaited, awaited_is, awaited_is_not};
 ghost use Rattle.lu_trace.specs.Lines as spec;
 ghost use Rattle.lu_trace.specs.Lines.{waiting};
 
-use crate::deeds::{Cell, named_cell, value_in, write_cell};
+use crate::effects::{Cell, named_cell, value_in, write_cell};
 use crate::lines::{write_head, write_instr_text};
 use crate::wording::Wording;
 use lu_component::{Component, Instr};

@@ -4,7 +4,7 @@ use Rattle.std.specs.Option.{option_map, option_map_or}
 use Rattle.std.proofs.lemmas.Bool.Decides.{nat_tests}
 use Rattle.std.proofs.lemmas.List.{set-set, length-set, get_or-set_other, set-get_or}
 use Rattle.std.proofs.lemmas.Option.{same_Some, slice_get_within}
-use Rattle.lu_component.specs.Component.{Declarations}
+use Rattle.lu_component.specs.Component.{Component}
 use Rattle.lu_component.specs.declared.instr.Instr.{Instr}
 use Rattle.lu_component.specs.declared.instr.Instr.TheVariants.{Set, Compute, Load, Store, Cas, Lock, Unlock, Await, AwaitNot, Pick, Jump, JumpIfZero, Return}
 use Rattle.lu_test.specs.Matrix.{Matrix}
@@ -99,7 +99,7 @@ unlock_acting s new f t l e true is h = (Owner l None, h.0, refl, λ r same. rw 
 unlock_acting s new f t l e false is h = (Nothing, h.0, tt, λ r same. rw (same, is) (refl, h.1))
 
 cell_alike : (s r : State) (w n : ℕ) → r.component ≡ s.component → cell_of r.component w n ≡ cell_of s.component w n
-cell_alike s r w n is = ap (λ (c : Declarations). cell_of c w n) is
+cell_alike s r w n is = ap (λ (c : Component). cell_of c w n) is
 
 pub acting : (s : State) (m : Move) (f : Frame) (instr : Instr) (new : State) (e : Effect) → Carries s m f instr new e → Acting s m f instr new e
 acting s m f (Set to v) new e h = record { wrote = Nothing; is = h.0; within = tt; there = λ r c same. ((refl, h.1), refl) }
@@ -353,7 +353,7 @@ holds_after s Nothing t now a (Some b) within none = holds_still s t now b.locat
 holds_after s (Cell p n) t now a (Some b) within none = holds_cell s p n t now b.location (other_of b (of_cell true p) refl (subst (λ x. conflict x (Some b) ≡ None) within none))
 holds_after s (Owner m owner) t now a (Some b) within none = holds_owner s m owner t now b.location (other_of b (of_lock m) refl (subst (λ x. conflict x (Some b) ≡ None) within none))
 
--- behind a move of t all is the same for a move of u
+-- after a move of t all is the same for a move of u
 pub like_behind : (s : State) (w : Shared) (t u : ℕ) (now : Thread) → Within w (next_access s t) → (t ≡ u → ⊥) → conflict (next_access s t) (next_access s u) ≡ None → IsLike u s (written s w t now)
 like_behind s w t u now within differ none = record {
   component = shared_component s w;
@@ -373,7 +373,7 @@ set_both (z ∷ xs) (suc i) zero x y h = refl
 set_both (z ∷ xs) (suc i) (suc j) x y h = ap (λ l. z ∷ l) (set_both xs i j x y (λ e. h (ap suc e)))
 
 -- states by their parts
-state_parts : (c d : Declarations) (m n : Matrix) (x y : List ℕ) (k l : List (Option ℕ)) (t u : List Thread) → c ≡ d → m ≡ n → x ≡ y → k ≡ l → t ≡ u → let s : State = record { component = c; matrix = m; cells = x; locks = k; threads = t } in s ≡ record { component = d; matrix = n; cells = y; locks = l; threads = u }
+state_parts : (c d : Component) (m n : Matrix) (x y : List ℕ) (k l : List (Option ℕ)) (t u : List Thread) → c ≡ d → m ≡ n → x ≡ y → k ≡ l → t ≡ u → let s : State = record { component = c; matrix = m; cells = x; locks = k; threads = t } in s ≡ record { component = d; matrix = n; cells = y; locks = l; threads = u }
 state_parts c d m n x y k l t u e f g h i = rw (e, f, g, h, i) refl
 
 -- what two such moves write may be written in either order
@@ -479,7 +479,7 @@ unordered_by t u (Some (Returned v k outcome)) None differ one opens two = tt
 unordered_by t u (Some (Returned v k outcome)) (Some (Called w l)) differ one opens two = tt
 unordered_by t u (Some (Returned v k outcome)) (Some (Returned w l other)) differ one opens two = λ same. differ (sym one ∙ (same ∙ two))
 
--- a thread that has an operation open makes no event that may not stand behind another's
+-- a thread that has an operation open makes no event that may not stand after another's
 pub open_free : (t u : ℕ) (s : State) → (t ≡ u → ⊥) → ((k : ℕ) → slice_get s.threads t ≡ Some (idle k) → ⊥) → AreFree t u s
 open_free t u s differ busy = λ r c e f one two. unordered_by t u e f differ (event_is_of s r t e one) (opens_none s r t e busy one) (event_is_of s c u f two)
 

@@ -15,7 +15,7 @@ use Rattle.lu_witness.specs.declared.judgement.Why.{Why}
 use Rattle.lu_witness.specs.Goodness.{IsFirstBad, AreAllGood}
 use Rattle.lu_tree.specs.Reordered.{AreReordered}
 use Rattle.lu_tree.specs.Trees.{Below}
-use Rattle.lu_tree.specs.Walks.{AreBelow, IsCountAtEnd, IsBadAt, IsFirstAt, IsGoodBehind, StopsAtSchedule, no_schedule}
+use Rattle.lu_tree.specs.Walks.{AreBelow, IsCountAtEnd, IsBadAt, IsFirstAt, IsGoodAfter, StopsAtSchedule, no_schedule}
 use Rattle.lu_tree.proofs.BelowLaws.{below_here, below_led}
 use Rattle.lu_tree.proofs.Reordering.{counted_reordered, reordered_same, reordered_then}
 use Rattle.lu_tree.proofs.Walking.{AllEndSo, GoesOnBelow, counted_here, first_here, kids_all, kids_more, kids_none, kids_stop, kids_turn}
@@ -23,14 +23,14 @@ use Rattle.lu_tree.proofs.Walking.{AllEndSo, GoesOnBelow, counted_here, first_he
 -- the schedules that go on by a move below the limit are good if they end, and these are their numbers
 abbrev pub AreAdded : (List SerialOp → Type 0) → State → List Event → ℕ → Move → Counts → Type 0
 AreAdded Set s h left limit below =
-    (start : State) (u : List Move) (e g : List Event) → AreReordered h (g ++ e) → Leads start u s e → AllEndSo (IsGoodBehind Set g) start (length u + left) (GoesOnBelow u limit) below
+    (start : State) (u : List Move) (e g : List Event) → AreReordered h (g ++ e) → Leads start u s e → AllEndSo (IsGoodAfter Set g) start (length u + left) (GoesOnBelow u limit) below
 
 module _ (Set : List SerialOp → Type 0) (s : State) (h : List Event) (left : ℕ) where
   pub added_none : AreAdded Set s h left (record { thread = 0; pick = 0 }) no_schedule
-  added_none = λ start u e g re at. kids_none start u s e at (IsGoodBehind Set g) (length u + left)
+  added_none = λ start u e g re at. kids_none start u s e at (IsGoodAfter Set g) (length u + left)
 
   pub added_turn : (t p : ℕ) → picks_of s t ≤ p → (below : Counts) → AreAdded Set s h left (record { thread = t; pick = p }) below → AreAdded Set s h left (record { thread = t + 1; pick = 0 }) below
-  added_turn t p all below added = λ start u e g re at. kids_turn start u s e at (IsGoodBehind Set g) (length u + left) t p all below (added start u e g re at)
+  added_turn t p all below added = λ start u e g re at. kids_turn start u s e at (IsGoodAfter Set g) (length u + left) t p all below (added start u e g re at)
 
   -- one move more, which leads to r and k
   module _ (t p : ℕ) (r : State) (event : Option Event) (k : List Event) (step : Step s (record { thread = t; pick = p }) r event) (is : k ≡ h ++ with_event event []) (some : 1 ≤ left) where
@@ -51,8 +51,8 @@ module _ (Set : List SerialOp → Type 0) (s : State) (h : List Event) (left : �
     pub added_more : (below more : Counts) → AreAdded Set s h left (record { thread = t; pick = p }) below → AreBelow Set r k (left - 1) more → AreAdded Set s h left (record { thread = t; pick = p + 1 }) (plus below more)
     added_more below more added behind = λ start u e g re at.
         (let there = below_led start (u ++ m ∷ []) r (e ++ with_event event []) (child_leads start u s e at m r event step) Set k g (reordered_on e g re) (left - 1) more behind in
-        let good = subst (λ n. AllEndSo (IsGoodBehind Set g) start n (Below (u ++ m ∷ [])) more) (one_less u) there in
-        kids_more start u s e at (IsGoodBehind Set g) (length u + left) t p below more (added start u e g re at) good)
+        let good = subst (λ n. AllEndSo (IsGoodAfter Set g) start n (Below (u ++ m ∷ [])) more) (one_less u) there in
+        kids_more start u s e at (IsGoodAfter Set g) (length u + left) t p below more (added start u e g re at) good)
 
     longer : (u path : List Move) → (u ++ m ∷ []) ++ reverse path ≡ u ++ reverse (path ++ m ∷ [])
     longer u path = append_assoc u (m ∷ []) (reverse path) ∙ ap (λ x. u ++ x) (sym (reverse-append path (m ∷ [])))
@@ -73,8 +73,8 @@ module _ (Set : List SerialOp → Type 0) (s : State) (h : List Event) (left : �
       below_here Set s h left below
       (λ k re.
       (let there = added s [] [] k (rw (append-nil k) re) (refl, refl) in
-      let all = kids_all s [] s [] (refl, refl) (IsGoodBehind Set k) (0 + left) t past some (omega arith) below there in
-      subst (λ n. AllEndSo (IsGoodBehind Set k) s n (Below []) below) none_more all))
+      let all = kids_all s [] s [] (refl, refl) (IsGoodAfter Set k) (0 + left) t past some (omega arith) below there in
+      subst (λ n. AllEndSo (IsGoodAfter Set k) s n (Below []) below) none_more all))
 
   -- where no move is made
   over_at : HasNoMove s ⊎ (left ≡ 0) → (u : List Move) → HasNoMove s ⊎ (length u ≡ length u + left)
@@ -86,8 +86,8 @@ module _ (Set : List SerialOp → Type 0) (s : State) (h : List Event) (left : �
       below_here Set s h left counts
       (λ k re.
       (let there : IsCountAtEnd Set s (k ++ []) counts = rw (append-nil k) (counted_reordered Set s h k counts re counted) in
-      let here = counted_here s [] s [] (refl, refl) (IsGoodBehind Set k) (0 + left) (over_at over []) (omega arith) counts there in
-      subst (λ n. AllEndSo (IsGoodBehind Set k) s n (Below []) counts) none_more here))
+      let here = counted_here s [] s [] (refl, refl) (IsGoodAfter Set k) (0 + left) (over_at over []) (omega arith) counts there in
+      subst (λ n. AllEndSo (IsGoodAfter Set k) s n (Below []) counts) none_more here))
 
   pub end_stops : HasNoMove s ⊎ (left ≡ 0) → IsEnded s → (path : List Move) → path ≡ [] → StopsAtSchedule Set s h left path s h
   end_stops over ended path none = λ start u at.
@@ -107,12 +107,12 @@ first_bad Set start bound Part u end history why first bad = record {
   why_is = record { end = end; history = history; leads = first.leads; holds = bad.1 };
 }
 
--- a walk of all moves that are left behind a schedule
+-- a walk of all moves that are left after a schedule
 module _ (Set : List SerialOp → Type 0) (start : State) (bound left : ℕ) (from moves : List Move) (s : State) (h : List Event) (is : moves ≡ from) (all : length moves + left ≡ bound) (at : Leads start moves s h) where
   pub walk_passed : (below : Counts) → AreBelow Set s h left below → AreAllGood Set start bound (Below from) below
   walk_passed below passes =
       let led = below_led start moves s h at Set h [] (reordered_same h) left below passes in
-      let good = subst (λ n. AllEndSo (IsGoodBehind Set []) start n (Below moves) below) all led in
+      let good = subst (λ n. AllEndSo (IsGoodAfter Set []) start n (Below moves) below) all led in
       subst (λ u. AreAllGood Set start bound (Below u) below) is (record { good = good.good; numbers = good.numbers })
 
   pub walk_stopped : (path : List Move) (end : State) (k : List Event) → StopsAtSchedule Set s h left path end k → IsFirstAt Set start bound (Below from) (from ++ reverse path) end k

@@ -3,7 +3,7 @@ use Rattle.std.proofs.Common.{◌≡◌, ℕ, zero, suc, ◌-◌, ◌<◌, ◌�
 use Rattle.std.specs.Option.{option_map_or}
 use Rattle.std.proofs.lemmas.Bool.{cases_eq, cases_lt}
 use Rattle.std.proofs.lemmas.Option.{slice_get_within}
-use Rattle.lu_component.specs.Component.{Declarations}
+use Rattle.lu_component.specs.Component.{Component}
 use Rattle.lu_test.specs.declared.schedule.Move.{Move}
 use Rattle.lu_machine.specs.declared.counts.Counts.{Counts}
 use Rattle.lu_machine.specs.declared.event.Event.{Event}
@@ -31,7 +31,7 @@ use Rattle.lu_tree.specs.declared.known.Known.{Known}
 use Rattle.lu_tree.specs.Accesses.{instr_access}
 use Rattle.lu_tree.specs.Alike.{AreActivitiesAlike, AreAlike, AreStandingAlike}
 use Rattle.lu_tree.specs.Known.{IsKnown, counts_of}
-use Rattle.lu_tree.specs.Walks.{AreBelow, IsGoodBehind}
+use Rattle.lu_tree.specs.Walks.{AreBelow, IsGoodAfter}
 use Rattle.lu_tree.proofs.Alike.{standing_itself}
 use Rattle.lu_tree.proofs.Accessing.{acting, written, written_other, written_stands}
 use Rattle.lu_tree.proofs.AlikeLaws.{access_same, after_live, carries_live, effect_of, event_live, frame_parts, with_registers, written_cells, written_component, written_here, written_locks, written_matrix}
@@ -150,7 +150,7 @@ module _ (table : DeadTable) where
 
   more_alike : (s r : State) → AreAlike table s r → (t : ℕ) → more_local r t ≡ more_local s t
   more_alike s r alike t =
-      ap (λ (x : Declarations). x.local - (if is_at_local r t then 1 else 0)) alike.component
+      ap (λ (x : Component). x.local - (if is_at_local r t then 1 else 0)) alike.component
       ∙ ap (λ (b : Bool). s.component.local - (if b then 1 else 0)) (local_alike s r alike t)
 
   still_dead : (s next : State) → next.component ≡ s.component → IsDeadTable s.component table → IsDeadTable next.component table
@@ -266,7 +266,7 @@ module _ (table : DeadTable) where
         let back = alike_back s r alike in
         let dead_r = dead_alike s r dead alike in
         record {
-          good = λ k u re ended. reaches_alike s r dead alike (IsGoodBehind Set k) (IsGoodBehind Set k) (λ end there e d a good. good_alike end there (k ++ e) d a good) u (below.good k u re (ended_alike r s dead_r back left u ended));
+          good = λ k u re ended. reaches_alike s r dead alike (IsGoodAfter Set k) (IsGoodAfter Set k) (λ end there e d a good. good_alike end there (k ++ e) d a good) u (below.good k u re (ended_alike r s dead_r back left u ended));
           numbers = record {
             complete = number_same (λ v. Any v × ((length v ≤ left) × Reaches s v (λ end _. IsComplete end))) (λ v. Any v × ((length v ≤ left) × Reaches r v (λ end _. IsComplete end))) counts.complete below.numbers.complete
                 (λ v k. (tt, (k.1.0, reaches_alike s r dead alike (λ end _. IsComplete end) (λ end _. IsComplete end) (λ end there h d a is. complete_alike end there a is) v k.1.1)))

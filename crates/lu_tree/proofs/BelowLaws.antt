@@ -14,7 +14,7 @@ use Rattle.lu_history.specs.declared.serial.SerialOp.{SerialOp}
 use Rattle.lu_witness.specs.Goodness.{Any, IsGoodAt}
 use Rattle.lu_tree.specs.Reordered.{AreReordered}
 use Rattle.lu_tree.specs.Trees.{Below}
-use Rattle.lu_tree.specs.Walks.{AreBelow, IsGoodBehind}
+use Rattle.lu_tree.specs.Walks.{AreBelow, IsGoodAfter}
 use Rattle.lu_tree.proofs.Reordering.{reordered_same}
 use Rattle.lu_tree.proofs.Walking.{AllEndSo}
 
@@ -94,16 +94,16 @@ module _ (start : State) (u : List Move) (s : State) (e : List Event) (at : Lead
     ended_on w (inl c) = inl (shorter w c.0, reach_back IsComplete w c.1)
     ended_on w (inr k) = inr (shorter w k.0, reach_back IsStuck w k.1)
 
-    good_on : (end : State) (k : List Event) → IsGoodBehind Set (g ++ e) end k → IsGoodBehind Set g end (e ++ k)
+    good_on : (end : State) (k : List Event) → IsGoodAfter Set (g ++ e) end k → IsGoodAfter Set g end (e ++ k)
     good_on end k good = subst (IsGoodAt Set end) (append_assoc g e k) good
 
-    good_from : (v : List Move) → Below u v → IsEndedWithin start (length u + left) v → Reaches start v (IsGoodBehind Set g)
+    good_from : (v : List Move) → Below u v → IsEndedWithin start (length u + left) v → Reaches start v (IsGoodAfter Set g)
     good_from v b ended =
         let there = ended_on b.0 (subst (IsEndedWithin start (length u + left)) b.1 ended) in
         let good = below.good (g ++ e) b.0 re there in
-        subst (λ x. Reaches start x (IsGoodBehind Set g)) (sym b.1) (reach_on (IsGoodBehind Set (g ++ e)) (IsGoodBehind Set g) b.0 good_on good)
+        subst (λ x. Reaches start x (IsGoodAfter Set g)) (sym b.1) (reach_on (IsGoodAfter Set (g ++ e)) (IsGoodAfter Set g) b.0 good_on good)
 
-    pub below_led : AllEndSo (IsGoodBehind Set g) start (length u + left) (Below u) counts
+    pub below_led : AllEndSo (IsGoodAfter Set g) start (length u + left) (Below u) counts
     below_led = record {
       good = good_from;
       numbers = record {
@@ -114,7 +114,7 @@ module _ (start : State) (u : List Move) (s : State) (e : List Event) (at : Lead
     }
 
 -- and the other way round
-pub below_here : (Set : List SerialOp → Type 0) (s : State) (h : List Event) (left : ℕ) (counts : Counts) → ((k : List Event) → AreReordered h k → AllEndSo (IsGoodBehind Set k) s left (Below []) counts) → AreBelow Set s h left counts
+pub below_here : (Set : List SerialOp → Type 0) (s : State) (h : List Event) (left : ℕ) (counts : Counts) → ((k : List Event) → AreReordered h k → AllEndSo (IsGoodAfter Set k) s left (Below []) counts) → AreBelow Set s h left counts
 below_here Set s h left counts all =
     let numbers = (all h (reordered_same h)).numbers in
     record {

@@ -30,10 +30,10 @@ use Rattle.lu_tree.specs.declared.tail_question.Judging.TheVariants.{OneVerdict}
 use Rattle.lu_tree.specs.declared.tail_question.TailQuestion.{TailQuestion}
 use Rattle.lu_horizon.specs.declared.sharers.Sharers.{Sharers}
 use Rattle.lu_horizon.specs.declared.sharers.Sharers.TheVariants.{Only, Readers}
-use Rattle.lu_tree.specs.Tails.{HasNoCall, StartsBehind, IsGoodTail, IsJudged, IsRest, MayMove, sharing_of}
+use Rattle.lu_tree.specs.Tails.{HasNoCall, StartsAfter, IsGoodTail, IsJudged, IsRest, MayMove, sharing_of}
 use Rattle.lu_tree.specs.Reordered.{AreReordered}
 use Rattle.lu_tree.specs.Trees.{Below}
-use Rattle.lu_tree.specs.Walks.{IsGoodBehind, completes}
+use Rattle.lu_tree.specs.Walks.{IsGoodAfter, completes}
 use Rattle.lu_tree.proofs.Reordering.{reordered_then, witness_reordered}
 use Rattle.lu_tree.proofs.TailBelow.{orders_all}
 use Rattle.lu_tree.proofs.TailVerdicts.{one_for_all}
@@ -76,7 +76,7 @@ sharers_apart (Only special) t u other sees = grind (arith, nat_tests)
 sharers_apart Readers t u other sees = refl
 
 module _ (Set : List SerialOp → Type 0) (question : TailQuestion) (s : State) (h : List Event) where
-  -- behind the last thread
+  -- after the last thread
   pub rest_end : (t left : ℕ) (ns : List ℕ) → ns ≡ zeros (length s.threads) → length s.threads ≤ t → IsComplete s → IsJudged Set question.judging h → IsRest Set question s h t left ns
   rest_end t left ns is past complete judged = rw is (record {
     many = zeros_length (length s.threads);
@@ -190,7 +190,7 @@ module _ (Set : List SerialOp → Type 0) (question : TailQuestion) (s : State) 
         }
 
   -- all threads
-  pub rest_all : (left n : ℕ) (ns : List ℕ) → StartsBehind question.judging h → IsRest Set question s h 0 left ns → n ≡ capped (interleavings ns) → IsGoodTail Set s h left n
+  pub rest_all : (left n : ℕ) (ns : List ℕ) → StartsAfter question.judging h → IsRest Set question s h 0 left ns → n ≡ capped (interleavings ns) → IsGoodTail Set s h left n
   rest_all left n ns behind rest is = record {
     moves = ns;
     sharing = sharing_of question.sharers;
@@ -214,12 +214,12 @@ module _ (Set : List SerialOp → Type 0) (question : TailQuestion) (s : State) 
       solo_at j lt (inl lt') = (has j lt').1
       solo_at j lt (inr past) = absurd (omega arith)
 
--- below such a state, behind each reordered history
-pub tail_all : (Set : List SerialOp → Type 0) (left n : ℕ) (s : State) (h g : List Event) → Agree (progress s) h → AreReordered h g → IsGoodTail Set s h left n → AllEndSo (IsGoodBehind Set g) s left (Below []) (completes n)
+-- below such a state, after each reordered history
+pub tail_all : (Set : List SerialOp → Type 0) (left n : ℕ) (s : State) (h g : List Event) → Agree (progress s) h → AreReordered h g → IsGoodTail Set s h left n → AllEndSo (IsGoodAfter Set g) s left (Below []) (completes n)
 tail_all Set left n s h g agree re t =
     let short = t.short in
-    let all = orders_all s (IsGoodBehind Set g) left t.sharing t.events_of (all_moves t.moves) [] s [] (refl, refl) t.moves t.tail refl (omega arith)
+    let all = orders_all s (IsGoodAfter Set g) left t.sharing t.events_of (all_moves t.moves) [] s [] (refl, refl) t.moves t.tail refl (omega arith)
     (λ v end k leads complete.
     (let here = one_for_all Set s h agree t.moves t.sharing t.events_of t.tail v end k leads complete t.judging t.behind t.good in
     inl (complete, witness_reordered Set (h ++ k) (g ++ k) (reordered_then h g k re) here))) in
-    subst (λ (x : ℕ). AllEndSo (IsGoodBehind Set g) s left (Below []) (completes x)) (sym t.number) all
+    subst (λ (x : ℕ). AllEndSo (IsGoodAfter Set g) s left (Below []) (completes x)) (sym t.number) all

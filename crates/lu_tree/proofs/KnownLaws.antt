@@ -1,4 +1,4 @@
--- What is known below a state, and behind moves that commute.
+-- What is known below a state, and after moves that commute.
 use Rattle.std.proofs.Common.{◌≡◌, ℕ, zero, suc, ◌-◌, ◌<◌, ◌≤◌, ◌⊎◌, List, [], ◌∷◌, ◌++◌, Option, None, Some, IfSome, Bor, slice_get, slice_set, length, length-set, unwrap_or, refl, sym, ◌∙◌, ap, subst, inl, inr, arith}
 use Rattle.std.specs.List.{Contains}
 use Rattle.std.specs.Prelude.{All}
@@ -20,7 +20,7 @@ use Rattle.lu_tree.specs.declared.commuting.TwoUndos.{TwoUndos}
 use Rattle.lu_tree.specs.declared.known.Known.{Known}
 use Rattle.lu_tree.specs.declared.known.Hints.{Hints}
 use Rattle.lu_tree.specs.Alike.{AreAlike}
-use Rattle.lu_tree.specs.Known.{AreFrom, AreKnownBehind, Commute, HaveSameEvents, IsAmongOr, IsHint, IsHintOr, IsKid, IsKnown, IsKnownBy, KidsTellNoMore, MadeBoth, MoveNotBoth, Moves, MovesBoth, TellsNoMore, counts_of, kids_of}
+use Rattle.lu_tree.specs.Known.{AreFrom, AreKnownAfter, Commute, HaveSameEvents, IsAmongOr, IsHint, IsHintOr, IsKid, IsKnown, IsKnownBy, KidsTellNoMore, MadeBoth, MoveNotBoth, Moves, MovesBoth, TellsNoMore, counts_of, kids_of}
 use Rattle.lu_tree.specs.Reordered.{AreReordered, AreUnordered}
 use Rattle.lu_tree.specs.Walks.{AreBelow}
 use Rattle.lu_tree.proofs.AlikeRuns.{known_alike}
@@ -71,7 +71,7 @@ both_same t u s a b e f g h x y =
     let second = moves_same u y.0 a b f h on y.2 in
     (second.0, first.1, second.1)
 
--- where u has not one pick behind the only move of t, they can't both be made
+-- where u has not one pick after the only move of t, they can't both be made
 pub not_both : (t u : ℕ) (s r : State) (event : Option Event) → Moves t s r event → (picks_of r u ≡ 1 → ⊥) → MoveNotBoth t u s
 not_both t u s r event moves not end e f both =
     let same = moves_same t s both.0 r e event both.1 moves in
@@ -109,35 +109,35 @@ module _ (Set : List SerialOp → Type 0) where
   known_below s h zero known is = is.0
   known_below s h (suc left) known is = is.0
 
-  pub kids_known : (s : State) (h : List Event) (left : ℕ) (known : Known) → IsKnown Set s h left known → AreKnownBehind Set s h (left - 1) (IsKid known)
+  pub kids_known : (s : State) (h : List Event) (left : ℕ) (known : Known) → IsKnown Set s h left known → AreKnownAfter Set s h (left - 1) (IsKid known)
   kids_known s h zero known is = λ t below kid. absurd (none_kid (kids_of known) (t, below) is.1 kid)
   kids_known s h (suc left) known is =
       let one : left ≡ suc left - 1 = omega arith in
-      subst (λ n. AreKnownBehind Set s h n (IsKid known)) one is.1
+      subst (λ n. AreKnownAfter Set s h n (IsKid known)) one is.1
 
   pub known_alone : (s : State) (h : List Event) (left : ℕ) (known : Known) (counts : Counts) → counts_of known ≡ counts → kids_of known ≡ [] → AreBelow Set s h left counts → IsKnown Set s h left known
   known_alone s h zero known counts is none below = (subst (AreBelow Set s h zero) (sym is) below, none)
   known_alone s h (suc left) known counts is none below = (subst (AreBelow Set s h (suc left)) (sym is) below, λ t kid in_kids. absurd (none_kid (kids_of known) (t, kid) none in_kids))
 
-  pub none_behind : (s : State) (h : List Event) (left : ℕ) (known : Known) → kids_of known ≡ [] → AreKnownBehind Set s h left (IsKid known)
-  none_behind s h left known none = λ t kid in_kids. absurd (none_kid (kids_of known) (t, kid) none in_kids)
+  pub none_after : (s : State) (h : List Event) (left : ℕ) (known : Known) → kids_of known ≡ [] → AreKnownAfter Set s h left (IsKid known)
+  none_after s h left known none = λ t kid in_kids. absurd (none_kid (kids_of known) (t, kid) none in_kids)
 
-  pub known_with : (s : State) (h : List Event) (left : ℕ) (known : Known) → 1 ≤ left → AreBelow Set s h left (counts_of known) → AreKnownBehind Set s h (left - 1) (IsKid known) → IsKnown Set s h left known
+  pub known_with : (s : State) (h : List Event) (left : ℕ) (known : Known) → 1 ≤ left → AreBelow Set s h left (counts_of known) → AreKnownAfter Set s h (left - 1) (IsKid known) → IsKnown Set s h left known
   known_with s h zero known some below kids = absurd (omega arith)
   known_with s h (suc left) known some below kids =
       let one : suc left - 1 ≡ left = omega arith in
-      (below, subst (λ n. AreKnownBehind Set s h n (IsKid known)) one kids)
+      (below, subst (λ n. AreKnownAfter Set s h n (IsKid known)) one kids)
 
-  -- what is told behind the only move of thread t is known where it leads
-  pub behind_here : (s : State) (h : List Event) (left t : ℕ) (below : Known) (IsTold : ℕ → Known → Type 0) → AreKnownBehind Set s h left IsTold → IsTold t below → (next : State) (event : Option Event) → Moves t s next event → AreBelow Set next (h ++ with_event event []) left (counts_of below)
-  behind_here s h left t below IsTold are told next event moves = known_below next (h ++ with_event event []) left below (are t below told next event moves)
+  -- what is told after the only move of thread t is known where it leads
+  pub after_here : (s : State) (h : List Event) (left t : ℕ) (below : Known) (IsTold : ℕ → Known → Type 0) → AreKnownAfter Set s h left IsTold → IsTold t below → (next : State) (event : Option Event) → Moves t s next event → AreBelow Set next (h ++ with_event event []) left (counts_of below)
+  after_here s h left t below IsTold are told next event moves = known_below next (h ++ with_event event []) left below (are t below told next event moves)
 
   -- fewer are told of
-  pub behind_same : (s : State) (h : List Event) (left : ℕ) (old new : Known) → kids_of new ≡ kids_of old → AreKnownBehind Set s h left (IsKid old) → AreKnownBehind Set s h left (IsKid new)
-  behind_same s h left old new same are = λ t below kid. are t below (subst (λ x. Contains x (t, below)) same kid)
+  pub after_same : (s : State) (h : List Event) (left : ℕ) (old new : Known) → kids_of new ≡ kids_of old → AreKnownAfter Set s h left (IsKid old) → AreKnownAfter Set s h left (IsKid new)
+  after_same s h left old new same are = λ t below kid. are t below (subst (λ x. Contains x (t, below)) same kid)
 
   -- one more is told of
-  pub behind_more : (s : State) (h : List Event) (left t : ℕ) (old new below : Known) → IsAmongOr (t, below) (kids_of old) (kids_of new) → AreKnownBehind Set s h left (IsKid old) → ((next : State) (event : Option Event) → Moves t s next event → IsKnown Set next (h ++ with_event event []) left below) → AreKnownBehind Set s h left (IsKid new)
+  pub behind_more : (s : State) (h : List Event) (left t : ℕ) (old new below : Known) → IsAmongOr (t, below) (kids_of old) (kids_of new) → AreKnownAfter Set s h left (IsKid old) → ((next : State) (event : Option Event) → Moves t s next event → IsKnown Set next (h ++ with_event event []) left below) → AreKnownAfter Set s h left (IsKid new)
   behind_more s h left t old new below among are one = λ u kid in_kids.
       elim (among (u, kid) in_kids) [
         | inl before ↦ are u kid before
@@ -148,15 +148,15 @@ module _ (Set : List SerialOp → Type 0) where
       ]
 
   -- what is known where a move of thread t leads
-  pub known_behind : (s : State) (h : List Event) (left t p : ℕ) (next : State) (event : Option Event) (k : List Event) (below : Known) → Step s (record { thread = t; pick = p }) next event → k ≡ h ++ with_event event [] → IsKnown Set next k left below → (there : State) (other : Option Event) → Moves t s there other → IsKnown Set there (h ++ with_event other []) left below
-  known_behind s h left t p next event k below step is known there other moves =
+  pub known_after : (s : State) (h : List Event) (left t p : ℕ) (next : State) (event : Option Event) (k : List Event) (below : Known) → Step s (record { thread = t; pick = p }) next event → k ≡ h ++ with_event event [] → IsKnown Set next k left below → (there : State) (other : Option Event) → Moves t s there other → IsKnown Set there (h ++ with_event other []) left below
+  known_after s h left t p next event k below step is known there other moves =
       let feasible : p < picks_of s t = step_feasible s (record { thread = t; pick = p }) next event step in
       let only : p ≡ 0 = omega (arith, moves.0) in
       let first : Step s (only_move t) next event = subst (λ x. Step s (record { thread = t; pick = x }) next event) only step in
       let at : (there ≡ next) × (other ≡ event) = step_same s (only_move t) there next other event moves.1 first in
       rw (at.0, at.1, ← is) known
 
-  -- what is known behind a history is known behind a reordered one
+  -- what is known after a history is known after a reordered one
   below_reordered : (s : State) (h k : List Event) (left : ℕ) (counts : Counts) → AreReordered h k → AreBelow Set s h left counts → AreBelow Set s k left counts
   below_reordered s h k left counts re below = record { good = λ g u on. below.good g u (reordered_both h k g re on); numbers = below.numbers }
 
@@ -164,9 +164,9 @@ module _ (Set : List SerialOp → Type 0) where
   known_reordered s h k zero known re is = (below_reordered s h k zero (counts_of known) re is.0, is.1)
   known_reordered s h k (suc left) known re is = (below_reordered s h k (suc left) (counts_of known) re is.0, λ t below kid next event moves. known_reordered next (h ++ with_event event []) (k ++ with_event event []) left below (reordered_then h k (with_event event []) re) (is.1 t below kid next event moves))
 
-  -- Where thread t moves first: what is known behind a move that commutes with that is known there,
+  -- Where thread t moves first: what is known after a move that commutes with that is known there,
   -- too.
-  pub hints_on : (table : DeadTable) (s : State) → IsDeadTable s.component table → (h : List Event) (left : ℕ) (hints : Hints) (known : Known) (t p : ℕ) (new : Hints) → AreKnownBehind Set s h left (IsHint hints) → AreKnownBehind Set s h left (IsKid known) → AreFrom table s hints known t new → (next : State) (event : Option Event) → Step s (record { thread = t; pick = p }) next event → AreKnownBehind Set next (h ++ with_event event []) (left - 1) (IsHint new)
+  pub hints_on : (table : DeadTable) (s : State) → IsDeadTable s.component table → (h : List Event) (left : ℕ) (hints : Hints) (known : Known) (t p : ℕ) (new : Hints) → AreKnownAfter Set s h left (IsHint hints) → AreKnownAfter Set s h left (IsKid known) → AreFrom table s hints known t new → (next : State) (event : Option Event) → Step s (record { thread = t; pick = p }) next event → AreKnownAfter Set next (h ++ with_event event []) (left - 1) (IsHint new)
   hints_on table s dead h left hints known t p new by_hint by_kid from next event step = λ u below hint there last moves.
       (let c = from u below hint in
       let commute : Commute table u t s = c.0 in
@@ -225,7 +225,7 @@ kids_more_told all old new t more below are among kid tells = λ u known there.
 pub no_kids_told : (all some : Known) → kids_of some ≡ [] → KidsTellNoMore all some
 no_kids_told all some none = λ t below kid. absurd (none_kid (kids_of some) (t, below) none kid)
 
--- the first of these, and those behind it
+-- the first of these, and those after it
 pub first_and_rest : {A : Type 0} (all xs rest : List A) (x : A) → xs ≡ x ∷ rest → All (Contains all) xs → Contains all x × All (Contains all) rest
 first_and_rest {A} all xs rest x is each = at (subst (λ (ys : List A). All (Contains all) ys) is each)
   where

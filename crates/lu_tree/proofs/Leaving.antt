@@ -10,7 +10,7 @@ use Rattle.lu_witness.specs.Witnesses.{IsMember}
 use Rattle.lu_tree.specs.declared.found.Found.{Found}
 use Rattle.lu_tree.specs.declared.found.Found.TheVariants.{Clean, Bad, Abandoned}
 use Rattle.lu_tree.specs.declared.node.Node.{Node}
-use Rattle.lu_tree.specs.declared.tally.WalkProgress.{WalkProgress}
+use Rattle.lu_tree.specs.declared.progress.WalkProgress.{WalkProgress}
 use Rattle.lu_tree.specs.Trees.{Below, IsFoundWatched, is_abandoned}
 use Rattle.lu_tree.specs.Walks.{IsBadAt, IsFirstAt, IsReadyToWalk}
 use Rattle.lu_tree.specs.Walked.{IsBadFound, StaysBelow}

@@ -2,7 +2,7 @@
 use Rattle.std.proofs.Common.{◌≡◌, ◌≤◌, List, [], ◌∷◌, All, length, replicate, sym, subst, arith}
 use Rattle.std.proofs.lemmas.List.{length-replicate}
 use Rattle.std.proofs.lemmas.List.Elements.{All-nil, All-cons}
-use Rattle.lu_component.specs.Component.{Declarations, IsComponent}
+use Rattle.lu_component.specs.Component.{Component, IsComponent}
 use Rattle.lu_test.specs.declared.schedule.Move.{Move}
 use Rattle.lu_test.specs.Matrix.{Matrix, IsMatrix}
 use Rattle.lu_test.specs.Schedule.{IsMove, AreMoves}
@@ -27,7 +27,7 @@ all_moves (m ∷ u) s end h is few leads =
     All-cons IsMove m u (feasible_is_move s is few m (step_feasible s m leads.0 leads.1 step)) rest
 
 -- the limits of the state at the start
-pub start_limits : (c : Declarations) (matrix : Matrix) (s : State) → IsComponent c → IsMatrix matrix → IsStart c matrix s → IsComponent s.component × (length s.threads ≤ 8)
+pub start_limits : (c : Component) (matrix : Matrix) (s : State) → IsComponent c → IsMatrix matrix → IsStart c matrix s → IsComponent s.component × (length s.threads ≤ 8)
 start_limits c matrix s is are start =
     let idle : Thread = record { done = 0; activity = Idle } in
     let threads : length (replicate (length matrix.threads) idle) ≡ length matrix.threads = length-replicate (length matrix.threads) idle in
@@ -35,7 +35,7 @@ start_limits c matrix s is are start =
     rw start.is (is, omega arith)
 
 -- a schedule of a component and a matrix within the bound is one that has a text
-pub schedule_moves : (c : Declarations) (matrix : Matrix) (s : State) → IsComponent c → IsMatrix matrix → IsStart c matrix s → (u : List Move) (end : State) (h : List Event) → Leads s u end h → length u ≤ 256 → AreMoves u
+pub schedule_moves : (c : Component) (matrix : Matrix) (s : State) → IsComponent c → IsMatrix matrix → IsStart c matrix s → (u : List Move) (end : State) (h : List Event) → Leads s u end h → length u ≤ 256 → AreMoves u
 schedule_moves c matrix s is are start u end h leads short =
     let limits = start_limits c matrix s is are start in
     (omega arith, all_moves u s end h limits.0 limits.1 leads)

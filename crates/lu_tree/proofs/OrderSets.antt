@@ -12,7 +12,7 @@ use Rattle.lu_trie.proofs.Membership.{kids-at}
 use Rattle.lu_witness.specs.Witnesses.{IsMember, entries}
 use Rattle.lu_witness.proofs.Entries.{entries-append, entries_own}
 use Rattle.lu_history.proofs.Events.{split_at, take_next}
-use Rattle.lu_tree.specs.Tails.{AreMembersBehind, HasEveryOrder}
+use Rattle.lu_tree.specs.Tails.{AreMembersAfter, HasEveryOrder}
 
 pub some_entry : (t : ℕ) (ops : List SerialOp) (i : ℕ) (d : SerialOp) → i < length ops → (get_or ops i d).thread ≡ t → entries t ops ≢ []
 some_entry t [] i d lt is = absurd (omega arith)
@@ -98,7 +98,7 @@ begins ops op q same =
       ];
     }
 
--- for each of the first i operations that is the first of its thread: behind it the others stand in every order
+-- for each of the first i operations that is the first of its thread: after it the others stand in every order
 abbrev pub ServeBelow : List (List SerialOp) → List SerialOp → ℕ → Type 0
 ServeBelow hs ops i =
     (j : ℕ) (op : SerialOp) → j < i → slice_get ops j ≡ Some op → entries op.thread (take j ops) ≡ [] → HasEveryOrder (λ q. IsMember hs (op ∷ q)) [] (take j ops ++ drop (j + 1) ops)
@@ -129,17 +129,17 @@ serve_more hs ops i d within before here j op lt at first = elim (cases_lt j i) 
       subst (λ x. HasEveryOrder (λ q. IsMember hs (op ∷ q)) [] (take x ops ++ drop (x + 1) ops)) (sym is) all)
 ]
 
--- a kid's members stand behind its label
-pub kid_behind : (hs : List (List SerialOp)) → IsBranching hs → (i : ℕ) (label : SerialOp) (below : List (List SerialOp)) → i < length (branches_of hs) → slice_get (branches_of hs) i ≡ Some (label, below) → AreMembersBehind (label ∷ []) below hs
-kid_behind hs is i label below lt at q member =
+-- a kid's members stand after its label
+pub kid_after : (hs : List (List SerialOp)) → IsBranching hs → (i : ℕ) (label : SerialOp) (below : List (List SerialOp)) → i < length (branches_of hs) → slice_get (branches_of hs) i ≡ Some (label, below) → AreMembersAfter (label ∷ []) below hs
+kid_after hs is i label below lt at q member =
     let b : Branch = (label, below) in
     let read = λ (e : Branch). get_or_from_slice_get (branches_of hs) i b e at in
     let is_at : IsBranchAt (branches_of hs) label i = record { in_range = lt; has_label = λ e. ap (λ (x : Branch). x.0) (read e) } in
     branching-cons hs is label q ∙ (kids-at (branches_of hs) label i b is.branches.rise is_at q ∙ (ap (λ (x : Branch). contains x.1 q) (read b) ∙ member))
 
 -- one operation further
-pub next_behind : (ops : List SerialOp) (i : ℕ) (d : SerialOp) (below outer members : List (List SerialOp)) → i < length ops → AreMembersBehind (take i ops) outer members → AreMembersBehind (get_or ops i d ∷ []) below outer → AreMembersBehind (take (i + 1) ops) below members
-next_behind ops i d below outer members lt before here q member =
+pub next_after : (ops : List SerialOp) (i : ℕ) (d : SerialOp) (below outer members : List (List SerialOp)) → i < length ops → AreMembersAfter (take i ops) outer members → AreMembersAfter (get_or ops i d ∷ []) below outer → AreMembersAfter (take (i + 1) ops) below members
+next_after ops i d below outer members lt before here q member =
     let op = get_or ops i d in
     let next : ◌≡◌ {A = ℕ} (i + 1) (suc i) = omega arith in
     let taken : take (i + 1) ops ≡ take i ops ++ op ∷ [] = ap (λ n. take n ops) next ∙ take_next ops op i (slice_get-get_or ops i d lt) in

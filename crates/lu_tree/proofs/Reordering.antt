@@ -27,7 +27,7 @@ use Rattle.lu_tree.specs.Walks.{IsCountAtEnd}
 pub reordered_same : (h : List Event) → AreReordered h h
 reordered_same h = (zero, refl)
 
--- with the same behind both
+-- with the same after both
 by_then : (n : ℕ) (h k x : List Event) → AreReorderedBy n h k → AreReorderedBy n (h ++ x) (k ++ x)
 by_then zero h k x same = ap (λ y. y ++ x) same
 by_then (suc n) h k x (g, e, rest) = (
@@ -64,8 +64,8 @@ by_front (suc n) z h k (g, e, rest) = (
   by_front n z g k rest,
 )
 
-pub reordered_behind : (z : Event) (h k : List Event) → AreReordered h k → AreReordered (z ∷ h) (z ∷ k)
-reordered_behind z h k (n, by) = (n, by_front n z h k by)
+pub reordered_after : (z : Event) (h k : List Event) → AreReordered h k → AreReordered (z ∷ h) (z ∷ k)
+reordered_after z h k (n, by) = (n, by_front n z h k by)
 
 -- one after the other
 by_both : (n : ℕ) (h g k : List Event) → AreReorderedBy n h g → AreReordered g k → AreReordered h k

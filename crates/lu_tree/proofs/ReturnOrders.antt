@@ -34,7 +34,7 @@ pub returned_count : (t : ℕ) (h : List Event) → length (entries t (returned 
 returned_count t h = ap length (returned_entries t h) ∙ length-map (outcomes t h) as_serial
 
 module _ (g : List Event) (well : IsWellFormed g) where
-  -- what returns at j is next behind operations of which each thread has as many as have returned before
+  -- what returns at j is next after operations of which each thread has as many as have returned before
   return_next : (j t k : ℕ) (o : Outcome) (q : List SerialOp) → slice_get g j ≡ Some (Return t k o) → ((u : ℕ) → length (entries u q) ≡ length (outcomes u (take j g))) → CanComeNext g q (record { thread = t; outcome = as_serial o })
   return_next j t k o q at many =
       let fits = well j (Return t k o) at in

@@ -20,7 +20,7 @@ use Rattle.lu_tree.specs.Walks.{completes, one_complete}
 use Rattle.lu_tree.proofs.Walking.{AllEndSo, GoesOnBelow, kids_all, kids_more, kids_none, kids_turn, complete_counted}
 
 module _ (start : State) (Good : State → List Event → Type 0) (bound : ℕ) (sharing : Sharing) (events_of : ℕ → LastEvents) where
-  -- each complete schedule from s is good, behind h
+  -- each complete schedule from s is good, after h
   abbrev pub AreEndsGood : State → List Event → Type 0
   AreEndsGood s h = (v : List Move) (end : State) (k : List Event) → Leads s v end k → IsComplete end → Good end (h ++ k)
 

@@ -31,7 +31,7 @@ use Rattle.lu_judge.specs.Returned.{returned}
 use Rattle.lu_judge.proofs.Returning.{returned-append}
 use Rattle.lu_tree.specs.declared.tail_question.Judging.{Judging}
 use Rattle.lu_tree.specs.declared.tail_question.Judging.TheVariants.{OneVerdict, EveryOrder}
-use Rattle.lu_tree.specs.Tails.{CompletesWell, HasEveryOrder, HasNoCall, StartsBehind}
+use Rattle.lu_tree.specs.Tails.{CompletesWell, HasEveryOrder, HasNoCall, StartsAfter}
 use Rattle.lu_tree.proofs.ReturnOrders.{returned_entries, returned_witness}
 
 -- the operations of thread t are called and return alike
@@ -96,7 +96,7 @@ ending (m ∷ u) s ns sharing events_of tail end k leads complete t =
     within_some (x ∷ ns) zero n had = omega arith
     within_some (x ∷ ns) (suc t) n had = let rest = within_some ns t n had in omega arith
 
--- behind h, two histories without calls in which each thread's operations return alike
+-- after h, two histories without calls in which each thread's operations return alike
 module _ (h k g : List Event) (none : (t : ℕ) → calls t k ≡ 0) (alike : (t : ℕ) → IsAlike t k g) where
   part_same : (t : ℕ) → part t (h ++ k) ≡ part t (h ++ g)
   part_same t =
@@ -238,14 +238,14 @@ module _ (Set : List SerialOp → Type 0) (s : State) (h : List Event) (agree : 
 
   module _ (ns : List ℕ) (sharing : Sharing) (events_of : ℕ → LastEvents) (tail : IsTail s ns sharing events_of) (v : List Move) (b : State) (g : List Event) (leads : Leads s v b g) (complete : IsComplete b) where
     -- so one end that is judged well tells that each has a witness
-    pub one_for_all : (judging : Judging) → StartsBehind judging h → CompletesWell Set judging s h → HasWitness Set (h ++ g)
+    pub one_for_all : (judging : Judging) → StartsAfter judging h → CompletesWell Set judging s h → HasWitness Set (h ++ g)
     one_for_all judging behind one = by_judging judging behind one
       where
         all_alike : (u : List Move) (end : State) (k : List Event) → Leads s u end k → IsComplete end → (t : ℕ) → IsAlike t k g
         all_alike u end k to over t =
             alike_trans t k (last_events (events_of t) (get_or ns t 0)) g (ending u s ns sharing events_of tail end k to over t) (alike_back t g (last_events (events_of t) (get_or ns t 0)) (ending v s ns sharing events_of tail b g leads complete t))
 
-        by_judging : (judging : Judging) → StartsBehind judging h → CompletesWell Set judging s h → HasWitness Set (h ++ g)
+        by_judging : (judging : Judging) → StartsAfter judging h → CompletesWell Set judging s h → HasWitness Set (h ++ g)
         by_judging OneVerdict behind one =
             let alike = all_alike one.moves one.end one.events one.leads one.complete in
             (one.judged.0, one.judged.1, witness_same h one.events g (one.silent refl) alike one.judged.0 one.judged.2)

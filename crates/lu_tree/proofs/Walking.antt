@@ -19,7 +19,7 @@ use Rattle.lu_machine.proofs.Orders.{move_cases, same_move, smaller_asym, smalle
 use Rattle.lu_history.specs.declared.serial.SerialOp.{SerialOp}
 use Rattle.lu_witness.specs.Goodness.{IsGoodAt}
 use Rattle.lu_tree.specs.Trees.{Below}
-use Rattle.lu_tree.specs.Walks.{IsFirstAt, IsGoodBehind, no_schedule, one_complete, one_stuck, one_cut}
+use Rattle.lu_tree.specs.Walks.{IsFirstAt, IsGoodAfter, no_schedule, one_complete, one_stuck, one_cut}
 
 -- each schedule of the part that is ended within the bound ends so
 abbrev pub EndSo : (State → List Event → Type 0) → State → ℕ → (List Move → Type 0) → Type 0
@@ -271,7 +271,7 @@ module _ (start : State) (u : List Move) (s : State) (h : List Event) (at : Lead
     }
 
     -- the first schedule of a move that is not passed is the first of all, where those of the moves below it are good
-    pub kids_stop : (m : Move) → IsFeasible s m → (a : Counts) (w : List Move) (end : State) (k : List Event) → AllEndSo (IsGoodBehind Set []) start bound (GoesOnBelow u m) a → IsFirstAt Set start bound (Below (u ++ m ∷ [])) w end k → IsFirstAt Set start bound (Below u) w end k
+    pub kids_stop : (m : Move) → IsFeasible s m → (a : Counts) (w : List Move) (end : State) (k : List Event) → AllEndSo (IsGoodAfter Set []) start bound (GoesOnBelow u m) a → IsFirstAt Set start bound (Below (u ++ m ∷ [])) w end k → IsFirstAt Set start bound (Below u) w end k
     kids_stop m f a w end k x y = record {
       part = begins_shorter w u m y.part;
       short = y.short;

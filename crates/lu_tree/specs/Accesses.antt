@@ -2,7 +2,7 @@
 -- moves of different threads are independent where they don't.
 use Rattle.std.specs.Prelude.{◌≡◌, ◌≢◌, ℕ, ◌<◌, ◌==◌, ◌&&◌, ◌||◌, Bool, true, false, if◌then◌else◌, Option, Some, None, length, slice_get, option_and_then}
 use Rattle.std.specs.Option.{option_map}
-use Rattle.lu_component.specs.Component.{Declarations}
+use Rattle.lu_component.specs.Component.{Component}
 use Rattle.lu_component.specs.declared.instr.Instr.{Instr}
 use Rattle.lu_component.specs.declared.instr.Operand.{Operand}
 use Rattle.lu_component.specs.declared.instr.Instr.TheVariants.{Load, Store, Cas, Lock, Unlock, Await, AwaitNot}
@@ -26,11 +26,11 @@ abbrev pub of_lock : ℕ → Access
 of_lock l = record { location = location.Lock l; writes = true }
 
 -- the access of cell i of array w by an operation f: nothing where the array has no such cell
-abbrev pub cell_access : Bool → Declarations → Frame → ℕ → Operand → Option Access
+abbrev pub cell_access : Bool → Component → Frame → ℕ → Operand → Option Access
 cell_access writes c f w i = option_map (of_cell writes) (cell_of c w (value_of f i))
 
 -- what an instruction of the operation f accesses
-abbrev pub instr_access : Declarations → Frame → Instr → Option Access
+abbrev pub instr_access : Component → Frame → Instr → Option Access
 instr_access c f (Load to w i) = cell_access false c f w i
 instr_access c f (Store w i v) = cell_access true c f w i
 instr_access c f (Cas to w i old new) = cell_access true c f w i
@@ -40,7 +40,7 @@ instr_access c f (Lock l) = Some (of_lock l)
 instr_access c f (Unlock l) = Some (of_lock l)
 instr_access c f _ = None
 
-abbrev pub activity_access : Declarations → Activity → Option Access
+abbrev pub activity_access : Component → Activity → Option Access
 activity_access c Idle = None
 activity_access c (Open f) = option_and_then (instr_access c f) (instr_at c f.op f.place)
 

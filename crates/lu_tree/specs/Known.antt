@@ -42,8 +42,8 @@ Commute table t u s =
     × AreUnordered e f
 
 -- no operation of thread t is open, and k of them have ended
-abbrev pub IsIdleBehind : ℕ → ℕ → State → Type 0
-IsIdleBehind k t s = slice_get s.threads t ≡ Some (idle k)
+abbrev pub IsIdleAfter : ℕ → ℕ → State → Type 0
+IsIdleAfter k t s = slice_get s.threads t ≡ Some (idle k)
 
 -- the events of the only moves of t and of u have no more precedence in the other order
 abbrev pub AreFree : ℕ → ℕ → State → Type 0
@@ -66,21 +66,21 @@ HaveSameEvents there here =
     (there.first.event ≡ here.second.event) × (there.second.event ≡ here.first.event)
     × AreUnordered there.first.event there.second.event
 
--- the numbers of what goes on from a beginning, and what is known behind the only moves of threads
+-- the numbers of what goes on from a beginning, and what is known after the only moves of threads
 abbrev pub counts_of : Known → Counts
 counts_of known = (out-Known known).counts
 
 abbrev pub kids_of : Known → List (ℕ × Known)
 kids_of known = (out-Known known).kids.items
 
--- these numbers are known, and nothing behind a move
+-- these numbers are known, and nothing after a move
 abbrev pub TellsAlone : Counts → Known → Type 0
 TellsAlone counts known = (counts_of known ≡ counts) × (kids_of known ≡ [])
 
 abbrev pub IsKid : Known → ℕ → Known → Type 0
 IsKid known t below = Contains (kids_of known) (t, below)
 
--- what is known behind the move of thread t, by a hint; and by a hint or since it was walked
+-- what is known after the move of thread t, by a hint; and by a hint or since it was walked
 abbrev pub IsHint : Hints → ℕ → Known → Type 0
 IsHint hints t below =
     (b : Bor Known) × (slice_get hints.by_thread t ≡ Some (Some b)) × (b.now ≡ below)
@@ -96,8 +96,8 @@ IsHintOr t below old new =
 abbrev pub IsAmongOr : {A : Type 0} → A → List A → List A → Type 0
 IsAmongOr {A} one all some = (x : A) → Contains some x → Contains all x ⊎ (x ≡ one)
 
--- What is known below s, behind the history h, with no more than `left` moves: the schedules that
--- go on from there are good if they end, and these are their numbers; and so behind the only moves
+-- What is known below s, after the history h, with no more than `left` moves: the schedules that
+-- go on from there are good if they end, and these are their numbers; and so after the only moves
 -- of some threads.
 abbrev pub IsKnown : (List SerialOp → Type 0) → State → List Event → ℕ → Known → Type 0
 IsKnown Set s h zero known = AreBelow Set s h zero (counts_of known) × (kids_of known ≡ [])
@@ -119,15 +119,15 @@ KidsTellNoMore all some =
     (t : ℕ) (below : Known) → IsKid some t below
     → (more : Known) × IsKid all t more × TellsNoMore more below
 
--- what is known behind the only moves of threads
-abbrev pub AreKnownBehind : (List SerialOp → Type 0) → State → List Event → ℕ
+-- what is known after the only moves of threads
+abbrev pub AreKnownAfter : (List SerialOp → Type 0) → State → List Event → ℕ
     → (ℕ → Known → Type 0) → Type 0
-AreKnownBehind Set s h left IsTold =
+AreKnownAfter Set s h left IsTold =
     (t : ℕ) (below : Known) → IsTold t below
     → (next : State) (event : Option Event) → Moves t s next event
     → IsKnown Set next (h ++ with_event event []) left below
 
--- Where thread t moves first: each hint is of a move that commutes with that, and was known behind
+-- Where thread t moves first: each hint is of a move that commutes with that, and was known after
 -- it.
 abbrev pub AreFrom : DeadTable → State → Hints → Known → ℕ → Hints → Type 0
 AreFrom table s hints known t new =
@@ -143,5 +143,5 @@ IsKnownNode members node left known =
 abbrev pub AreHints : {T Place : Type 0} → (T → List (List SerialOp)) → Node T Place → ℕ → Hints
     → Type 0
 AreHints members node left hints =
-    AreKnownBehind (IsMember (members node.trail.tree)) node.machine node.trail.history left
+    AreKnownAfter (IsMember (members node.trail.tree)) node.machine node.trail.history left
     (IsHint hints)

@@ -1,6 +1,6 @@
 -- What the steps to a frontier promise one another.
 use Rattle.std.specs.Prelude.{◌≡◌, ℕ, ◌+◌, ◌<◌, List, [], ◌∷◌, ◌++◌, drop, length, map, min, Some, slice_get, Vec}
-use Rattle.lu_component.specs.Component.{Declarations}
+use Rattle.lu_component.specs.Component.{Component}
 use Rattle.lu_test.specs.declared.schedule.Move.{Move}
 use Rattle.lu_test.specs.Matrix.{Matrix}
 use Rattle.lu_machine.specs.declared.event.Event.{Event}
@@ -19,7 +19,7 @@ pub record AreMovesOf (s : State) (moves : List Move) : Type 0 where
   pub rising : (i j : ℕ) (m n : Move) → i < j → slice_get moves i ≡ Some m
       → slice_get moves j ≡ Some n → IsMoveBelow m n
 
--- the schedule with each of the moves behind it
+-- the schedule with each of the moves after it
 abbrev pub with_each : List Move → List Move → List (List Move)
 with_each p moves = map (λ m. p ++ m ∷ []) moves
 
@@ -58,10 +58,10 @@ AreDeeper s pieces next =
     (d : ℕ) → AreAll (IsPieceAt s d) pieces → AreAll (IsPieceAt s (d + 1)) next
 
 -- the frontier and the cover of the tree of a component and a matrix
-abbrev pub IsFrontierFrom : {Z : Type 0} → Declarations → Matrix → ℕ → ℕ → Vec (List Move) Z
+abbrev pub IsFrontierFrom : {Z : Type 0} → Component → Matrix → ℕ → ℕ → Vec (List Move) Z
     → Type 0
 IsFrontierFrom c matrix bound depth pieces =
     (s : State) → IsStart c matrix s → IsFrontier s (min bound depth) pieces.items
 
-abbrev pub IsCoverFrom : Declarations → Matrix → ℕ → List (List Move) → Type 0
+abbrev pub IsCoverFrom : Component → Matrix → ℕ → List (List Move) → Type 0
 IsCoverFrom c matrix bound pieces = (s : State) → IsStart c matrix s → IsCover s bound pieces

@@ -1,6 +1,6 @@
 -- What is found below a schedule, and the frontier of a tree of schedules.
 use Rattle.std.specs.Prelude.{◌≡◌, ℕ, ◌<◌, ◌≤◌, ◌⊎◌, Bool, true, false, List, length, Result, Ok, Err, IfOk}
-use Rattle.lu_component.specs.Component.{Declarations}
+use Rattle.lu_component.specs.Component.{Component}
 use Rattle.lu_test.specs.declared.schedule.Move.{Move}
 use Rattle.lu_test.specs.Matrix.{Matrix}
 use Rattle.lu_machine.specs.States.{State}
@@ -9,7 +9,7 @@ use Rattle.lu_machine.specs.Starts.{IsStart}
 use Rattle.lu_machine.specs.Tests.{IsStartOf}
 use Rattle.lu_machine.specs.Schedules.{BeginsWith, Reaches, IsSchedule, AreAll}
 use Rattle.lu_history.specs.declared.serial.SerialOp.{SerialOp}
-use Rattle.lu_witness.specs.Caches.{Remembered}
+use Rattle.lu_witness.specs.Caches.{Cache}
 use Rattle.lu_witness.specs.Witnesses.{IsMember}
 use Rattle.lu_witness.specs.Goodness.{IsFirstBad, AreAllGood}
 use Rattle.lu_tree.specs.declared.found.Found.{Found}
@@ -56,13 +56,13 @@ pub record IsFrontier (s : State) (most : ℕ) (pieces : List (List Move)) : Typ
 
 -- what is found from the start of the component and the matrix among the schedules that begin with
 -- `from`; and the same over the tree of a cache, unless the search was abandoned
-abbrev pub FindsBelow : {E : Type 0} → Declarations → Matrix → List (List SerialOp) → List Move → ℕ
+abbrev pub FindsBelow : {E : Type 0} → Component → Matrix → List (List SerialOp) → List Move → ℕ
     → Result Found E → Type 0
 FindsBelow c matrix members from bound result =
     (s : State) → IsStart c matrix s → IfOk result (IsFound (IsMember members) s bound (Below from))
 
-abbrev pub MayFindOver : {T E : Type 0} → Declarations → Matrix → (T → List (List SerialOp))
-    → Remembered T → List Move → ℕ → Result Found E → Type 0
+abbrev pub MayFindOver : {T E : Type 0} → Component → Matrix → (T → List (List SerialOp))
+    → Cache T → List Move → ℕ → Result Found E → Type 0
 MayFindOver c matrix members cache from bound result =
     (s : State) → IsStart c matrix s
     → IfOk result (IsFoundWatched (IsMember (members cache.tree)) s bound (Below from))

@@ -1,4 +1,4 @@
--- What a walk below a node leaves behind.
+-- What a walk below a node leaves after.
 use Rattle.std.specs.Prelude.{◌≡◌, ◌≤◌, ℕ, List, [], length, vec_capacity}
 use Rattle.lu_test.specs.declared.schedule.Move.{Move}
 use Rattle.lu_machine.specs.States.{progress}
@@ -8,7 +8,7 @@ use Rattle.lu_tree.specs.declared.found.Found.{Found}
 use Rattle.lu_tree.specs.declared.found.Found.TheVariants.{Clean, Bad, Abandoned}
 use Rattle.lu_tree.specs.declared.known.Known.{Known}
 use Rattle.lu_tree.specs.declared.node.Node.{Node}
-use Rattle.lu_tree.specs.declared.tally.WalkProgress.{WalkProgress}
+use Rattle.lu_tree.specs.declared.progress.WalkProgress.{WalkProgress}
 use Rattle.lu_tree.specs.Known.{IsKnownNode, counts_of, kids_of}
 use Rattle.lu_tree.specs.Walks.{IsBadEnd, IsCountOfNode, IsReadyToWalk}
 

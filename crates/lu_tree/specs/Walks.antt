@@ -15,7 +15,7 @@ use Rattle.lu_witness.specs.Goodness.{Any, IsGoodAt, IsWhyAt, AreGood}
 use Rattle.lu_witness.specs.Witnesses.{HasWitness, IsMember}
 use Rattle.lu_tree.specs.declared.node.Node.{Node}
 use Rattle.lu_tree.specs.declared.space.SearchSpace.{SearchSpace}
-use Rattle.lu_tree.specs.declared.tally.WalkProgress.{WalkProgress}
+use Rattle.lu_tree.specs.declared.progress.WalkProgress.{WalkProgress}
 use Rattle.lu_tree.specs.Reordered.{AreReordered}
 use Rattle.lu_tree.specs.Trees.{Below}
 
@@ -52,16 +52,16 @@ IsCountAtEnd Set s h counts =
     ⊎ ((IsComplete s × IsGoodAt Set s h × (counts ≡ one_complete))
     ⊎ (IsStuck s × IsGoodAt Set s h × (counts ≡ one_stuck)))
 
--- what ends so, with these events, is good behind h
-abbrev pub IsGoodBehind : (List SerialOp → Type 0) → List Event → State → List Event → Type 0
-IsGoodBehind Set h end events = IsGoodAt Set end (h ++ events)
+-- what ends so, with these events, is good after h
+abbrev pub IsGoodAfter : (List SerialOp → Type 0) → List Event → State → List Event → Type 0
+IsGoodAfter Set h end events = IsGoodAt Set end (h ++ events)
 
--- The schedules that go on from s, with no more than `left` moves, are good if they end, behind h
--- and so behind each reordered history; and these are their numbers.
+-- The schedules that go on from s, with no more than `left` moves, are good if they end, after h
+-- and so after each reordered history; and these are their numbers.
 pub record AreBelow (Set : List SerialOp → Type 0) (s : State) (h : List Event) (left : ℕ)
     (below : Counts) : Type 0 where
   pub good : (k : List Event) (u : List Move) → AreReordered h k → IsEndedWithin s left u
-      → Reaches s u (IsGoodBehind Set k)
+      → Reaches s u (IsGoodAfter Set k)
   pub numbers : AreNumbers s left Any below
 
 -- a schedule that ends here is not good, and why

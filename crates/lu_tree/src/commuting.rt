@@ -2,8 +2,8 @@
 //!
 //! Where the only moves of two threads lead to one state, whichever comes first (Mazurkiewicz,
 //! 1977), and the other order has no more precedence, the schedules below are the same in both
-//! orders, and good in the other where they are in the one. They are walked behind the one order,
-//! and counted behind both. Moves that access nothing of what the other changes are independent, so
+//! orders, and good in the other where they are in the one. They are walked after the one order,
+//! and counted after both. Moves that access nothing of what the other changes are independent, so
 //! they lead to one state; of others it is seen by making them in both orders. The states may
 //! differ in dead registers, which nothing reads any more.
 
@@ -12,7 +12,7 @@ ghost use Rattle.lu_machine.specs.States.{State as AState};
 ghost use Rattle.lu_machine.specs.Steps.{picks_of};
 ghost use Rattle.lu_machine.specs.Undoes.{CanTake, restored};
 ghost use Rattle.lu_tree.specs.Accesses.{HasLocation, conflict_of};
-ghost use Rattle.lu_tree.specs.Known.{AreFree, AreFrom, Commute, HaveSameEvents, IsIdleBehind, IsKnownBy, MadeBoth, MoveNotBoth, Moves, taken_back};
+ghost use Rattle.lu_tree.specs.Known.{AreFree, AreFrom, Commute, HaveSameEvents, IsIdleAfter, IsKnownBy, MadeBoth, MoveNotBoth, Moves, taken_back};
 ghost use Rattle.lu_tree.specs.Reordered.{AreUnordered};
 
 use crate::access::{Location, are_left_alike, conflict, left_at, next_access};
@@ -104,7 +104,7 @@ fn have_same_events(there: TwoUndos, here: TwoUndos) -> bool
 /// Whether no operation of the thread is open.
 #[inline(always)]
 fn is_idle(machine: &Machine<'_>, thread: u8) -> bool
-    ensures { (k : ℕ) → IsIdleBehind k thread machine.now → result ≡ true }
+    ensures { (k : ℕ) → IsIdleAfter k thread machine.now → result ≡ true }
 {
     match machine.standing(thread) {
         None => false,
@@ -199,7 +199,7 @@ fn commute<const RUNS_LOCAL: bool>(
     }
 }
 
-/// What is known behind the only move of the thread, by a hint or since it was walked.
+/// What is known after the only move of the thread, by a hint or since it was walked.
 #[inline(always)]
 fn behind<'h: 'k, 'k>(hints: &Hints<'h>, known: &'k Known, thread: u8) -> Option<&'k Known>
     ensures { IfSome result (λ below. IsKnownBy hints.now known.now thread below.now) }
@@ -210,9 +210,9 @@ fn behind<'h: 'k, 'k>(hints: &Hints<'h>, known: &'k Known, thread: u8) -> Option
     }
 }
 
-/// What is known behind the moves of other threads that commute with that of the thread, where this
+/// What is known after the moves of other threads that commute with that of the thread, where this
 /// one is made first.
-pub(crate) fn hints_behind<'h: 'k, 'k, const RUNS_LOCAL: bool>(
+pub(crate) fn hints_after<'h: 'k, 'k, const RUNS_LOCAL: bool>(
     thread: u8,
     hints: &Hints<'h>,
     known: &'k Known,

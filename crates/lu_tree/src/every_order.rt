@@ -2,7 +2,7 @@
 
 ghost use Rattle.std.specs.Prelude.{◌≡◌, ◌≢◌, ◌<◌, ◌+◌, [], ◌∷◌, ◌++◌, IfOk, IfSome, IsTrue, length, take, drop};
 ghost use Rattle.lu_witness.specs.Witnesses.{IsMember, entries};
-ghost use Rattle.lu_tree.specs.Tails.{HasEveryOrder, HasOrders, IsLedTo, IsPlaceBehind};
+ghost use Rattle.lu_tree.specs.Tails.{HasEveryOrder, HasOrders, IsLedTo, IsPlaceAfter};
 
 use lu_history::SerialOp;
 use lu_judge::Trail;
@@ -50,9 +50,9 @@ fn kid_with<T: SerialTree>(tree: &T, place: T::Place, label: SerialOp) -> Option
 }
 
 /// The place to which the operations lead from the root.
-fn place_behind<T: SerialTree>(tree: &T, ops: &[SerialOp]) -> Option<T::Place>
+fn place_after<T: SerialTree>(tree: &T, ops: &[SerialOp]) -> Option<T::Place>
     ensures place { IfSome result (T.is_place tree.now) }
-    ensures behind { IfSome result (IsPlaceBehind (T.below tree.now) ops.now (T.members tree.now)) }
+    ensures behind { IfSome result (IsPlaceAfter (T.below tree.now) ops.now (T.members tree.now)) }
 {
     let mut place = tree.root();
     for op in ops {
@@ -96,7 +96,7 @@ fn has_every_order<T: SerialTree>(
     true
 }
 
-/// Whether the tree has the operations of the history in every order behind the first so many to
+/// Whether the tree has the operations of the history in every order after the first so many to
 /// return.
 pub(crate) fn has_orders<'t, T: SerialTree>(
     alloc: Global,
@@ -113,7 +113,7 @@ pub(crate) fn has_orders<'t, T: SerialTree>(
     if ops.len() < first {
         return false;
     }
-    let Some(place) = place_behind(tree, &ops[..first]) else {
+    let Some(place) = place_after(tree, &ops[..first]) else {
         return false;
     };
     let mut room = MOST_PLACES;

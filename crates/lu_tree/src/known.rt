@@ -4,7 +4,7 @@ ghost use Rattle.std.specs.Prelude.{◌≡◌, ◌<◌, [], IfSome};
 ghost use Rattle.lu_machine.specs.Sums.{plus};
 ghost use Rattle.lu_tree.specs.Known.{IsAmongOr, IsHint, IsHintOr, IsKid, TellsNoMore, counts_of, kids_of};
 
-use crate::threads::Threads;
+use crate::thread_set::ThreadSet;
 use lu_machine::Counts;
 use std::alloc::Global;
 
@@ -20,11 +20,11 @@ pub(crate) struct Known {
     /// Of how many beginnings it tells.
     pub(crate) size: u32,
 
-    /// What is known behind the only moves of some threads.
+    /// What is known after the only moves of some threads.
     kids: Vec<(u8, Known)>,
 }
 
-/// What is known behind the only moves of some threads.
+/// What is known after the only moves of some threads.
 #[derive(Clone, Copy)]
 pub(crate) struct Hints<'k> {
     by_thread: [Option<&'k Known>; 8],
@@ -36,7 +36,7 @@ impl<'k> Hints<'k> {
         by_thread: [None; 8],
     };
 
-    /// What is known behind the only move of the thread.
+    /// What is known after the only move of the thread.
     #[inline(always)]
     pub(crate) fn behind(&self, thread: u8) -> Option<&'k Known>
         ensures { IfSome result (λ below. IsHint self.now thread below.now) }
@@ -49,7 +49,7 @@ impl<'k> Hints<'k> {
 
     /// The same of a thread with so many moves.
     #[inline(always)]
-    pub(crate) fn behind_one_of(&self, picks: u8, thread: u8) -> Option<&'k Known>
+    pub(crate) fn after_one_of(&self, picks: u8, thread: u8) -> Option<&'k Known>
         ensures only { IfSome result (λ _. picks ≡ 1) }
         ensures hint { IfSome result (λ below. IsHint self.now thread below.now) }
     {
@@ -60,7 +60,7 @@ impl<'k> Hints<'k> {
         }
     }
 
-    /// This is known behind the only move of the thread.
+    /// This is known after the only move of the thread.
     #[inline(always)]
     pub(crate) fn add(&mut self, thread: u8, below: &'k Known)
         requires { thread < 8 }
@@ -84,7 +84,7 @@ impl Known {
         }
     }
 
-    /// What is known behind the only move of the thread.
+    /// What is known after the only move of the thread.
     pub(crate) fn behind(&self, thread: u8) -> Option<&Known>
         ensures { IfSome result (λ below. IsKid self.now thread below.now) }
     {
@@ -104,7 +104,7 @@ impl Known {
         self.counts = self.counts.plus(below);
     }
 
-    /// Keeps what is known behind a move of a thread with so many moves: where it is the only one,
+    /// Keeps what is known after a move of a thread with so many moves: where it is the only one,
     /// and memory is not refused.
     pub(crate) fn keep(&mut self, picks: u8, thread: u8, below: Known)
         ensures counts { counts_of self.new ≡ counts_of self.old }
@@ -144,7 +144,7 @@ impl Known {
 
     /// What it tells of beginnings that are no more than so many moves longer, and in which some of
     /// these threads have not moved.
-    fn within(self, alloc: Global, moves: u8, waiting: Threads) -> Known
+    fn within(self, alloc: Global, moves: u8, waiting: ThreadSet) -> Known
         ensures { TellsNoMore self result }
     {
         let mut known = Known::alone(alloc, self.counts);
@@ -163,9 +163,9 @@ impl Known {
 
     /// What of it a walk keeps as it comes back from a beginning in which these threads moved:
     /// where all would take too much of the room, what may be asked for, and of that the shortest
-    /// beginnings alone. For what is known behind a thread's move is asked for as long as that
+    /// beginnings alone. For what is known after a thread's move is asked for as long as that
     /// thread does not move again, so nothing is where all of these have.
-    pub(crate) fn keep_nearest(self, alloc: Global, room: u32, moved: Threads) -> Known
+    pub(crate) fn keep_nearest(self, alloc: Global, room: u32, moved: ThreadSet) -> Known
         ensures { TellsNoMore self result }
     {
         let most = room / SHARE;

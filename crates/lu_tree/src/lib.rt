@@ -19,20 +19,20 @@
 #![tactic(auto)]
 
 mod access;
-mod ahead;
 mod commuting;
 mod every_order;
 mod found;
 mod known;
+mod lookahead;
 mod node;
 mod pieces;
+mod progress;
 mod searching;
 mod space;
 mod tables;
 mod tail;
 mod tail_question;
-mod tally;
-mod threads;
+mod thread_set;
 mod walk;
 mod watch;
 

@@ -30,7 +30,7 @@ fn extend(alloc: Global, piece: &Schedule, next: Move) -> Result<Schedule, Alloc
     Ok(Schedule::new(longer))
 }
 
-/// Adds to `next` the piece with each move of the machine behind it, or the piece itself where
+/// Adds to `next` the piece with each move of the machine after it, or the piece itself where
 /// there is none.
 fn add_kids(
     alloc: Global,

@@ -16,12 +16,12 @@ ghost use Rattle.lu_tree.specs.Trees.{CanSearch, FindsBelow, MayFind, MayFindOve
 ghost use Rattle.lu_tree.specs.Walked.{IsBadFound};
 ghost use Rattle.lu_tree.specs.Walks.{IsScheduleIn, LeadsToNode};
 
-use crate::ahead::Ahead;
 use crate::found::Found;
+use crate::lookahead::Lookahead;
 use crate::node::Node;
+use crate::progress::WalkProgress;
 use crate::space::SearchSpace;
 use crate::tables::Tables;
-use crate::tally::WalkProgress;
 use crate::walk::walk;
 use crate::watch::{Unwatched, Watch};
 use lu_component::Component;
@@ -114,7 +114,7 @@ pub fn search_with<'t, T: SerialTree, W: Watch>(
     let moves = from.moves();
     let mut node = node_after(space, cache.tree(), moves)?;
     let left = space.bound - moves.len() as u16;
-    let ahead = Ahead {
+    let ahead = Lookahead {
         alloc: space.alloc,
         tables,
         most: left,

@@ -6,12 +6,12 @@ ghost use Rattle.lu_history.specs.Standing.{Agree};
 ghost use Rattle.lu_witness.specs.Caches.{SameButEntries};
 ghost use Rattle.lu_machine.specs.Ends.{IsFinished};
 ghost use Rattle.lu_tree.specs.declared.tail_question.Judging.TheVariants.{OneVerdict};
-ghost use Rattle.lu_tree.specs.Tails.{StartsBehind, IsCutBelow, IsGoodTailOf, IsJudgedEnd, IsRestOf, IsRestOfNone, MayMove, RespectsSharing, sharing_of};
+ghost use Rattle.lu_tree.specs.Tails.{StartsAfter, IsCutBelow, IsGoodTailOf, IsJudgedEnd, IsRestOf, IsRestOfNone, MayMove, RespectsSharing, sharing_of};
 ghost use Rattle.lu_tree.specs.Tables.{ServesAhead};
 ghost use Rattle.lu_tree.specs.Walks.{AreBelowNode};
 
-use crate::ahead::Ahead;
 use crate::every_order::has_orders;
+use crate::lookahead::Lookahead;
 use crate::node::Node;
 use crate::tail_question::{Judging, TailQuestion};
 use lu_horizon::{Sharers, is_unseen_at, only_reads_at, stand_at};
@@ -130,7 +130,7 @@ fn no_moves<'t, T: SerialTree>(
     }
 }
 
-/// Runs thread `t` and those behind it to their ends, one after the other, and takes it back. Where
+/// Runs thread `t` and those after it to their ends, one after the other, and takes it back. Where
 /// that is all that the order of their moves could change, and the end is good, it returns how many
 /// moves each thread makes: none where it is not certain, or takes more than `left` moves, or a
 /// thread touches more than it may.
@@ -171,12 +171,12 @@ fn finish<'t, const RUNS_LOCAL: bool, T: SerialTree>(
 
 /// What to ask of the moves below the node, where a question may serve.
 fn question_at<'t, T: SerialTree>(
-    ahead: &Ahead<'_>,
+    ahead: &Lookahead<'_>,
     left: usize,
     node: &mut Node<'_, 't, T>,
 ) -> Option<TailQuestion>
     ensures same { node.new ≡ node.old }
-    ensures behind { IfSome result (λ q. StartsBehind q.judging node.old.trail.history) }
+    ensures behind { IfSome result (λ q. StartsAfter q.judging node.old.trail.history) }
 {
     if let Some(sharers) = ahead.tables.horizon.last_sharers(&node.machine, left) {
         return Some(TailQuestion {
@@ -201,7 +201,7 @@ fn question_at<'t, T: SerialTree>(
 /// are: none where that is not certain.
 fn complete_below<'t, const RUNS_LOCAL: bool, T: SerialTree>(
     cache: &mut Cache<'t, T>,
-    ahead: &Ahead<'_>,
+    ahead: &Lookahead<'_>,
     left: usize,
     node: &mut Node<'_, 't, T>,
 ) -> Option<u64>
@@ -219,7 +219,7 @@ fn complete_below<'t, const RUNS_LOCAL: bool, T: SerialTree>(
 
 /// Where no schedule from the machine's state ends within `left` moves, how many are cut: none
 /// where that is not certain.
-fn cut_below(ahead: &Ahead<'_>, left: usize, machine: &Machine<'_>) -> Option<u64>
+fn cut_below(ahead: &Lookahead<'_>, left: usize, machine: &Machine<'_>) -> Option<u64>
     ensures { ServesAhead ahead.now machine.now → IfSome result (IsCutBelow machine.now left) }
 {
     let caps = ahead.tables.horizon.caps(machine, left)?;
@@ -230,7 +230,7 @@ fn cut_below(ahead: &Ahead<'_>, left: usize, machine: &Machine<'_>) -> Option<u6
 /// and good. None where neither is certain.
 pub(crate) fn counted_below<'t, const RUNS_LOCAL: bool, T: SerialTree>(
     cache: &mut Cache<'t, T>,
-    ahead: &Ahead<'_>,
+    ahead: &Lookahead<'_>,
     left: u16,
     node: &mut Node<'_, 't, T>,
 ) -> Option<Counts>

@@ -11,13 +11,13 @@ ghost use Rattle.lu_tree.specs.Tables.{ServesAhead};
 ghost use Rattle.lu_tree.specs.Walked.{IsCountedAlone, Passed, StaysBelow};
 ghost use Rattle.lu_tree.specs.Walks.{IsReadyToWalk, Stopped};
 
-use crate::ahead::Ahead;
-use crate::commuting::hints_behind;
+use crate::commuting::hints_after;
 use crate::known::{Hints, Known};
+use crate::lookahead::Lookahead;
 use crate::node::Node;
+use crate::progress::WalkProgress;
 use crate::tail::counted_below;
-use crate::tally::WalkProgress;
-use crate::threads::Threads;
+use crate::thread_set::ThreadSet;
 use crate::watch::Watch;
 use lu_machine::{Counts, Status};
 use lu_test::Move;
@@ -34,14 +34,14 @@ struct Visit<'h> {
     /// How many moves are left.
     left: u16,
 
-    /// What is known behind the only moves of some threads.
+    /// What is known after the only moves of some threads.
     hints: Hints<'h>,
 
     /// Of how many beginnings what is known may be kept.
     room: u32,
 
     /// The threads that have moved already.
-    moved: Threads,
+    moved: ThreadSet,
 }
 
 /// Ends a schedule here, which is cut, or is ended and has to be good. Returns what is then known:
@@ -125,7 +125,7 @@ fn pass<W: Watch>(
 pub(crate) fn walk<'a, 't, T: SerialTree, W: Watch>(
     cache: &mut Cache<'t, T>,
     watch: &mut W,
-    ahead: &Ahead<'_>,
+    ahead: &Lookahead<'_>,
     left: u16,
     node: &mut Node<'a, 't, T>,
     tally: &mut WalkProgress,
@@ -149,7 +149,7 @@ pub(crate) fn walk<'a, 't, T: SerialTree, W: Watch>(
         left,
         hints: Hints::NONE,
         room: MOST_BEGINNINGS,
-        moved: Threads::NONE,
+        moved: ThreadSet::NONE,
     };
     if node.machine.local() == 0 {
         walk_as::<false, T, W>(cache, watch, ahead, &first, node, tally)
@@ -158,12 +158,12 @@ pub(crate) fn walk<'a, 't, T: SerialTree, W: Watch>(
     }
 }
 
-/// Walks as [`walk`] does, but counts what is known behind a thread's only move by a hint. With
+/// Walks as [`walk`] does, but counts what is known after a thread's only move by a hint. With
 /// `RUNS_LOCAL` false no local instructions run with a move.
 fn walk_as<'a, 't, const RUNS_LOCAL: bool, T: SerialTree, W: Watch>(
     cache: &mut Cache<'t, T>,
     watch: &mut W,
-    ahead: &Ahead<'_>,
+    ahead: &Lookahead<'_>,
     visit: &Visit<'_>,
     node: &mut Node<'a, 't, T>,
     tally: &mut WalkProgress,
@@ -198,7 +198,7 @@ fn walk_as<'a, 't, const RUNS_LOCAL: bool, T: SerialTree, W: Watch>(
         let picks = node.machine.picks(thread);
         for pick in 0..picks {
             is_ended = false;
-            if let Some(hinted) = visit.hints.behind_one_of(picks, thread) {
+            if let Some(hinted) = visit.hints.after_one_of(picks, thread) {
                 if !tally.pass_many(hinted.counts, watch) {
                     return None;
                 }
@@ -209,7 +209,7 @@ fn walk_as<'a, 't, const RUNS_LOCAL: bool, T: SerialTree, W: Watch>(
             let hints = &visit.hints;
             let further = Visit {
                 left: left - 1,
-                hints: hints_behind::<RUNS_LOCAL>(thread, hints, &known, dead, &mut node.machine),
+                hints: hints_after::<RUNS_LOCAL>(thread, hints, &known, dead, &mut node.machine),
                 room: visit.room.saturating_sub(known.size),
                 moved: visit.moved.with(thread),
             };

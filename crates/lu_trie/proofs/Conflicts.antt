@@ -81,7 +81,7 @@ some_member : (xs : List (List SerialOp)) → xs ≢ [] → (q : List SerialOp) 
 some_member [] full = absurd (full refl)
 some_member (x ∷ xs) full = (x, ap (λ b. b || contains xs x) (histories_equiv.refl x))
 
--- the branch behind whose label a member stands
+-- the branch after whose label a member stands
 record Under (bs : List Branch) (p : SerialOp) (q : List SerialOp) (d : Branch) : Type 0 where
   pub place : ℕ
   pub in_range : place < length bs
@@ -110,8 +110,8 @@ decide_ops a b P f g =
     go (same_op a b) refl
 
 module _ (ends : Bool) (bs : List Branch) (are : AreBranches bs) where
-  member_behind : (i : ℕ) (d : Branch) → i < length bs → (at : IsBranchAt bs (get_or bs i d).0 i) → (q : List SerialOp) → contains (get_or bs i d).1 q ≡ true → contains (members_from ends bs) ((get_or bs i d).0 ∷ q) ≡ true
-  member_behind i d lt at q h = node-cons ends bs (get_or bs i d).0 q ∙ kids-at bs (get_or bs i d).0 i d are.rise at q ∙ h
+  member_after : (i : ℕ) (d : Branch) → i < length bs → (at : IsBranchAt bs (get_or bs i d).0 i) → (q : List SerialOp) → contains (get_or bs i d).1 q ≡ true → contains (members_from ends bs) ((get_or bs i d).0 ∷ q) ≡ true
+  member_after i d lt at q h = node-cons ends bs (get_or bs i d).0 q ∙ kids-at bs (get_or bs i d).0 i d are.rise at q ∙ h
 
   apart_under : (op : SerialOp) (rest : List SerialOp) → All (λ (k : Branch). k.0.thread ≢ op.thread) bs → (b : SerialOp) (q : List SerialOp) → contains (members_from ends bs) (b ∷ q) ≡ true → b.thread ≢ op.thread
   apart_under op rest none b q mem same =
@@ -153,14 +153,14 @@ module _ (ends : Bool) (bs : List Branch) (are : AreBranches bs) where
         absurd (det (b ∷ q) (kid.0 ∷ example.0) 0 kid.0.outcome mem (under_kid example.0 example.1) (thread ∙ ap (λ (x : SerialOp). x.thread) (sym c.0), (λ e. differs (e ∙ ap (λ (x : SerialOp). x.outcome) c.0)), refl))
 
     -- the same outcome
-    pub conflict_behind : kid.0 ≡ op → (j : ℕ) (o : SerialOutcome) → HasDivergence kid.1 rest j o → HasDivergence (members_from ends bs) (op ∷ rest) (suc j) o
-    conflict_behind same j o (q, mem, c) = (kid.0 ∷ q, under_kid q mem, (same, c))
+    pub conflict_after : kid.0 ≡ op → (j : ℕ) (o : SerialOutcome) → HasDivergence kid.1 rest j o → HasDivergence (members_from ends bs) (op ∷ rest) (suc j) o
+    conflict_after same j o (q, mem, c) = (kid.0 ∷ q, under_kid q mem, (same, c))
 
-    pub conflict_only_behind : kid.0 ≡ op → (j : ℕ) (o : SerialOutcome) → HasDivergence (members_from ends bs) (op ∷ rest) j o → (k : ℕ) × (j ≡ suc k) × HasDivergence kid.1 rest k o
-    conflict_only_behind same j o ([], mem, c) = absurd c
-    conflict_only_behind same zero o (b ∷ q, mem, c) =
+    pub conflict_only_after : kid.0 ≡ op → (j : ℕ) (o : SerialOutcome) → HasDivergence (members_from ends bs) (op ∷ rest) j o → (k : ℕ) × (j ≡ suc k) × HasDivergence kid.1 rest k o
+    conflict_only_after same j o ([], mem, c) = absurd c
+    conflict_only_after same zero o (b ∷ q, mem, c) =
         absurd (det (kid.0 ∷ example.0) (b ∷ q) 0 b.outcome (under_kid example.0 example.1) mem (c.0 ∙ sym thread, (λ e. c.1 (e ∙ ap (λ (x : SerialOp). x.outcome) same)), refl))
-    conflict_only_behind same (suc j) o (b ∷ q, mem, c) =
+    conflict_only_after same (suc j) o (b ∷ q, mem, c) =
         (j, refl, (q, ap (λ (k : Branch). contains k.1 q) read ∙ sym (kids-at bs kid.0 i kid are.rise at q) ∙ sym (node-cons ends bs kid.0 q) ∙ ap (λ p. contains (members_from ends bs) (p ∷ q)) (same ∙ sym c.0) ∙ mem, c.1))
 
 -- r is where the history diverges from members
@@ -208,21 +208,21 @@ module _ (ends : Bool) (bs : List Branch) (are : AreBranches bs) (h : List Seria
       same : kid.0 ≡ get_or h 0 d
       same = ap (λ t. entry t kid.0.outcome) thread ∙ ap (entry (get_or h 0 d).thread) outcome
 
-      behind_only : (j : ℕ) (o : SerialOutcome) → HasDivergence (members_from ends bs) h j o → (k : ℕ) × (j ≡ suc k) × HasDivergence kid.1 (rest_of h) k o
-      behind_only j o has = conflict_only_behind ends bs are det i kid lt read (get_or h 0 d) (rest_of h) thread same j o (subst (λ x. HasDivergence (members_from ends bs) x j o) parts has)
+      after_only : (j : ℕ) (o : SerialOutcome) → HasDivergence (members_from ends bs) h j o → (k : ℕ) × (j ≡ suc k) × HasDivergence kid.1 (rest_of h) k o
+      after_only j o has = conflict_only_after ends bs are det i kid lt read (get_or h 0 d) (rest_of h) thread same j o (subst (λ x. HasDivergence (members_from ends bs) x j o) parts has)
 
       pub tells_same_none : (r s : Option (ℕ × SerialOutcome)) → r ≡ None → s ≡ None → TellsDivergence s kid.1 (rest_of h) → TellsDivergence r (members_from ends bs) h
       tells_same_none r s r_is s_is below j o = (
         (λ e. (let u : ◌≡◌ {A = Option (ℕ × SerialOutcome)} None (Some (j, o)) = sym r_is ∙ e in cc)),
-        λ has. (let b = behind_only j o has in let u : ◌≡◌ {A = Option (ℕ × SerialOutcome)} None (Some (b.0, o)) = sym s_is ∙ (below b.0 o).1 b.2 in cc),
+        λ has. (let b = after_only j o has in let u : ◌≡◌ {A = Option (ℕ × SerialOutcome)} None (Some (b.0, o)) = sym s_is ∙ (below b.0 o).1 b.2 in cc),
       )
 
       pub tells_same_some : (s : Option (ℕ × SerialOutcome)) (k : ℕ) (p : SerialOutcome) → s ≡ Some (k, p) → TellsDivergence s kid.1 (rest_of h) → TellsDivergence (Some (k + 1, p)) (members_from ends bs) h
       tells_same_some s k p s_is below j o = (
         (λ e. subst (λ x. HasDivergence (members_from ends bs) x j o) (sym parts)
             (subst (λ n. HasDivergence (members_from ends bs) (get_or h 0 d ∷ rest_of h) n o) (sym (add-one k) ∙ place_is _ _ _ _ e)
-            (conflict_behind ends bs are det i kid lt read (get_or h 0 d) (rest_of h) thread same k o ((below k o).0 (s_is ∙ some_is k k p o refl (outcome_is _ _ _ _ e)))))),
-        λ has. (let b = behind_only j o has in let e = sym s_is ∙ (below b.0 o).1 b.2 in
+            (conflict_after ends bs are det i kid lt read (get_or h 0 d) (rest_of h) thread same k o ((below k o).0 (s_is ∙ some_is k k p o refl (outcome_is _ _ _ _ e)))))),
+        λ has. (let b = after_only j o has in let e = sym s_is ∙ (below b.0 o).1 b.2 in
             some_is (k + 1) j p o (add-one k ∙ ap suc (place_is _ _ _ _ e) ∙ sym b.1) (outcome_is _ _ _ _ e)),
       )
 

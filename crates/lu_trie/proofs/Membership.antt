@@ -59,7 +59,7 @@ set_step : (e s o r : Bool) → ((e && (s || o)) || r) ≡ ((e && s) || ((e && o
 set_step true s o r = or_assoc s o r
 set_step false s o r = refl
 
--- a kid has the history behind its label
+-- a kid has the history after its label
 abbrev pub kids_contain : List (Branch) → SerialOp → List SerialOp → Bool
 kids_contain [] p q = false
 kids_contain (kid ∷ kids) p q = (same_op p kid.0 && contains kid.1 q) || kids_contain kids p q

@@ -24,8 +24,8 @@ serial_rest (op ∷ h) s = subst IsSerial (sym (take_all (length (op ∷ h) - 1)
 abbrev pub no_op : SerialOp
 no_op = record { thread = 0; outcome = Ret 0 }
 
-pub one_behind_serial : (ends : Bool) (h : List SerialOp) (below : List (List SerialOp)) → 1 ≤ length h → ends ≡ false → below ≡ rest_of h ∷ [] → IsSerial h → AllSerial (members_from ends ((get_or h 0 no_op, below) ∷ []))
-one_behind_serial ends h below some none one s =
+pub one_after_serial : (ends : Bool) (h : List SerialOp) (below : List (List SerialOp)) → 1 ≤ length h → ends ≡ false → below ≡ rest_of h ∷ [] → IsSerial h → AllSerial (members_from ends ((get_or h 0 no_op, below) ∷ []))
+one_after_serial ends h below some none one s =
     one_serial _ h (ap (λ e. members_from e ((get_or h 0 no_op, below) ∷ [])) none ∙ ap (λ hs. members_from false ((get_or h 0 no_op, hs) ∷ [])) one ∙ ap (λ x. x ∷ []) (sym (first_and_rest h no_op some))) s
 
 pub serial_adds : (old new : List (List SerialOp)) (h : List SerialOp) → IsSerial h → AllSerial old → Adds old new h → AllSerial new

@@ -8,14 +8,14 @@ use Rattle.lu_history.specs.declared.serial.SerialOp.{SerialOp}
 use Rattle.lu_history.specs.Order.{op_cmp}
 use Rattle.lu_trie.specs.Members.{contains, same_op, behind, empty_if, AllSerial}
 
--- a label, and the histories behind it
+-- a label, and the histories after it
 abbrev pub Branch : Type 0
 Branch = SerialOp × List (List SerialOp)
 
 abbrev pub labels : List Branch → List SerialOp
 labels branches = map (λ branch. branch.0) branches
 
--- the histories of the branches, each behind its label
+-- the histories of the branches, each after its label
 abbrev pub joined : List Branch → List (List SerialOp)
 joined [] = []
 joined (branch ∷ branches) = behind branch.0 branch.1 ++ joined branches
@@ -52,7 +52,7 @@ branches_of [] = []
 branches_of ([] ∷ histories) = branches_of histories
 branches_of ((op ∷ history) ∷ histories) = with_first op history (branches_of histories)
 
--- the members are the empty history, where it is one, and those of the branches, each behind its
+-- the members are the empty history, where it is one, and those of the branches, each after its
 -- label
 pub record IsBranching (histories : List (List SerialOp)) : Type 0 where
   pub parted : histories ≡ members_from (contains histories []) (branches_of histories)

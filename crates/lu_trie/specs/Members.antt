@@ -35,7 +35,7 @@ Adds old new history =
     (other : List SerialOp)
     → contains new other ≡ (same_history other history || contains old other)
 
--- each history behind the entry
+-- each history after the entry
 abbrev pub behind : SerialOp → List (List SerialOp) → List (List SerialOp)
 behind op histories = map (λ history. op ∷ history) histories
 

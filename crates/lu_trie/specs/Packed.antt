@@ -5,7 +5,7 @@ use Rattle.lu_trie.specs.declared.packed.PackedNode.{PackedNode}
 use Rattle.lu_trie.specs.Members.{AllSerial}
 use Rattle.lu_trie.specs.Branches.{Branch, members_from, AreBranches}
 
--- a label, and the place of the node behind it
+-- a label, and the place of the node after it
 abbrev pub Link : Type 0
 Link = SerialOp × ℕ
 

@@ -110,7 +110,7 @@ impl<A: Allocator + Clone> PackedTrie<A> {
     ///
     /// # Errors
     ///
-    /// Want of memory.
+    /// Memory was refused.
     pub fn pack<B: Allocator>(alloc: A, trie: &Trie<B>) -> Result<PackedTrie<A>, AllocError>
         ensures { IfOk result (λ packed. members_of packed ≡ trie.now) }
     {

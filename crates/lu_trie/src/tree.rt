@@ -14,7 +14,7 @@ use std::alloc::Allocator;
 /// The laws that are asked of a tree, at each of its places:
 ///
 /// - the members below the place are the empty history, where the place ends one, and those below
-///   its kids, in the order of the kids and each behind its kid's label;
+///   its kids, in the order of the kids and each after its kid's label;
 /// - the labels of the kids rise strictly, by thread and then by outcome;
 /// - below each kid there is a member.
 ///
@@ -62,7 +62,7 @@ pub trait SerialTree {
         ensures kid { IsBranchOf (below self.now place) i (result.0, below self.now result.1) };
 
     /// The laws: what is below a place is the empty history, where the place ends one, and what is
-    /// below its kids, each behind its label; the labels rise strictly; and below each kid there is
+    /// below its kids, each after its label; the labels rise strictly; and below each kid there is
     /// a member.
     ghost branching: { (tree : Self) (place : Self.Place) →
         is_place tree place → IsBranching (below tree place) };

@@ -133,7 +133,7 @@ impl<A: Allocator + Clone> Trie<A> {
     ///
     /// # Errors
     ///
-    /// Want of memory. The set then stays as it was: the nodes of the new operations are built
+    /// Memory was refused. The set then stays as it was: the nodes of the new operations are built
     /// first, and linked by one growth.
     pub fn insert(&mut self, history: &[SerialOp]) -> Result<bool, AllocError>
         requires { IsSerial history.now }

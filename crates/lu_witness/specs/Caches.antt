@@ -20,7 +20,7 @@ abbrev pub shown : Vec Event × Verdict → List Event × Verdict
 shown entry = (entry.0.items, entry.1)
 
 -- a cache, as contracts see it: its tree, and the entries, the most recently used first
-pub record Remembered (T : Type 0) : Type 0 where
+pub record Cache (T : Type 0) : Type 0 where
   pub tree : T
   pub kept : LruCache (List Event) Verdict
 
@@ -46,16 +46,16 @@ LooksUp same events old new v =
     × (new ≡ lru_cache (promoted (pointwise same events) old.entries) old.cap))
 
 -- the verdict v of the events is put into the cache, unless there is no memory for that
-abbrev pub IsKept : {T : Type 0} → (Event → Event → Bool) → List Event → Remembered T
-    → Remembered T → Verdict → Type 0
+abbrev pub IsKept : {T : Type 0} → (Event → Event → Bool) → List Event → Cache T
+    → Cache T → Verdict → Type 0
 IsKept same events old new v = IsPut same events old.kept new.kept v
 
 -- the cache was asked for the verdict of the events, which is v
-abbrev pub Recalls : {T : Type 0} → (Event → Event → Bool) → List Event → Remembered T
-    → Remembered T → Verdict → Type 0
+abbrev pub Recalls : {T : Type 0} → (Event → Event → Bool) → List Event → Cache T
+    → Cache T → Verdict → Type 0
 Recalls same events old new v = LooksUp same events old.kept new.kept v
 
 -- the tree and the capacity are as before; the entries may be others
-pub record SameButEntries {T : Type 0} (old new : Remembered T) : Type 0 where
+pub record SameButEntries {T : Type 0} (old new : Cache T) : Type 0 where
   pub tree_is : new.tree ≡ old.tree
   pub capacity : new.kept.cap ≡ old.kept.cap

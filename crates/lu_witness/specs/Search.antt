@@ -46,7 +46,7 @@ FindsEnd Set taken h found =
     (p : List SerialOp) → AreTaken p taken → IsBeginning h p
     → IsTrue found ↔ (Set [] × IsWitness p h)
 
--- whether the operation is next behind those of which so many are taken
+-- whether the operation is next after those of which so many are taken
 abbrev pub TellsNext : List ℕ → List Event → SerialOp → Bool → Type 0
 TellsNext taken h op found =
     (p : List SerialOp) → AreTaken p taken → IsTrue found ↔ CanComeNext h p op

@@ -27,9 +27,9 @@ pub struct Cache<'t, T: SerialTree> {
 impl<'t, T: SerialTree> Model for Cache<'t, T> {
     ghost use Rattle.std.specs.Prelude.{map};
     ghost use Rattle.lru.specs.LruCache.{lru_cache};
-    ghost use Rattle.lu_witness.specs.Caches.{AreRight, Remembered, shown};
+    ghost use Rattle.lu_witness.specs.Caches.{AreRight, Cache as ACache, shown};
 
-    ghost Value = { Remembered T };
+    ghost Value = { ACache T };
 
     ghost view = { λ a. record {
       tree = a.tree.now;

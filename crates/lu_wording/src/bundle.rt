@@ -12,7 +12,7 @@ pub(crate) fn separator_wording(alloc: Global, line: &[u8]) -> Result<String, Al
     format!(in alloc; "this line is --- with {beside} behind it, so it parts nothing")
 }
 
-/// The words for a part behind the fourth.
+/// The words for a part after the fourth.
 pub(crate) fn fifth_part_wording(alloc: Global) -> Result<String, AllocError> {
     String::from_str(
         alloc,

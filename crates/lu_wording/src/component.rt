@@ -2,7 +2,7 @@
 
 use crate::shape::{Shape, declaration, instruction, near_declaration, near_instruction};
 use crate::spelling::near;
-use lu_lang::{Draft, LangFaultKind, OpenOp, Statement};
+use lu_lang::{ComponentDraft, LangFaultKind, OpenOp, Statement};
 use lu_text::{Name, are_allowed, has_name_form, is_long, value_in, words_of};
 use std::alloc::{AllocError, Global};
 use std::str;
@@ -80,7 +80,7 @@ fn no_name(alloc: Global, words: &[&[u8]]) -> Result<String, AllocError> {
 /// Outside an operation, a line of no form that begins as a declaration.
 fn form_declaration(
     alloc: Global,
-    draft: &Draft,
+    draft: &ComponentDraft,
     shape: &Shape,
     rest: &[&[u8]],
 ) -> Result<String, AllocError> {
@@ -119,7 +119,7 @@ fn no_declaration(alloc: Global, word: &[u8]) -> Result<String, AllocError> {
 /// Outside an operation, a line of no form.
 fn form_outside(
     alloc: Global,
-    draft: &Draft,
+    draft: &ComponentDraft,
     word: &[u8],
     rest: &[&[u8]],
 ) -> Result<String, AllocError> {
@@ -162,7 +162,7 @@ fn no_place(alloc: Global, shape: &Shape, first: &[u8]) -> Result<String, AllocE
     )
 }
 
-/// An instruction of no form, with as many words behind it as it takes.
+/// An instruction of no form, with as many words after it as it takes.
 fn form_of_words(alloc: Global, shape: &Shape, rest: &[&[u8]]) -> Result<String, AllocError> {
     let Some((first, _)) = rest.split_first() else {
         return String::from_str(
@@ -206,7 +206,7 @@ fn no_number(alloc: Global, words: &[&[u8]]) -> Result<String, AllocError> {
     }
 }
 
-/// The operands among the words behind an instruction's first.
+/// The operands among the words after an instruction's first.
 fn operands<'a, 'b>(word: &[u8], rest: &'b [&'a [u8]]) -> &'b [&'a [u8]] {
     let others = match shown(word) {
         "load" | "cas" => 2,
@@ -258,7 +258,11 @@ fn second<'a>(words: &[&'a [u8]]) -> &'a str {
     }
 }
 
-fn array_limit(alloc: Global, draft: &Draft, rest: &[&[u8]]) -> Result<String, AllocError> {
+fn array_limit(
+    alloc: Global,
+    draft: &ComponentDraft,
+    rest: &[&[u8]],
+) -> Result<String, AllocError> {
     if draft.arrays.len() >= 16 {
         return String::from_str(alloc, "there are 16 arrays, and no component may have more");
     }
@@ -266,7 +270,11 @@ fn array_limit(alloc: Global, draft: &Draft, rest: &[&[u8]]) -> Result<String, A
     format!(in alloc; "an array has 1 to 64 cells, and here are to be {len}")
 }
 
-fn operation_limit(alloc: Global, draft: &Draft, rest: &[&[u8]]) -> Result<String, AllocError> {
+fn operation_limit(
+    alloc: Global,
+    draft: &ComponentDraft,
+    rest: &[&[u8]],
+) -> Result<String, AllocError> {
     if draft.operations.len() >= 16 {
         return String::from_str(
             alloc,
@@ -280,7 +288,7 @@ fn operation_limit(alloc: Global, draft: &Draft, rest: &[&[u8]]) -> Result<Strin
 /// Outside an operation, a line for which there is no room.
 fn limit_outside(
     alloc: Global,
-    draft: &Draft,
+    draft: &ComponentDraft,
     word: &[u8],
     rest: &[&[u8]],
 ) -> Result<String, AllocError> {
@@ -301,7 +309,7 @@ fn limit_inside(alloc: Global, op: &OpenOp) -> Result<String, AllocError> {
     String::from_str(alloc, "pick takes a number of choices from 1 to 8")
 }
 
-fn limit(alloc: Global, draft: &Draft, words: &[&[u8]]) -> Result<String, AllocError> {
+fn limit(alloc: Global, draft: &ComponentDraft, words: &[&[u8]]) -> Result<String, AllocError> {
     if let Some(word) = words
         .iter()
         .map(|word| without_colon(word))
@@ -327,14 +335,14 @@ fn declared_before(alloc: Global, kind: &[u8], name: &[u8]) -> Result<String, Al
     format!(in alloc; "{kind} {name} is declared before; each name stands once among its kind")
 }
 
-fn no_lock(alloc: Global, draft: &Draft, lock: &[u8]) -> Result<String, AllocError> {
+fn no_lock(alloc: Global, draft: &ComponentDraft, lock: &[u8]) -> Result<String, AllocError> {
     let (hint, lock) = (hint(alloc, near(&draft.locks, lock))?, shown(lock));
     format!(in alloc;
         "there is no lock {lock}; `lock {lock}` declares it, on a line before the operations that use it{hint}"
     )
 }
 
-fn no_array(alloc: Global, draft: &Draft, array: &str) -> Result<String, AllocError> {
+fn no_array(alloc: Global, draft: &ComponentDraft, array: &str) -> Result<String, AllocError> {
     if is_declared(&draft.locks, array.as_bytes()) {
         return format!(in alloc; "{array} is a lock, and an array is wanted here");
     }
@@ -353,7 +361,7 @@ fn array_named<'a>(words: &[&'a [u8]], second: &'a [u8]) -> &'a str {
 }
 
 /// A name that is there already, or is not there.
-fn name(alloc: Global, draft: &Draft, words: &[&[u8]]) -> Result<String, AllocError> {
+fn name(alloc: Global, draft: &ComponentDraft, words: &[&[u8]]) -> Result<String, AllocError> {
     let (first, second) = match words {
         [first, second, ..] => (*first, *second),
         [first] => (*first, *first),
@@ -371,7 +379,7 @@ fn name(alloc: Global, draft: &Draft, words: &[&[u8]]) -> Result<String, AllocEr
 /// A fault of a name on a line with a label, before these words.
 fn labelled_name(
     alloc: Global,
-    draft: &Draft,
+    draft: &ComponentDraft,
     label: &[u8],
     words: &[&[u8]],
 ) -> Result<String, AllocError> {
@@ -386,9 +394,9 @@ fn labelled_name(
     name(alloc, draft, words)
 }
 
-/// A line's label, where an operation is open and more words follow, and the words behind it.
-fn behind_label<'a, 'b>(
-    draft: &Draft,
+/// A line's label, where an operation is open and more words follow, and the words after it.
+fn after_label<'a, 'b>(
+    draft: &ComponentDraft,
     words: &'b [&'a [u8]],
 ) -> (Option<&'a [u8]>, &'b [&'a [u8]]) {
     let Some((first, rest)) = words.split_first() else {
@@ -412,7 +420,7 @@ fn missing(alloc: Global, word: &[u8]) -> Result<String, AllocError> {
     format!(in alloc; "the first line with words is `component NAME`; here stands {word}")
 }
 
-/// Inside an operation, a line of no form behind its label.
+/// Inside an operation, a line of no form after its label.
 fn form_inside(
     alloc: Global,
     op: &OpenOp,
@@ -432,7 +440,7 @@ fn form_inside(
 
 fn form(
     alloc: Global,
-    draft: &Draft,
+    draft: &ComponentDraft,
     label: Option<&[u8]>,
     word: &[u8],
     rest: &[&[u8]],
@@ -446,7 +454,12 @@ fn form(
     }
 }
 
-fn number(alloc: Global, draft: &Draft, word: &[u8], rest: &[&[u8]]) -> Result<String, AllocError> {
+fn number(
+    alloc: Global,
+    draft: &ComponentDraft,
+    word: &[u8],
+    rest: &[&[u8]],
+) -> Result<String, AllocError> {
     if draft.begun.is_some() || declaration(word).is_none() {
         return no_operand(alloc, word, rest);
     }
@@ -456,7 +469,7 @@ fn number(alloc: Global, draft: &Draft, word: &[u8], rest: &[&[u8]]) -> Result<S
     }
 }
 
-fn flow(alloc: Global, draft: &Draft) -> Result<String, AllocError> {
+fn flow(alloc: Global, draft: &ComponentDraft) -> Result<String, AllocError> {
     match &draft.begun {
         Some(op) if op.statements.is_empty() => {
             let name = op.name.as_str();
@@ -480,12 +493,12 @@ fn comma_in<'a>(kind: LangFaultKind, words: &[&'a [u8]]) -> Option<&'a [u8]> {
 /// The words for a fault of this kind on a line of these words.
 fn wording_of_words(
     alloc: Global,
-    draft: &Draft,
+    draft: &ComponentDraft,
     kind: LangFaultKind,
     text: &[u8],
     words: &[&[u8]],
 ) -> Result<String, AllocError> {
-    let (label, behind) = behind_label(draft, words);
+    let (label, behind) = after_label(draft, words);
     let Some((word, rest)) = behind.split_first() else {
         return String::from_str(alloc, "this line has a fault");
     };
@@ -503,10 +516,10 @@ fn wording_of_words(
     }
 }
 
-/// The words for a fault of this kind on a line, behind this draft.
+/// The words for a fault of this kind on a line, after this draft.
 pub(crate) fn component_wording(
     alloc: Global,
-    draft: &Draft,
+    draft: &ComponentDraft,
     kind: LangFaultKind,
     text: &[u8],
 ) -> Result<String, AllocError> {
@@ -524,7 +537,7 @@ pub(crate) fn component_wording(
 /// operation follow with it.
 pub(crate) fn jump_wording(
     alloc: Global,
-    draft: &Draft,
+    draft: &ComponentDraft,
     back: usize,
 ) -> Result<String, AllocError> {
     let Some(op) = &draft.begun else {
@@ -545,7 +558,7 @@ fn no_label(alloc: Global, op: &OpenOp, label: &Name) -> Result<String, AllocErr
 }
 
 /// The words for a fault at the end of the text.
-pub(crate) fn end_wording(alloc: Global, draft: &Draft) -> Result<String, AllocError> {
+pub(crate) fn end_wording(alloc: Global, draft: &ComponentDraft) -> Result<String, AllocError> {
     match &draft.begun {
         Some(op) => {
             let name = op.name.as_str();

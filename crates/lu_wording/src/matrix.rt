@@ -2,7 +2,7 @@
 
 use crate::component::{hint, is_register, shown, unknown_byte};
 use crate::spelling::{is_near, near};
-use lu_test::{Draft, MatrixFaultKind, Signature};
+use lu_test::{MatrixDraft, MatrixFaultKind, Signature};
 use lu_text::{Name, before_comment, has_name_form, parts_of, value_in, words_of};
 use std::alloc::{AllocError, Global};
 
@@ -38,7 +38,12 @@ fn near_first(word: &[u8]) -> Option<&'static str> {
 }
 
 /// The first words of a line that are none of a matrix's.
-fn form(alloc: Global, draft: &Draft, first: &[u8], is_empty: bool) -> Result<String, AllocError> {
+fn form(
+    alloc: Global,
+    draft: &MatrixDraft,
+    first: &[u8],
+    is_empty: bool,
+) -> Result<String, AllocError> {
     let setup = first == b"setup".as_slice();
     if setup && (draft.setup.is_some() || !draft.threads.is_empty()) {
         return String::from_str(
@@ -167,7 +172,12 @@ fn of_calls(
 }
 
 /// A line for which there is no room: of so many calls.
-fn limit(alloc: Global, draft: &Draft, first: &[u8], calls: usize) -> Result<String, AllocError> {
+fn limit(
+    alloc: Global,
+    draft: &MatrixDraft,
+    first: &[u8],
+    calls: usize,
+) -> Result<String, AllocError> {
     if first == b"setup".as_slice() {
         return format!(in alloc; "a setup has at most 8 calls, here are {calls}");
     }
@@ -198,11 +208,11 @@ fn first_word<'a>(words: &[&'a [u8]]) -> &'a [u8] {
     }
 }
 
-/// The words for a fault of this kind on a line, behind this draft.
+/// The words for a fault of this kind on a line, after this draft.
 pub(crate) fn matrix_wording(
     alloc: Global,
     signatures: &[Signature<'_>],
-    draft: &Draft,
+    draft: &MatrixDraft,
     kind: MatrixFaultKind,
     text: &[u8],
 ) -> Result<String, AllocError> {

@@ -39,8 +39,8 @@ fn write_call_of(
     }
 }
 
-/// Adds the operations behind which a call is made.
-fn write_behind(text: &mut String, test: Test<'_>, ops: &[SerialOp]) -> Result<(), AllocError> {
+/// Adds the operations after which a call is made.
+fn write_after(text: &mut String, test: Test<'_>, ops: &[SerialOp]) -> Result<(), AllocError> {
     if ops.is_empty() {
         return text.push_str(" when it comes first");
     }
@@ -70,7 +70,7 @@ fn serial_wording(alloc: Global, test: Test<'_>, hint: &SerialHint) -> Result<St
     write_call_of(&mut text, test, thread, call)?;
     text.push_str(", ")?;
     write_ending(&mut text, test, hint.ending)?;
-    write_behind(&mut text, test, hint.behind.as_slice())?;
+    write_after(&mut text, test, hint.behind.as_slice())?;
     if matches!(hint.ending, Ending::Cut) {
         text.push_str("; --serial bounds them")?;
     }

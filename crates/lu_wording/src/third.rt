@@ -127,7 +127,7 @@ pub(crate) fn line_shown(line: Option<&[u8]>) -> &str {
     }
 }
 
-/// What a line of a report is to be, in words; behind the end nothing.
+/// What a line of a report is to be, in words; after the end nothing.
 fn form_words(form: LineForm) -> Option<&'static str> {
     match form {
         LineForm::Version => Some("`lineup report 1`, or 2 or 3"),

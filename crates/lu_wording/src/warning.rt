@@ -1,7 +1,7 @@
 //! The words of a warning.
 
 use crate::component::shown;
-use lu_lang::{Draft, OpenOp};
+use lu_lang::{ComponentDraft, OpenOp};
 use lu_lint::Hint;
 use lu_text::words_of;
 use std::alloc::{AllocError, Global};
@@ -29,7 +29,7 @@ fn label_at(op: &OpenOp, back: usize) -> &str {
 }
 
 /// The name of the open operation.
-fn operation_name(draft: &Draft) -> &str {
+fn operation_name(draft: &ComponentDraft) -> &str {
     match &draft.begun {
         None => "an operation",
         Some(op) => op.name.as_str(),
@@ -37,18 +37,18 @@ fn operation_name(draft: &Draft) -> &str {
 }
 
 /// The label at the instruction of the open operation that so many of it follow with it.
-fn open_label_at(draft: &Draft, back: usize) -> &str {
+fn open_label_at(draft: &ComponentDraft, back: usize) -> &str {
     match &draft.begun {
         None => "of this line",
         Some(op) => label_at(op, back),
     }
 }
 
-/// The words of a warning that is found at a line behind this draft, and stands so many lines with
+/// The words of a warning that is found at a line after this draft, and stands so many lines with
 /// words before it.
 pub(crate) fn warning_wording(
     alloc: Global,
-    draft: &Draft,
+    draft: &ComponentDraft,
     text: &[u8],
     hint: Hint,
     back: usize,

@@ -9,12 +9,12 @@ use crate::third::{
     length_wording, move_wording, report_wording, schedule_form_wording, specification_wording,
 };
 use crate::warning::warning_wording;
-use lu_lang::{Draft, LangFaultKind};
+use lu_lang::{ComponentDraft, LangFaultKind};
 use lu_lint::{Hint, RunHint, Test, Wording};
 use lu_recorded::RecordedFaultKind;
 use lu_report::ReportLineFault;
 use lu_spec::SpecLineFault;
-use lu_test::{Draft as MatrixDraft, Matrix, MatrixFaultKind, ScheduleFault, Signature};
+use lu_test::{Matrix, MatrixDraft, MatrixFaultKind, ScheduleFault, Signature};
 use std::alloc::{AllocError, Global};
 
 /// Plain English, in ASCII.
@@ -25,7 +25,7 @@ impl Wording for Words {
     fn component_fault(
         &self,
         alloc: Global,
-        draft: &Draft,
+        draft: &ComponentDraft,
         kind: LangFaultKind,
         text: &[u8],
     ) -> Result<String, AllocError> {
@@ -35,13 +35,13 @@ impl Wording for Words {
     fn missing_label(
         &self,
         alloc: Global,
-        draft: &Draft,
+        draft: &ComponentDraft,
         back: usize,
     ) -> Result<String, AllocError> {
         jump_wording(alloc, draft, back)
     }
 
-    fn component_end(&self, alloc: Global, draft: &Draft) -> Result<String, AllocError> {
+    fn component_end(&self, alloc: Global, draft: &ComponentDraft) -> Result<String, AllocError> {
         component_end_wording(alloc, draft)
     }
 
@@ -118,7 +118,7 @@ impl Wording for Words {
     fn warning(
         &self,
         alloc: Global,
-        draft: &Draft,
+        draft: &ComponentDraft,
         text: &[u8],
         hint: Hint,
         back: usize,

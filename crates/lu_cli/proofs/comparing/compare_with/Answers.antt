@@ -1,5 +1,5 @@
 use Rattle.std.proofs.Common.{inl, rules}
-use Rattle.lu_component.specs.Component.{Declarations}
+use Rattle.lu_component.specs.Component.{Component}
 use Rattle.lu_survey.specs.Comparing.{HasSameOperations}
 use Rattle.lu_cli.specs.Comparing.{IsComparedMatrix, ToTrusted}
 use Rattle.lu_cli.specs.Reading.{ToSettled}
@@ -12,5 +12,5 @@ returns c =
     let matrix = c.args.matrix.now in
     let trusted = c.in_ok-trusted.trusted in
     let same : HasSameOperations component trusted = search rules in
-    answered_more (ToSettled trusted matrix (IsComparedMatrix trusted component c.args.options matrix)) (ToTrusted c.args.trusted.now component matrix (λ (t : Declarations). IsComparedMatrix t component c.args.options matrix))
+    answered_more (ToSettled trusted matrix (IsComparedMatrix trusted component c.args.options matrix)) (ToTrusted c.args.trusted.now component matrix (λ (t : Component). IsComparedMatrix t component c.args.options matrix))
     (λ answer is. rw c.in_ok-trusted.ensures.read (inl (same, is))) c.compare_settled.result c.compare_settled.ensures

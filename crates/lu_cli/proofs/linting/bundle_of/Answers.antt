@@ -1,6 +1,6 @@
 use Rattle.std.proofs.Common.{◌≡◌, ◌∙◌, ◌++◌, List, Vec, ℕ, ap}
 use Rattle.lu_lang.specs.ComponentText.{component_text}
-use Rattle.lu_cli.specs.Compiling.{lent_behind}
+use Rattle.lu_cli.specs.Compiling.{lent_after}
 use Rattle.lu_cli.proofs.Strings.{lent_texts}
 use Rattle.lu_cli.proofs.linting.bundle_of.Goals as goal
 
@@ -9,4 +9,4 @@ returns c =
     let parts = c.args.parts.now in
     let own = component_text c.args.component.now in
     let begun : c.into_bytes-bundle.result.items ≡ own = ap (λ (v : Vec ℕ _). v.items) c.into_bytes-bundle.ensures.value ∙ c.in_ok-write_component.ensures.text in
-    c.in_ok-push_parts.ensures ∙ ap (λ (x : List ℕ). x ++ lent_behind parts) begun ∙ ap (λ (x : List ℕ). own ++ x) (lent_texts parts)
+    c.in_ok-push_parts.ensures ∙ ap (λ (x : List ℕ). x ++ lent_after parts) begun ∙ ap (λ (x : List ℕ). own ++ x) (lent_texts parts)

@@ -2,7 +2,7 @@ use Rattle.std.proofs.Common.{◌≡◌, ℕ, Some, ap, subst}
 use Rattle.std.specs.Prelude.{IfOk}
 use Rattle.std.proofs.lemmas.Result.{IfOk-weaker}
 use Rattle.lu_machine.proofs.Starting.{start_there}
-use Rattle.lu_report.specs.Parts.{Parts, parts_of}
+use Rattle.lu_report.specs.Parts.{Report, parts_of}
 use Rattle.lu_replay.proofs.Limits.{finding_within}
 use Rattle.lu_cli.specs.Serial.{IsOffenceReported}
 use Rattle.lu_cli.specs.Shows.{reported}
@@ -15,7 +15,7 @@ new-requires-clause-within c =
 
 pub returns : goal.returns
 returns c =
-    let made : Parts = parts_of c.bound.result (Some c.serial.result) c.local.result c.args.finding in
-    let shown = subst (λ (r : Parts). IfOk c.show_report-2.result (λ answer. answer ≡ reported r)) c.new.ensures c.show_report-2.ensures in
+    let made : Report = parts_of c.bound.result (Some c.serial.result) c.local.result c.args.finding in
+    let shown = subst (λ (r : Report). IfOk c.show_report-2.result (λ answer. answer ≡ reported r)) c.new.ensures c.show_report-2.ensures in
     IfOk-weaker c.show_report-2.result (λ answer. answer ≡ reported made) (IsOffenceReported c.args.component.now c.args.matrix.now c.args.bounds)
     (λ answer is. (made, (c.bound.ensures.bound, ap (λ (n : ℕ). Some n) c.serial.ensures.serial, c.local.ensures.local, c.requires.found), c.requires.offence, is)) shown

@@ -5,7 +5,7 @@ use Rattle.lu_text.specs.Words.{exactly_two}
 use Rattle.lu_cli.specs.Failing.{IsShownAlone, view_of_failure}
 use Rattle.lu_cli.specs.Refusals.{Answered}
 use Rattle.lu_cli.specs.Reading.{ToTold}
-use Rattle.lu_cli.specs.Shown.{IsShownBehind}
+use Rattle.lu_cli.specs.Shown.{IsShownAfter}
 use Rattle.lu_cli.proofs.shown.answer_shown.Goals as goal
 
 pub returns-in-Some : goal.returns-in-Some
@@ -16,4 +16,4 @@ returns-in-Some c =
     let result = c.answer_failing.result in
     let parts : exactly_two all ≡ Some (p.component.now, p.matrix.now) = search rules in
     let shown : Answered (ToTold p.component.now p.matrix.now (IsShownAlone (view_of_failure view))) result = subst (λ v. Answered (ToTold p.component.now p.matrix.now (IsShownAlone v)) result) c.of_failure.ensures c.answer_failing.ensures in
-    subst (λ (found : Option (List ℕ × List ℕ)). Answered (λ answer. MatchOption found (IsShownBehind view all answer) (λ q. ToTold q.0 q.1 (IsShownAlone (view_of_failure view)) answer)) result) (sym parts) shown
+    subst (λ (found : Option (List ℕ × List ℕ)). Answered (λ answer. MatchOption found (IsShownAfter view all answer) (λ q. ToTold q.0 q.1 (IsShownAlone (view_of_failure view)) answer)) result) (sym parts) shown

@@ -17,11 +17,11 @@ loop-pick-preserved c =
     let h = c.args.behind.events.now in
     let made = c.apply-undo.new.self in
     let step : Step s m made c.apply-undo.result.event = subst (λ x. Step x m made c.apply-undo.result.event) home c.apply-undo.ensures.step in
-    let adds : AddsFollowing made h c.args.behind.seen c.apply-undo.result.event (c.args.behind.moves.now ++ m ∷ []) c.loop-pick.stages.entries c.add_behind.new.stages.entries =
-    subst (λ (e : Option Event). AddsFollowing made h c.args.behind.seen e (c.args.behind.moves.now ++ m ∷ []) c.loop-pick.stages.entries c.add_behind.new.stages.entries) c.event.ensures c.in_ok-add_behind.ensures in
+    let adds : AddsFollowing made h c.args.behind.seen c.apply-undo.result.event (c.args.behind.moves.now ++ m ∷ []) c.loop-pick.stages.entries c.add_after.new.stages.entries =
+    subst (λ (e : Option Event). AddsFollowing made h c.args.behind.seen e (c.args.behind.moves.now ++ m ∷ []) c.loop-pick.stages.entries c.add_after.new.stages.entries) c.event.ensures c.in_ok-add_after.ensures in
     record {
       machine = c.undo.ensures ∙ (c.apply-undo.ensures.back ∙ home);
-      below = below_more s h c.args.behind.seen c.args.behind.moves.now c.args.stages.now.entries c.loop-thread.thread c.loop-pick.pick c.loop-pick.stages.entries c.add_behind.new.stages.entries made c.apply-undo.result.event step c.loop-pick.invariant.below adds;
+      below = below_more s h c.args.behind.seen c.args.behind.moves.now c.args.stages.now.entries c.loop-thread.thread c.loop-pick.pick c.loop-pick.stages.entries c.add_after.new.stages.entries made c.apply-undo.result.event step c.loop-pick.invariant.below adds;
     }
 
 pub loop-thread-preserved : goal.loop-thread-preserved

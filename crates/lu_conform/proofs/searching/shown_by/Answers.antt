@@ -1,6 +1,6 @@
 use Rattle.std.proofs.Common.{arith, ◌≡◌, ◌<◌, ◌≤◌, Bool, true, false, List, length, sym, ◌∙◌, ap, subst, inl, inr}
 use Rattle.std.specs.Prelude.{All}
-use Rattle.lu_component.specs.Component.{Declarations}
+use Rattle.lu_component.specs.Component.{Component}
 use Rattle.lu_test.specs.declared.schedule.Move.{Move}
 use Rattle.lu_test.specs.Matrix.{Matrix}
 use Rattle.lu_test.specs.Schedule.{IsMove}
@@ -65,7 +65,7 @@ by_way-requires c =
     c.loop-at.machine c.loop-at.invariant.component c.loop-at.invariant.matrix_is entry (sym c.in-Some.ensures.entry) c.in_ok-machine.ensures.limits.0 c.in_ok-machine.ensures.limits.1)
 
 -- what is said of a shortest schedule
-told : (c : Declarations) (matrix : Matrix) (recorded : Recorded) (moves : List Move) (shown : Shown) → (length moves ≤ 4112 → shown ≡ By moves) → (4112 < length moves → shown ≡ Undecided) → IsShortest c matrix recorded moves → IsShown c matrix recorded shown
+told : (c : Component) (matrix : Matrix) (recorded : Recorded) (moves : List Move) (shown : Shown) → (length moves ≤ 4112 → shown ≡ By moves) → (4112 < length moves → shown ≡ Undecided) → IsShortest c matrix recorded moves → IsShown c matrix recorded shown
 told c matrix recorded moves shown short long best =
     elim (cases_lt 4112 (length moves)) as (λ _. IsShown c matrix recorded shown) [
       | inl many ↦ subst (IsShown c matrix recorded) (sym (long many)) (inr (moves, best, many))

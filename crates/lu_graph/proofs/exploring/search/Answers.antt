@@ -1,5 +1,5 @@
 use Rattle.std.proofs.Common.{arith, rules, ◌≡◌, ◌+◌, ◌≤◌, Bool, true, false, length, refl, sym, ◌∙◌, ap, subst}
-use Rattle.lu_component.specs.Component.{Declarations}
+use Rattle.lu_component.specs.Component.{Component}
 use Rattle.lu_machine.specs.Positions.{CanStandAt, at_position}
 use Rattle.lu_machine.specs.States.{State}
 use Rattle.lu_machine.proofs.Starting.{settled_start}
@@ -16,7 +16,7 @@ use Rattle.lu_graph.proofs.exploring.search.Goals.{else-is_far-via-then-is_far+i
 use Rattle.lu_graph.proofs.exploring.search.Goals as goal
 
 -- what is known of dead registers is known of the same component and the same table
-known_there : (c : Declarations) (dead : DeadTable) → KnowsDead c dead → (d : Declarations) (table : DeadTable) → d ≡ c → table ≡ dead → KnowsDead d table
+known_there : (c : Component) (dead : DeadTable) → KnowsDead c dead → (d : Component) (table : DeadTable) → d ≡ c → table ≡ dead → KnowsDead d table
 known_there c dead known d table one two = subst (λ x. KnowsDead x table) (sym one) (subst (KnowsDead c) (sym two) known)
 
 pub loop-at-init : goal.loop-at-init

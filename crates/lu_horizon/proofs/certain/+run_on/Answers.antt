@@ -4,7 +4,7 @@ use Rattle.lu_machine.specs.Steps.{is_local}
 use Rattle.lu_horizon.specs.Code.{run_on}
 use Rattle.lu_horizon.specs.Outlooks.{IsWeaker, either}
 use Rattle.lu_horizon.specs.Tables.{outlook_of}
-use Rattle.lu_horizon.proofs.RunLaws.{behind_next, run_over}
+use Rattle.lu_horizon.proofs.RunLaws.{after_next, run_over}
 use Rattle.lu_horizon.proofs.SureLaws.{either_less}
 use Rattle.lu_horizon.proofs.certain.+run_on.Goals as goal
 
@@ -32,5 +32,5 @@ returns-in_default-instr t c =
     let read = c.in-Some.ensures.lookup in
     let at : slice_get code c.args.place ≡ Some instr = slice_get_read code (length code) c.args.place instr refl read.3.0 read.1 in
     let is : is_local instr ≡ true = search rules in
-    let same : run_on code known c.args.most c.args.place ≡ on (c.args.place + 1) = run_over code known c.args.most c.args.place instr at is (omega (arith, c.if-most-eq0.false)) ∙ behind_next on c.args.place instr c.in_default-instr.not-Jump c.in_default-instr.not-JumpIfZero in
+    let same : run_on code known c.args.most c.args.place ≡ on (c.args.place + 1) = run_over code known c.args.most c.args.place instr at is (omega (arith, c.if-most-eq0.false)) ∙ after_next on c.args.place instr c.in_default-instr.not-Jump c.in_default-instr.not-JumpIfZero in
     rw same c.run_on-in_default-instr.ensures

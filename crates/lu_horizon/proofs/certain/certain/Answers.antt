@@ -1,6 +1,6 @@
 use Rattle.std.proofs.Common.{◌+◌, refl, inl, inr}
 use Rattle.lu_component.specs.declared.instr.Instr.TheVariants.{Set, Compute, Load, Store, Cas, Unlock, Jump, JumpIfZero, Return}
-use Rattle.lu_horizon.specs.Code.{ahead_at, is_certain_cell, more_behind, run_on, unless_there}
+use Rattle.lu_horizon.specs.Code.{ahead_at, is_certain_cell, more_after, run_on, unless_there}
 use Rattle.lu_horizon.specs.Outlooks.{IsWeaker, either, one_before}
 use Rattle.lu_horizon.specs.Tables.{outlook_of}
 use Rattle.lu_horizon.proofs.RunLaws.{instr_less, unless_less}
@@ -16,8 +16,8 @@ returns c =
     let instr = c.args.instr.now in
     let result = c.one_before.result in
     let behind = c.match-instr.behind in
-    let on = run_on c.args.code.now (outlook_of c.args.known.now) (more_behind d instr) in
-    let next : IsWeaker c.run_on-next.result (on (place + 1)) = rw c.more_behind-most.ensures at c.run_on-next.ensures in
+    let on = run_on c.args.code.now (outlook_of c.args.known.now) (more_after d instr) in
+    let next : IsWeaker c.run_on-next.result (on (place + 1)) = rw c.more_after-most.ensures at c.run_on-next.ensures in
     let found : IsWeaker result (one_before behind) = c.one_before.ensures in
     let all : IsWeaker result (ahead_at d c.args.code.now (outlook_of c.args.known.now) rest place instr) = elim c.match-instr.branch [
       | in-Set w ↦ elim w.in-Set.is [
@@ -29,11 +29,11 @@ returns c =
           instr_less d on rest place instr (Unlock w.in-Unlock.field-0) w.in-Unlock.is result behind (either (on (place + 1)) rest) found less refl)
       | in-Jump w ↦
           (let target = w.in-Jump.target in
-          let there : IsWeaker w.run_on-behind.result (on target) = rw (c.more_behind-most.ensures, w.from.ensures) at w.run_on-behind.ensures in
+          let there : IsWeaker w.run_on-behind.result (on target) = rw (c.more_after-most.ensures, w.from.ensures) at w.run_on-behind.ensures in
           instr_less d on rest place instr (Jump target) w.in-Jump.is result behind (on target) found (rw w.behind-is there) refl)
       | in-JumpIfZero w ↦
           (let target = w.in-JumpIfZero.target in
-          let there : IsWeaker w.run_on.result (on target) = rw (c.more_behind-most.ensures, w.from-in-JumpIfZero.ensures) at w.run_on.ensures in
+          let there : IsWeaker w.run_on.result (on target) = rw (c.more_after-most.ensures, w.from-in-JumpIfZero.ensures) at w.run_on.ensures in
           let less : IsWeaker behind (either (on target) (on (place + 1))) = rw (w.behind-is, w.either-behind-in-JumpIfZero.ensures) (either_less w.run_on.result c.run_on-next.result (on target) (on (place + 1)) there next) in
           instr_less d on rest place instr (JumpIfZero w.in-JumpIfZero.value target) w.in-JumpIfZero.is result behind (either (on target) (on (place + 1))) found less refl)
       | in-Return w ↦ instr_less d on rest place instr (Return w.in-Return.field-0) w.in-Return.is result behind rest found (rw w.behind-is (within_itself rest)) refl

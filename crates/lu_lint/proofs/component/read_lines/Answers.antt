@@ -4,7 +4,7 @@ use Rattle.lu_text.proofs.Reading.{text_more, texts_end}
 use Rattle.lu_lang.proofs.Drafts.{nothing_draft}
 use Rattle.lu_lint.specs.Component.{component_lint}
 use Rattle.lu_lint.specs.declared.remark.FaultKind.TheVariants as part
-use Rattle.lu_lint.proofs.Going.{component_goes_on, is_done, texts_behind, component_end, draft_done, draft_goes_on}
+use Rattle.lu_lint.proofs.Going.{component_goes_on, is_done, texts_after, component_end, draft_done, draft_goes_on}
 use Rattle.lu_lint.proofs.WhileSound.{component_done, reads_on, rules_on}
 use Rattle.lu_lint.proofs.component.read_lines.Goals as goal
 
@@ -14,7 +14,7 @@ loop-before-init over c = rw (c.new-draft.ensures, c.new-seen.ensures.items) (re
 pub loop-before-preserved : goal.loop-before-preserved
 loop-before-preserved over c =
     let step = text_more c.args.lines.now c.loop-before.before _ (omega arith) in
-    let behind = ap texts c.split_at.ensures.back ∙ texts_behind c.args.lines.now (c.loop-before.before + 1) in
+    let behind = ap texts c.split_at.ensures.back ∙ texts_after c.args.lines.now (c.loop-before.before + 1) in
     record {
       told = rw c.in_ok-seen.ensures (component_goes_on 0 _ _ _ _ _ _ _ _ _ _ _ _ _ _ c.in_ok-next.ensures c.in_ok-draft.ensures behind c.in_ok-all.ensures (rw c.deref.ensures.value at c.in_ok-all-2.ensures) c.in_ok-backs.ensures (rw step at c.loop-before.invariant.told));
       left = draft_goes_on component_lint _ _ _ _ _ _ _ _ c.in_ok-next.ensures c.in_ok-draft.ensures behind (rw step at c.loop-before.invariant.left);

@@ -1,5 +1,5 @@
 use Rattle.std.proofs.Common.{◌∙◌, ap, sym, vec_len}
-use Rattle.lu_lang.specs.Faulty.{Faulty}
+use Rattle.lu_lang.specs.Faulty.{FaultyDraft}
 use Rattle.lu_lang.specs.Place.{backs}
 use Rattle.lu_lint.specs.declared.remark.FaultKind.TheVariants as part
 use Rattle.lu_lint.proofs.Going.{is_once, is_each}
@@ -7,10 +7,10 @@ use Rattle.lu_lint.proofs.component.with_fault.Goals as goal
 
 pub returns-then-is_empty : goal.returns-then-is_empty
 returns-then-is_empty over c =
-    let back = c.in_ok-backs.ensures ∙ ap (λ (f : Faulty). backs f.draft c.args.text.now c.args.kind) c.draft.view_is in
+    let back = c.in_ok-backs.ensures ∙ ap (λ (f : FaultyDraft). backs f.draft c.args.text.now c.args.kind) c.draft.view_is in
     is_once part.Component c.args.at.now.above _ _ _ c.args.at.now.seen.items c.args.at.now.line c.args.kind c.in_ok-backs.backs.items _ (vec_len c.in_ok-backs.backs) c.in_ok-all.ensures c.said.ensures back c.in_ok-backs.backs.ok.0 (sym c.is_empty.ensures ∙ c.if-is_empty.true)
 
 pub returns : goal.returns
 returns over c =
-    let back = c.in_ok-backs.ensures ∙ ap (λ (f : Faulty). backs f.draft c.args.text.now c.args.kind) c.draft.view_is in
+    let back = c.in_ok-backs.ensures ∙ ap (λ (f : FaultyDraft). backs f.draft c.args.text.now c.args.kind) c.draft.view_is in
     is_each part.Component c.args.at.now.above _ _ c.args.at.now.seen.items c.args.at.now.line c.args.kind c.in_ok-backs.backs.items _ (vec_len c.in_ok-backs.backs) (rw c.deref.ensures.value at c.in_ok-all-2.ensures) back c.in_ok-backs.backs.ok.0 (sym c.is_empty.ensures ∙ c.if-is_empty.false)

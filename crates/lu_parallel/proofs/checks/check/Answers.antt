@@ -1,6 +1,6 @@
 use Rattle.std.proofs.Common.{◌∙◌, ℕ, Some, ap, sym, subst}
 use Rattle.lu_report.specs.declared.report.Finding.{Finding}
-use Rattle.lu_report.specs.Parts.{Parts}
+use Rattle.lu_report.specs.Parts.{Report}
 use Rattle.lu_replay.specs.Reports.{IsFinding}
 use Rattle.lu_replay.proofs.Limits.{finding_within}
 use Rattle.lu_machine.proofs.Starting.{start_there}
@@ -14,10 +14,10 @@ new-requires-clause-within g c =
 
 pub returns-clause-report : goal.returns-clause-report
 returns-clause-report g c = (
-  ap (λ (r : Parts). r.bound) c.new.ensures ∙ c.bound-bound.ensures.bound,
-  ap (λ (r : Parts). r.serial) c.new.ensures ∙ ap (λ (n : ℕ). Some n) c.serial.ensures.serial,
-  ap (λ (r : Parts). r.local) c.new.ensures ∙ c.local.ensures.local,
+  ap (λ (r : Report). r.bound) c.new.ensures ∙ c.bound-bound.ensures.bound,
+  ap (λ (r : Report). r.serial) c.new.ensures ∙ ap (λ (n : ℕ). Some n) c.serial.ensures.serial,
+  ap (λ (r : Report). r.local) c.new.ensures ∙ c.local.ensures.local,
   λ s is.
       (let found = subst (λ n. IsFinding s n c.args.options.serial c.in_ok-finding.finding) c.bound-bound.ensures.bound (c.in_ok-finding.ensures.found s is) in
-      subst (λ (f : Finding). IsFinding s c.args.options.bound c.args.options.serial f) (sym (ap (λ (r : Parts). r.finding) c.new.ensures)) found),
+      subst (λ (f : Finding). IsFinding s c.args.options.bound c.args.options.serial f) (sym (ap (λ (r : Report). r.finding) c.new.ensures)) found),
 )

@@ -1,6 +1,6 @@
 use Rattle.std.proofs.Common.{ap, sym, subst, ◌∙◌}
 use Rattle.lu_report.specs.declared.report.Finding.{Finding}
-use Rattle.lu_report.specs.Parts.{Parts}
+use Rattle.lu_report.specs.Parts.{Report}
 use Rattle.lu_replay.specs.Reports.{IsFindingAgainst}
 use Rattle.lu_replay.proofs.Limits.{against_within}
 use Rattle.lu_witness.specs.Witnesses.{IsMember}
@@ -21,10 +21,10 @@ against-requires-clause-judged g c =
 
 pub returns-clause-report : goal.returns-clause-report
 returns-clause-report g c = (
-  ap (λ (r : Parts). r.bound) c.against.ensures ∙ c.bound-bound.ensures.bound,
-  ap (λ (r : Parts). r.serial) c.against.ensures,
-  ap (λ (r : Parts). r.local) c.against.ensures ∙ c.local.ensures.local,
+  ap (λ (r : Report). r.bound) c.against.ensures ∙ c.bound-bound.ensures.bound,
+  ap (λ (r : Report). r.serial) c.against.ensures,
+  ap (λ (r : Report). r.local) c.against.ensures ∙ c.local.ensures.local,
   λ s is.
       (let found = subst (λ n. IsFindingAgainst (IsMember (g.T.SerialTree.members c.args.tree.now)) s n c.in_ok-finding.finding) c.bound-bound.ensures.bound (c.in_ok-finding.ensures.found s is) in
-      subst (λ (f : Finding). IsFindingAgainst (IsMember (g.T.SerialTree.members c.args.tree.now)) s c.args.options.bound f) (sym (ap (λ (r : Parts). r.finding) c.against.ensures)) found),
+      subst (λ (f : Finding). IsFindingAgainst (IsMember (g.T.SerialTree.members c.args.tree.now)) s c.args.options.bound f) (sym (ap (λ (r : Report). r.finding) c.against.ensures)) found),
 )

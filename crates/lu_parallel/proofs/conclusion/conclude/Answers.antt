@@ -1,7 +1,7 @@
 use Rattle.std.proofs.Common.{◌≡◌, ◌∙◌, [], ℕ, List, Contains, sym, ap, subst}
 use Rattle.lu_board.specs.Close.{found_by, given_by}
 use Rattle.lu_board.specs.Pieces.{IsLeastPiece}
-use Rattle.lu_board.specs.Seats.{SeatModel, IsSeatOf, IsDone}
+use Rattle.lu_board.specs.Seats.{Seat, IsSeatOf, IsDone}
 use Rattle.std.proofs.Common.{All, Some}
 use Rattle.lu_parallel.specs.declared.works.FoundPiece.{FoundPiece}
 use Rattle.lu_parallel.specs.Works.{found_pieces}
@@ -35,10 +35,10 @@ returns-in-Some-clause-conclusion c =
     let least : IsLeastPiece (found_by seats) (Some piece) = rw c.in-Some.is at c.finish-close.ensures.best in
     let has : Contains (founds_of works) entry = subst (λ (x : List FoundPiece). Contains x entry) c.in_ok-seats.ensures.found c.entry_of-schedule.ensures.entry in
     let named : entry ≡ record { piece = piece; schedule = entry.schedule; why = entry.why } = ap (λ (i : ℕ). record { piece = i; schedule = entry.schedule; why = entry.why }) c.entry_of-schedule.ensures.piece in (
-      subst (λ (x : List SeatModel). given_by x ≡ []) seats_are (none_given c.finish-close.result.given_up (given_by seats) c.finish-close.ensures.given_up c.if-close.false),
+      subst (λ (x : List Seat). given_by x ≡ []) seats_are (none_given c.finish-close.result.given_up (given_by seats) c.finish-close.ensures.given_up c.if-close.false),
       (
         piece,
-        subst (λ (x : List SeatModel). IsLeastPiece (found_by x) (Some piece)) seats_are least,
+        subst (λ (x : List Seat). IsLeastPiece (found_by x) (Some piece)) seats_are least,
         subst (λ (x : FoundPiece). Contains (founds_of works) x) named has,
       ),
     )

@@ -1,6 +1,6 @@
 use Rattle.std.proofs.Common.{◌∙◌, ap, sym, subst}
 use Rattle.lu_report.specs.declared.report.Finding.{Finding}
-use Rattle.lu_report.specs.Parts.{Parts}
+use Rattle.lu_report.specs.Parts.{Report}
 use Rattle.lu_replay.specs.Reports.{IsFinding}
 use Rattle.lu_replay.proofs.Limits.{finding_within}
 use Rattle.lu_machine.proofs.Starting.{start_there}
@@ -14,8 +14,8 @@ new-requires-clause-within g c =
 
 pub returns : goal.returns
 returns g c = (
-  ap (λ (r : Parts). r.bound) c.new.ensures,
-  ap (λ (r : Parts). r.serial) c.new.ensures,
-  ap (λ (r : Parts). r.local) c.new.ensures ∙ c.local.ensures.local,
-  λ s is. subst (λ (f : Finding). IsFinding s c.args.bound c.args.serial f) (sym (ap (λ (r : Parts). r.finding) c.new.ensures)) (c.in_ok-finding.ensures.found s is),
+  ap (λ (r : Report). r.bound) c.new.ensures,
+  ap (λ (r : Report). r.serial) c.new.ensures,
+  ap (λ (r : Report). r.local) c.new.ensures ∙ c.local.ensures.local,
+  λ s is. subst (λ (f : Finding). IsFinding s c.args.bound c.args.serial f) (sym (ap (λ (r : Report). r.finding) c.new.ensures)) (c.in_ok-finding.ensures.found s is),
 )

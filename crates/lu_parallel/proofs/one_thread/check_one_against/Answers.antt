@@ -1,6 +1,6 @@
 use Rattle.std.proofs.Common.{ap, sym, subst, ◌∙◌}
 use Rattle.lu_report.specs.declared.report.Finding.{Finding}
-use Rattle.lu_report.specs.Parts.{Parts}
+use Rattle.lu_report.specs.Parts.{Report}
 use Rattle.lu_replay.specs.Reports.{IsFindingAgainst}
 use Rattle.lu_replay.proofs.Limits.{against_within}
 use Rattle.lu_witness.specs.Witnesses.{IsMember}
@@ -21,8 +21,8 @@ against-requires-clause-judged g c =
 
 pub returns : goal.returns
 returns g c = (
-  ap (λ (r : Parts). r.bound) c.against.ensures,
-  ap (λ (r : Parts). r.serial) c.against.ensures,
-  ap (λ (r : Parts). r.local) c.against.ensures ∙ c.local.ensures.local,
-  λ s is. subst (λ (f : Finding). IsFindingAgainst (IsMember (g.T.SerialTree.members c.args.tree.now)) s c.args.bound f) (sym (ap (λ (r : Parts). r.finding) c.against.ensures)) (c.in_ok-finding.ensures.found s is),
+  ap (λ (r : Report). r.bound) c.against.ensures,
+  ap (λ (r : Report). r.serial) c.against.ensures,
+  ap (λ (r : Report). r.local) c.against.ensures ∙ c.local.ensures.local,
+  λ s is. subst (λ (f : Finding). IsFindingAgainst (IsMember (g.T.SerialTree.members c.args.tree.now)) s c.args.bound f) (sym (ap (λ (r : Report). r.finding) c.against.ensures)) (c.in_ok-finding.ensures.found s is),
 )

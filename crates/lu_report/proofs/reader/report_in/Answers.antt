@@ -1,6 +1,6 @@
 use Rattle.std.proofs.lemmas.Result.{err_from_is_err_and}
-use Rattle.lu_report.specs.Forms.{AreBehind, AreReport, IsBehind, Spells, Stops}
-use Rattle.lu_report.proofs.Exits.{report_behind, report_bound, report_version, spelt}
+use Rattle.lu_report.specs.Forms.{AreAfter, AreReport, IsBehind, Spells, Stops}
+use Rattle.lu_report.proofs.Exits.{report_after, report_bound, report_version, spelt}
 use Rattle.lu_report.proofs.Numbers.{err_weaker, ok_weaker}
 use Rattle.lu_report.proofs.reader.report_in.Goals as goal
 
@@ -19,12 +19,12 @@ pub returns-clause-found : goal.returns-clause-found
 returns-clause-found c =
     let v = c.in_ok-version in
     let b = c.in_ok-bound in
-    ok_weaker c.read_behind_bound.result (IsBehind v.version b.bound b.rest.now) (Spells c.args.text.now)
-    (λ r is. spelt v.version b.bound c.args.text.now v.rest.now b.rest.now r v.ensures.found b.ensures.found is) c.read_behind_bound.ensures.found
+    ok_weaker c.read_after_bound.result (IsBehind v.version b.bound b.rest.now) (Spells c.args.text.now)
+    (λ r is. spelt v.version b.bound c.args.text.now v.rest.now b.rest.now r v.ensures.found b.ensures.found is) c.read_after_bound.ensures.found
 
 pub returns-clause-fault : goal.returns-clause-fault
 returns-clause-fault c =
     let v = c.in_ok-version in
     let b = c.in_ok-bound in
-    err_weaker c.read_behind_bound.result (Stops (AreBehind v.version) b.rest.now) (Stops AreReport c.args.text.now)
-    (λ e s. report_behind c.args.text.now e v.version v.rest.now v.ensures.found b.bound b.rest.now b.ensures.found s) c.read_behind_bound.ensures.fault
+    err_weaker c.read_after_bound.result (Stops (AreAfter v.version) b.rest.now) (Stops AreReport c.args.text.now)
+    (λ e s. report_after c.args.text.now e v.version v.rest.now v.ensures.found b.bound b.rest.now b.ensures.found s) c.read_after_bound.ensures.fault

@@ -12,9 +12,9 @@ returns-then-stops c =
 pub returns-then-depth-eq0 : goal.returns-then-depth-eq0
 returns-then-depth-eq0 c =
     let step = lines_more c.args.lines.now c.loop-line.line-index c.line-item.result c.as_slice-words.result.now c.loop-line-test.true c.line-item.is c.as_slice-words.ensures.value in
-    endless_here (texts c.args.shared.now) c.loop-line.depth c.depth_behind-depth.result (texts c.as_slice-words.result.now) (drop (c.loop-line.line-index + 1) (lines_in c.args.lines.now)) _ (sym c.stops.ensures.stops ∙ c.if-stops.false) c.depth_behind-depth.ensures c.if-depth-eq0.true (rw step at c.loop-line.invariant)
+    endless_here (texts c.args.shared.now) c.loop-line.depth c.depth_after-depth.result (texts c.as_slice-words.result.now) (drop (c.loop-line.line-index + 1) (lines_in c.args.lines.now)) _ (sym c.stops.ensures.stops ∙ c.if-stops.false) c.depth_after-depth.ensures c.if-depth-eq0.true (rw step at c.loop-line.invariant)
 
 pub loop-line-preserved : goal.loop-line-preserved
 loop-line-preserved c =
     let step = lines_more c.args.lines.now c.loop-line.line-index c.line-item.result c.as_slice-words.result.now c.loop-line-test.true c.line-item.is c.as_slice-words.ensures.value in
-    endless_on (texts c.args.shared.now) c.loop-line.depth c.depth_behind-depth.result (texts c.as_slice-words.result.now) (drop (c.loop-line.line-index + 1) (lines_in c.args.lines.now)) _ (sym c.stops.ensures.stops ∙ c.if-stops.false) c.depth_behind-depth.ensures c.if-depth-eq0.false (rw step at c.loop-line.invariant)
+    endless_on (texts c.args.shared.now) c.loop-line.depth c.depth_after-depth.result (texts c.as_slice-words.result.now) (drop (c.loop-line.line-index + 1) (lines_in c.args.lines.now)) _ (sym c.stops.ensures.stops ∙ c.if-stops.false) c.depth_after-depth.ensures c.if-depth-eq0.false (rw step at c.loop-line.invariant)

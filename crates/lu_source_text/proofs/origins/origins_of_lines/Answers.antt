@@ -7,7 +7,7 @@ use Rattle.lu_source_text.specs.Grammar.{source_grammar}
 use Rattle.lu_source_text.specs.Origins.{entries}
 use Rattle.lu_source_text.proofs.Drafts.{IsDraft, draft_kept, locals_named, nothing_is}
 use Rattle.lu_source_text.proofs.Complete.{each_there}
-use Rattle.lu_source_text.proofs.Entries.{are_done, told, behind_is, drafts_go_on, fails_done, origins_go_on}
+use Rattle.lu_source_text.proofs.Entries.{are_done, told, after_is, drafts_go_on, fails_done, origins_go_on}
 use Rattle.lu_source_text.proofs.origins.origins_of_lines.Goals as goal
 
 pub returns-in_err-draft-clause-fault : goal.returns-in_err-draft-clause-fault
@@ -27,7 +27,7 @@ loop-before-init c = record {
 pub loop-before-preserved : goal.loop-before-preserved
 loop-before-preserved c =
     let step = text_more c.args.lines.now c.loop-before.before _ (omega arith) in
-    let next = behind_is _ _ _ _ c.in_ok-draft.ensures in
+    let next = after_is _ _ _ _ c.in_ok-draft.ensures in
     record {
       read = goes_on source_grammar _ _ _ _ _ _ c.in_ok-draft.ensures (rw step at c.loop-before.invariant.read);
       origins = origins_go_on _ _ _ _ _ (entries c.loop-before.operations.items) (entries c.fill_all.new.rows.items) _ next c.in_ok-fill_all.ensures (λ o p. rw step at (c.loop-before.invariant.origins o p));

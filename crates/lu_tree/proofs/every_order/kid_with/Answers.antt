@@ -1,7 +1,7 @@
 use Rattle.std.proofs.Common.{◌≡◌, ◌<◌, length, Some, slice_get, sym, subst, arith}
 use Rattle.lu_history.proofs.Derived.{ops_alike}
 use Rattle.lu_trie.specs.Branches.{branches_of}
-use Rattle.lu_tree.proofs.OrderSets.{kid_behind}
+use Rattle.lu_tree.proofs.OrderSets.{kid_after}
 use Rattle.lu_tree.proofs.every_order.kid_with.Goals as goal
 
 pub returns-then-eq-clause-behind : goal.returns-then-eq-clause-behind
@@ -12,4 +12,4 @@ returns-then-eq-clause-behind g c =
     let same = ops_alike c.kid-kid.result.0 c.args.label (sym c.if-eq.ensures) in
     let at : slice_get (branches_of hs) c.loop-i.i ≡ Some (c.args.label, kid) = subst (λ x. slice_get (branches_of hs) c.loop-i.i ≡ Some (x, kid)) same c.kid-kid.ensures.kid in
     let within : c.loop-i.i < length (branches_of hs) = omega (arith, c.loop-i-test.true, c.kid_count-i-end.ensures) in
-    kid_behind hs law c.loop-i.i c.args.label kid within at
+    kid_after hs law c.loop-i.i c.args.label kid within at

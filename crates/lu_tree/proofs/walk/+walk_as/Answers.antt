@@ -7,13 +7,13 @@ use Rattle.lu_machine.specs.Steps.{IsFeasible, Step, picks_of}
 use Rattle.lu_machine.specs.Undoes.{restored}
 use Rattle.lu_machine.proofs.StepLaws.{feasible_step}
 use Rattle.lu_witness.specs.Witnesses.{IsMember}
-use Rattle.lu_tree.specs.Known.{AreFrom, AreKnownBehind, IsHint, IsKnown, Moves, counts_of}
+use Rattle.lu_tree.specs.Known.{AreFrom, AreKnownAfter, IsHint, IsKnown, Moves, counts_of}
 use Rattle.lu_tree.specs.Walks.{AreBelow, IsCountAtEnd, StopsAtSchedule}
 use Rattle.lu_tree.proofs.Added.{AreAdded, added_all, added_more, added_none, added_turn, end_below, end_stops, stops_more, stops_there}
 use Rattle.lu_horizon.specs.Dead.{IsDeadTable}
 use Rattle.lu_horizon.proofs.OwnLaws.{serves_next}
 use Rattle.lu_machine.proofs.Keeping.{step_moved}
-use Rattle.lu_tree.proofs.KnownLaws.{behind_here, behind_more, behind_same, hints_on, known_alone, known_behind, known_below, known_with, none_behind}
+use Rattle.lu_tree.proofs.KnownLaws.{after_here, behind_more, after_same, hints_on, known_alone, known_after, known_below, known_with, none_after}
 use Rattle.lu_tree.proofs.Leaving.{ready_still, some_both, stays_home, where_none}
 use Rattle.lu_tree.proofs.Walking.{ended_all, ended_first, ended_picked, ended_turn}
 use Rattle.lu_tree.proofs.walk.+walk_as.Goals as goal
@@ -33,11 +33,11 @@ loop-thread-init g t c =
       ready = c.requires.ready;
       ended = ended_first s;
       counted = subst (AreAdded Set s h c.args.visit.now.left (record { thread = 0; pick = 0 })) (sym c.alone-known.ensures.counts) (added_none Set s h c.args.visit.now.left);
-      kids = none_behind Set s h (c.args.visit.now.left - 1) c.alone-known.result c.alone-known.ensures.kids;
+      kids = none_after Set s h (c.args.visit.now.left - 1) c.alone-known.result c.alone-known.ensures.kids;
     }
 
-pub loop-pick-preserved-in-Some-behind_one_of : goal.loop-pick-preserved-in-Some-behind_one_of
-loop-pick-preserved-in-Some-behind_one_of g t c =
+pub loop-pick-preserved-in-Some-after_one_of : goal.loop-pick-preserved-in-Some-after_one_of
+loop-pick-preserved-in-Some-after_one_of g t c =
     let Set = IsMember (g.T.SerialTree.members c.args.node.now.trail.tree) in
     let s = c.args.node.now.machine in
     let h = c.args.node.now.trail.history in
@@ -45,8 +45,8 @@ loop-pick-preserved-in-Some-behind_one_of g t c =
     let thread = c.loop-thread.thread in
     let pick = c.loop-pick.pick in
     let next : Move = record { thread = thread; pick = pick } in
-    let told = c.in-Some-behind_one_of.ensures in
-    let below = c.in-Some-behind_one_of.hinted.now in
+    let told = c.in-Some-after_one_of.ensures in
+    let below = c.in-Some-after_one_of.hinted.now in
     let picks : c.picks-picks.result ≡ picks_of s thread = c.picks-picks.ensures ∙ ap (λ x. picks_of x thread) c.loop-thread.invariant.machine in
     let one : picks_of s thread ≡ 1 = sym picks ∙ told.only in
     let first : pick ≡ 0 = omega (arith, c.loop-pick-test.true) in
@@ -54,7 +54,7 @@ loop-pick-preserved-in-Some-behind_one_of g t c =
     let step = feasible_step s next able in
     let moves : Moves thread s step.0 step.1 = (one, subst (λ x. Step s (record { thread = thread; pick = x }) step.0 step.1) first step.2) in
     let some : 1 ≤ c.args.visit.now.left = omega arith in
-    let behind : AreBelow Set step.0 (h ++ with_event step.1 []) (c.args.visit.now.left - 1) (counts_of below) = behind_here Set s h (c.args.visit.now.left - 1) thread below (IsHint c.args.visit.now.hints) c.requires.hints told.hint step.0 step.1 moves in
+    let behind : AreBelow Set step.0 (h ++ with_event step.1 []) (c.args.visit.now.left - 1) (counts_of below) = after_here Set s h (c.args.visit.now.left - 1) thread below (IsHint c.args.visit.now.hints) c.requires.hints told.hint step.0 step.1 moves in
     let more = added_more Set s h c.args.visit.now.left thread pick step.0 step.1 (h ++ with_event step.1 []) step.2 refl some (counts_of c.loop-pick.known) (counts_of below) i.counted behind in
     record {
       machine = i.machine;
@@ -66,7 +66,7 @@ loop-pick-preserved-in-Some-behind_one_of g t c =
       ready = record { room = subst (λ p. 256 ≤ vec_capacity p) (sym c.pass_many.ensures.path) i.ready.room; empty = ap (λ p. p.items) c.pass_many.ensures.path ∙ i.ready.empty };
       ended = ended_picked s next able;
       counted = subst (AreAdded Set s h c.args.visit.now.left (record { thread = thread; pick = pick + 1 })) (sym c.add.ensures.counts) more;
-      kids = behind_same Set s h (c.args.visit.now.left - 1) c.loop-pick.known c.add.new.self c.add.ensures.kids i.kids;
+      kids = after_same Set s h (c.args.visit.now.left - 1) c.loop-pick.known c.add.new.self c.add.ensures.kids i.kids;
     }
 
 pub walk_as-walked-requires : goal.walk_as-walked-requires
@@ -81,17 +81,17 @@ walk_as-walked-requires g t c =
     let r = c.enter-undo.new.self.machine in
     let k = c.enter-undo.new.self.trail.history in
     let event = c.enter-undo.result.event in
-    let home : c.hints_behind.new.machine ≡ s = c.hints_behind.ensures.machine ∙ i.machine in
+    let home : c.hints_after.new.machine ≡ s = c.hints_after.ensures.machine ∙ i.machine in
     let step : Step s next r event = subst (λ x. Step x next r event) home c.enter-undo.ensures.step in
     let grown : k ≡ h ++ with_event event [] = c.enter-undo.ensures.history ∙ ap (λ x. x ++ with_event event []) i.history in
     let serves = serves_next c.args.ahead.now.tables.now.horizon s next r event c.requires.serves step in
     let table = c.args.ahead.now.tables.now.dead in
     let dead : IsDeadTable r.component table = subst (λ x. IsDeadTable x table) (sym (step_moved s next r event step).component) c.requires.dead in
-    let from = subst (λ x. AreFrom table x c.args.visit.now.hints c.loop-pick.known thread c.hints_behind.result) i.machine c.hints_behind.ensures.from in
-    let hints = hints_on Set table s c.requires.dead h (c.args.visit.now.left - 1) c.args.visit.now.hints c.loop-pick.known thread pick c.hints_behind.result c.requires.hints i.kids from r event step in
+    let from = subst (λ x. AreFrom table x c.args.visit.now.hints c.loop-pick.known thread c.hints_after.result) i.machine c.hints_after.ensures.from in
+    let hints = hints_on Set table s c.requires.dead h (c.args.visit.now.left - 1) c.args.visit.now.hints c.loop-pick.known thread pick c.hints_after.result c.requires.hints i.kids from r event step in
     let tree = ap (λ x. g.T.SerialTree.members x) (c.enter-undo.ensures.tree ∙ i.tree) in
-    let there = subst (λ x. AreKnownBehind Set r x (c.args.visit.now.left - 1 - 1) (IsHint c.hints_behind.result)) (sym grown) hints in
-    let told = subst (λ x. AreKnownBehind (IsMember x) r k (c.args.visit.now.left - 1 - 1) (IsHint c.hints_behind.result)) (sym tree) there in
+    let there = subst (λ x. AreKnownAfter Set r x (c.args.visit.now.left - 1 - 1) (IsHint c.hints_after.result)) (sym grown) hints in
+    let told = subst (λ x. AreKnownAfter (IsMember x) r k (c.args.visit.now.left - 1 - 1) (IsHint c.hints_after.result)) (sym tree) there in
     search (rules, serves, dead, told)
 
 pub returns-in_default-walked-clause-stops : goal.returns-in_default-walked-clause-stops
@@ -106,7 +106,7 @@ returns-in_default-walked-clause-stops g t c = λ _ running.
     let r = c.enter-undo.new.self.machine in
     let k = c.enter-undo.new.self.trail.history in
     let event = c.enter-undo.result.event in
-    let home : c.hints_behind.new.machine ≡ s = c.hints_behind.ensures.machine ∙ i.machine in
+    let home : c.hints_after.new.machine ≡ s = c.hints_after.ensures.machine ∙ i.machine in
     let here : pick < picks_of c.loop-thread.node.machine thread = rw (← c.picks-picks.ensures) (c.loop-pick-test.true) in
     let able : IsFeasible s next = subst (λ x. pick < picks_of x thread) c.loop-thread.invariant.machine here in
     let step : Step s next r event = subst (λ x. Step x next r event) home c.enter-undo.ensures.step in
@@ -130,7 +130,7 @@ loop-pick-preserved g t c =
     let r = c.enter-undo.new.self.machine in
     let k = c.enter-undo.new.self.trail.history in
     let event = c.enter-undo.result.event in
-    let home : c.hints_behind.new.machine ≡ s = c.hints_behind.ensures.machine ∙ i.machine in
+    let home : c.hints_after.new.machine ≡ s = c.hints_after.ensures.machine ∙ i.machine in
     let here : pick < picks_of c.loop-thread.node.machine thread = rw (← c.picks-picks.ensures) (c.loop-pick-test.true) in
     let able : IsFeasible s next = subst (λ x. pick < picks_of x thread) c.loop-thread.invariant.machine here in
     let step : Step s next r event = subst (λ x. Step x next r event) home c.enter-undo.ensures.step in
@@ -139,10 +139,10 @@ loop-pick-preserved g t c =
     let tree = ap (λ x. g.T.SerialTree.members x) (c.enter-undo.ensures.tree ∙ i.tree) in
     let below = c.in-Some-walked.below in
     let known : IsKnown Set r k (c.args.visit.now.left - 1) below = subst (λ x. IsKnown (IsMember x) r k (c.args.visit.now.left - 1) below) tree w.known in
-    let behind = known_behind Set s h (c.args.visit.now.left - 1) thread pick r event k below step grown known in
+    let behind = known_after Set s h (c.args.visit.now.left - 1) thread pick r event k below step grown known in
     let more = added_more Set s h c.args.visit.now.left thread pick r event k step grown some (counts_of c.loop-pick.known) (counts_of below) i.counted (known_below Set r k (c.args.visit.now.left - 1) below known) in
     let counts = c.keep.ensures.counts ∙ c.add-in-loop-pick.ensures.counts in
-    let kids = behind_same Set s h (c.args.visit.now.left - 1) c.loop-pick.known c.add-in-loop-pick.new.self c.add-in-loop-pick.ensures.kids i.kids in
+    let kids = after_same Set s h (c.args.visit.now.left - 1) c.loop-pick.known c.add-in-loop-pick.new.self c.add-in-loop-pick.ensures.kids i.kids in
     record {
       machine = c.leave.ensures.machine ∙ (ap (restored c.enter-undo.result) w.machine ∙ (c.enter-undo.ensures.back ∙ home));
       history = c.leave.ensures.history c.loop-pick.node.trail.history (w.history ∙ c.enter-undo.ensures.history) ∙ i.history;

@@ -1,7 +1,7 @@
 use Rattle.std.proofs.Common.{◌≡◌, ◌-◌, false}
 use Rattle.lu_witness.specs.Caches.{SameButEntries}
 use Rattle.lu_witness.specs.Witnesses.{IsMember}
-use Rattle.lu_tree.specs.Known.{AreKnownBehind, IsKid, counts_of}
+use Rattle.lu_tree.specs.Known.{AreKnownAfter, IsKid, counts_of}
 use Rattle.lu_tree.specs.Walks.{IsReadyToWalk}
 use Rattle.lu_tree.proofs.Walking.{HasEnded}
 use Rattle.lu_tree.proofs.Added.{AreAdded}
@@ -21,7 +21,7 @@ invariant-loop-thread g l = record {
   ready : IsReadyToWalk l.tally;
   ended : HasEnded l.fn.node.machine (record { thread = l.thread; pick = 0 }) l.is_ended;
   counted : AreAdded (IsMember (g.T.SerialTree.members l.fn.node.trail.tree)) l.fn.node.machine l.fn.node.trail.history l.visit.left (record { thread = l.thread; pick = 0 }) (counts_of l.known);
-  kids : AreKnownBehind (IsMember (g.T.SerialTree.members l.fn.node.trail.tree)) l.fn.node.machine l.fn.node.trail.history (l.visit.left - 1) (IsKid l.known);
+  kids : AreKnownAfter (IsMember (g.T.SerialTree.members l.fn.node.trail.tree)) l.fn.node.machine l.fn.node.trail.history (l.visit.left - 1) (IsKid l.known);
 }
 
 abbrev pub invariant-loop-pick : goal.invariant-loop-pick
@@ -35,5 +35,5 @@ invariant-loop-pick g l = record {
   ready : IsReadyToWalk l.tally;
   ended : HasEnded l.fn.node.machine (record { thread = l.thread; pick = l.pick }) l.is_ended;
   counted : AreAdded (IsMember (g.T.SerialTree.members l.fn.node.trail.tree)) l.fn.node.machine l.fn.node.trail.history l.visit.left (record { thread = l.thread; pick = l.pick }) (counts_of l.known);
-  kids : AreKnownBehind (IsMember (g.T.SerialTree.members l.fn.node.trail.tree)) l.fn.node.machine l.fn.node.trail.history (l.visit.left - 1) (IsKid l.known);
+  kids : AreKnownAfter (IsMember (g.T.SerialTree.members l.fn.node.trail.tree)) l.fn.node.machine l.fn.node.trail.history (l.visit.left - 1) (IsKid l.known);
 }

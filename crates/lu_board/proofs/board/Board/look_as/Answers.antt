@@ -5,7 +5,7 @@ use Rattle.lu_board.specs.declared.view.Look.{Look}
 use Rattle.lu_board.specs.declared.view.Look.TheVariants.{Skip, Go}
 use Rattle.lu_board.specs.declared.view.View.{View}
 use Rattle.lu_board.specs.Answer.{IsLookAnswer}
-use Rattle.lu_board.specs.Seats.{SeatModel}
+use Rattle.lu_board.specs.Seats.{Seat}
 use Rattle.lu_board.specs.Events.{with_skipped, with_seen}
 use Rattle.lu_board.specs.Plays.{Looked}
 use Rattle.lu_board.proofs.Counts.{Has, contains-has}
@@ -15,7 +15,7 @@ use Rattle.lu_board.proofs.board.Board.look_as.Goals.{then-best-piece, else-best
 
 pub load-best-requires : goal.load-best-requires
 load-best-requires g c =
-    let held = subst (λ (h : SeatModel). Has h.view.held c.args.piece) (sym c.seat.view_is) (contains-has _ _ c.requires.held) in
+    let held = subst (λ (h : Seat). Has h.view.held c.args.piece) (sym c.seat.view_is) (contains-has _ _ c.requires.held) in
     let named = subst (λ i. Has c.seat.inside.token.me.0.held i) (sym c.requires.piece) held in
     (search rules, search rules, looks _ _ _ _ _ _ named c.seat.invariant.0.weight)
 
@@ -26,7 +26,7 @@ returns-clause-answer g c =
     let w = c.load-best.new.seat.me in
     let slots = c.self.inside.table.shared.table_id.slots in
     let p = subst (λ i. Looked i (step slots 1 0 0 none) m found w) c.requires.piece c.load-best.ensures.2 in
-    let view = ap (λ (h : SeatModel). h.view) c.seat.view_is in
+    let view = ap (λ (h : Seat). h.view) c.seat.view_is in
     let told = c.seat.invariant.0.pieces in
     let give : (l : Look) → c.if-best-piece.result ≡ l → IsLookAnswer c.args.piece l m.0 w.0 → IsLookAnswer c.args.piece c.if-best-piece.result c.args.seat.now.view w.0 =
     λ l is a. subst (λ (z : Look × View). IsLookAnswer c.args.piece z.0 z.1 w.0) (λ j. (sym is j, view j)) a in

@@ -1,7 +1,7 @@
 use Rattle.std.proofs.Common.{[], refl, rules, false, true}
 use Rattle.lu_trie.specs.Branches.{members_from}
 use Rattle.lu_trie.proofs.Kids.{no_branches, one_branch, one_not_empty}
-use Rattle.lu_trie.proofs.Serial.{one_serial, one_behind_serial, serial_rest}
+use Rattle.lu_trie.proofs.Serial.{one_serial, one_after_serial, serial_rest}
 use Rattle.lu_trie.proofs.trie.Trie.+of_one.Goals as goal
 
 pub invariant_of-result : goal.invariant_of-result
@@ -14,5 +14,5 @@ pub invariant_of-result-in-len1-up : goal.invariant_of-result-in-len1-up
 invariant_of-result-in-len1-up g t c =
     rw (c.in_ok-push-in-len1-up.ensures.items, c.new-kids.ensures.items) record {
       are = one_branch _ (one_not_empty _ _ c.in_ok-below-in-len1-up.ensures);
-      serial = one_behind_serial false c.args.history.now _ c.in-len1-up.len_at_least refl c.in_ok-below-in-len1-up.ensures c.requires;
+      serial = one_after_serial false c.args.history.now _ c.in-len1-up.len_at_least refl c.in_ok-below-in-len1-up.ensures c.requires;
     }

@@ -1,0 +1,36 @@
+//! Reading of a schedule that goes on after a fault.
+
+ghost use Rattle.std.specs.Prelude.{Some};
+ghost use Rattle.lu_test.specs.Results.{HasWords};
+ghost use Rattle.lu_test.specs.ScheduleGoing as spec;
+
+use crate::schedule_text::{has_form, line_in};
+use lu_text::parts_of;
+use std::alloc::{AllocError, Global};
+
+/// The words after `schedule` of a line.
+fn words_by<'a>(alloc: Global, line: &'a [u8]) -> Result<Option<Vec<&'a [u8]>>, AllocError>
+    ensures { HasWords result (spec.schedule_line_words (Some line.now)) }
+{
+    let mut words = parts_of(alloc, b' ', line)?;
+    if !has_form(&words) {
+        return Ok(None);
+    }
+    words.remove(0);
+    Ok(Some(words))
+}
+
+/// The words after `schedule`, where the text has the form of a schedule: `schedule` and words,
+/// each after one space, in one line with its LF.
+///
+/// # Errors
+///
+/// There is no memory for the words.
+pub fn schedule_words(alloc: Global, text: &[u8]) -> Result<Option<Vec<&[u8]>>, AllocError>
+    ensures { HasWords result (spec.schedule_words text.now) }
+{
+    match line_in(text) {
+        None => Ok(None),
+        Some(line) => words_by(alloc, line),
+    }
+}
