@@ -128,7 +128,7 @@ same_run how (suc n) (suc m) s a b k l p q over far =
     (rest.0, p.5 ∙ (ap (λ x. setup_line how s ++ x) rest.1 ∙ sym q.5))
 
 -- no thread's calls after those of this setup
-alone_after : List Call → Matrix
+abbrev alone_after : List Call → Matrix
 alone_after calls = record { setup = calls; threads = [] }
 
 -- the lines up to 34,952, or to where no step is left, are those of the setup
