@@ -1,6 +1,7 @@
 use Rattle.std.proofs.Common.{arith, rules, ◌≡◌, ◌+◌, ◌≤◌, Bool, true, false, length, refl, sym, ◌∙◌, ap, subst}
 use Rattle.lu_component.specs.Component.{Component}
 use Rattle.lu_machine.specs.Positions.{CanStandAt, at_position}
+use Rattle.lu_machine.specs.Starts.{Settles}
 use Rattle.lu_machine.specs.States.{State}
 use Rattle.lu_machine.proofs.Starting.{settled_start}
 use Rattle.lu_horizon.specs.Dead.{DeadTable}
@@ -142,6 +143,27 @@ add_next-requires c =
     let here = one.there in
     let can = can_stand members decl matrix settles dead dead_known list place visited c.loop-at.machine c.loop-at.invariant.component c.loop-at.invariant.matrix_is kept here in
     sized_there c.loop-at.machine c.stand_at.new.self kept can (c.stand_at.ensures ∙ ap (at_position c.loop-at.machine) (sym one.position))
+
+-- its setup settles
+pub are_few-requires-clause-settles : goal.are_few-requires-clause-settles
+are_few-requires-clause-settles c =
+    let members = c.args.members.now in
+    let decl = c.args.machine.now.component in
+    let matrix = c.args.machine.now.matrix in
+    let settles = settled_start decl matrix c.args.machine.now c.requires.starts in
+    let dead = c.args.nodes.now.parts.dead in
+    let dead_known : KnowsDead decl dead = c.requires.first.3 in
+    let list = c.loop-at.invariant.known.0 in
+    let hold = c.loop-at.invariant.known.1 in
+    let place = c.loop-at.at in
+    let popped : Nodes = record c.loop-at.nodes { waiting = c.pop_front.new.self } in
+    let one = next_there members c.loop-at.nodes list place hold popped c.in-Some.kept refl refl c.in-Some.ensures.items in
+    let kept = one.kept in
+    let stood : c.stand_at.new.self ≡ at_position c.loop-at.machine kept.position = c.stand_at.ensures ∙ ap (at_position c.loop-at.machine) (sym one.position) in
+    let home : c.add_next.new.machine ≡ at_position c.loop-at.machine kept.position = c.in_ok-add_next.ensures.home ∙ stood in
+    let same_component = ap (λ (s : State). s.component) home ∙ c.loop-at.invariant.component in
+    let same_matrix = ap (λ (s : State). s.matrix) home ∙ c.loop-at.invariant.matrix_is in
+    subst (Settles c.add_next.new.machine.component) (sym same_matrix) (subst (λ (d : Component). Settles d matrix) (sym same_component) settles)
 
 pub are_few-requires-clause-visited : goal.are_few-requires-clause-visited
 are_few-requires-clause-visited c =
