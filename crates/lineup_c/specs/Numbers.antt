@@ -1,5 +1,5 @@
 -- States and events as numbers.
-use Rattle.std.specs.Prelude.{◌≡◌, ℕ, zero, suc, ◌+◌, ◌-◌, ◌^◌, List, [], ◌∷◌, ◌++◌, length, replicate, Option, Some, None, Result, IfOk, OnOk, Vec, min, slice_get}
+use Rattle.std.specs.Prelude.{◌≡◌, ℕ, zero, suc, ◌+◌, ◌-◌, ◌^◌, List, [], ◌∷◌, ◌++◌, length, Option, Some, None, Result, IfOk, OnOk, Vec, min, slice_get}
 use Rattle.std.specs.Option.{option_map_or}
 use Rattle.lu_component.specs.declared.instr.Operand.TheVariants.{Reg}
 use Rattle.lu_component.specs.Component.{Component}

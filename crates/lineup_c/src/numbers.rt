@@ -1,7 +1,6 @@
 //! States and events as numbers.
 
 ghost use Rattle.std.specs.Prelude.{◌≡◌, ◌<◌, ◌≤◌, ◌+◌, [], ◌∷◌, length};
-ghost use Rattle.lu_component.specs.Component.{IsRegister};
 ghost use Rattle.lineup_c.specs.Numbers.{Adds};
 ghost use Rattle.lineup_c.specs.Numbers as spec;
 

@@ -1,10 +1,9 @@
 //! Whether a cut fails, and how it stands where it does not.
 
-ghost use Rattle.std.specs.Prelude.{◌≡◌, ◌↔◌, ◌≤◌, true, IsTrue, IfOk};
+ghost use Rattle.std.specs.Prelude.{◌≡◌, ◌↔◌, ◌≤◌, true, IfOk};
 ghost use Rattle.lu_machine.specs.Starts.{CanRun};
 ghost use Rattle.lu_report.specs.Limits.{IsSerialBound, most_moves};
 ghost use Rattle.lu_replay.specs.Reports.{IsReport};
-ghost use Rattle.lu_certify.specs.Certificates.{IsFailure, IsFullPass};
 ghost use Rattle.lu_certify.specs.Places.{IsJudged, IsJudgedFirst, IsLeftOpen, IsTold};
 
 use crate::judged::{Judged, Standing};

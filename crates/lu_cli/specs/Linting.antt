@@ -1,5 +1,5 @@
 -- What `lint` answers.
-use Rattle.std.specs.Prelude.{◌≡◌, ◌-◌, ℕ, nat_lt, Bool, MatchBool, MatchResult, List, [], ◌∷◌, ◌++◌, length, Option, Some, None, if◌then◌else◌, Vec, codes, String, string_bytes}
+use Rattle.std.specs.Prelude.{◌≡◌, ◌-◌, ℕ, nat_lt, MatchBool, MatchResult, List, [], ◌∷◌, ◌++◌, length, Option, Some, None, if◌then◌else◌, Vec, codes, String, string_bytes}
 use Rattle.std.specs.List.{filter_map, list_any}
 use Rattle.std.specs.List.Sorted.{IsNonDecreasingBy}
 use Rattle.std.specs.Fmt.{decimal}

@@ -1,6 +1,6 @@
 //! What is answered to a source.
 
-ghost use Rattle.std.specs.Prelude.{◌≡◌, ◌++◌, IfErr, IfOk, OnOk, string_bytes};
+ghost use Rattle.std.specs.Prelude.{◌≡◌, ◌++◌, IfErr, IfOk};
 ghost use Rattle.lu_text.specs.Lines.{texts};
 ghost use Rattle.lu_text.specs.Results.{Builds};
 ghost use Rattle.lu_text.specs.Writing.{Writes};

@@ -1,6 +1,6 @@
 //! What each move of a schedule does.
 
-ghost use Rattle.std.specs.Prelude.{IfErr, IfOk, string_bytes};
+ghost use Rattle.std.specs.Prelude.{IfErr, IfOk};
 ghost use Rattle.lu_machine.specs.Starts.{CanRun};
 ghost use Rattle.lu_trace.specs.Traces.{IsTraceFault};
 ghost use Rattle.lu_cli.specs.Trace as spec;

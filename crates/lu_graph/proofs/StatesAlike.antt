@@ -7,7 +7,6 @@ use Rattle.lu_test.specs.declared.schedule.Move.{Move}
 use Rattle.lu_machine.specs.declared.event.Event.{Event}
 use Rattle.lu_machine.specs.declared.thread.Activity.{Activity}
 use Rattle.lu_machine.specs.declared.thread.Activity.TheVariants.{Idle, Open}
-use Rattle.lu_machine.specs.declared.thread.Frame.{Frame}
 use Rattle.lu_machine.specs.declared.thread.Thread.{Thread}
 use Rattle.lu_machine.specs.Ends.{IsEnded}
 use Rattle.lu_machine.specs.States.{State, progress, progress_of}
@@ -15,7 +14,7 @@ use Rattle.lu_machine.specs.Steps.{Step}
 use Rattle.lu_machine.proofs.Keeping.{step_moved}
 use Rattle.lu_horizon.specs.Alike as by
 use Rattle.lu_horizon.specs.Alike.{Liveness}
-use Rattle.lu_horizon.specs.Dead.{DeadTable, IsDead, IsDeadTable, TellsDead, is_dead}
+use Rattle.lu_horizon.specs.Dead.{DeadTable, IsDeadTable, is_dead}
 use Rattle.lu_history.specs.declared.serial.SerialOp.{SerialOp}
 use Rattle.lu_witness.specs.Goodness.{IsGoodAt}
 use Rattle.lu_tree.specs.Alike.{LiveBy}

@@ -13,7 +13,7 @@ use Rattle.lu_machine.specs.declared.thread.Activity.TheVariants.{Idle, Open}
 use Rattle.lu_machine.specs.declared.thread.Frame.{Frame}
 use Rattle.lu_machine.specs.declared.thread.Thread.{Thread}
 use Rattle.lu_machine.specs.Changes.{at_work, idle}
-use Rattle.lu_machine.specs.Ends.{HasNoMove, IsEnded}
+use Rattle.lu_machine.specs.Ends.{IsEnded}
 use Rattle.lu_machine.specs.Runs.{Leads, with_event}
 use Rattle.lu_machine.specs.States.{State, instr_at}
 use Rattle.lu_machine.specs.Steps.{Step, instr_picks, picks_of}

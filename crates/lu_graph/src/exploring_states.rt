@@ -1,6 +1,6 @@
 //! All states of a component on a matrix.
 
-ghost use Rattle.std.specs.Prelude.{◌≡◌, ◌<◌, length, All, IfOk};
+ghost use Rattle.std.specs.Prelude.{◌≡◌, ◌<◌, IfOk};
 ghost use Rattle.lu_machine.specs.Starts.{CanRun, FromEachStart};
 ghost use Rattle.lu_graph.specs.Discovering.{HasOnly};
 ghost use Rattle.lu_graph.specs.Exploring.{IsExplored};

@@ -1,9 +1,8 @@
 //! How an ended state is judged, by the members that are alive.
 
-ghost use Rattle.std.specs.Prelude.{◌≡◌, ◌↔◌, Some, IsTrue, length, slice_get};
+ghost use Rattle.std.specs.Prelude.{◌≡◌, ◌↔◌, Some, IsTrue, length};
 ghost use Rattle.lu_history.specs.declared.serial.SerialOutcome.TheVariants.{Stuck};
 ghost use Rattle.lu_machine.specs.Ends.{IsEnded};
-ghost use Rattle.lu_witness.specs.Witnesses.{entries};
 ghost use Rattle.lu_graph.specs.Judging.{AllHaveWhole, HasWhole, IsStuckIn, IsWhole, JudgesGood, ended, room};
 
 use crate::members::{count, place_of};

@@ -1,6 +1,6 @@
 //! The members of a tree, as a list.
 
-ghost use Rattle.std.specs.Prelude.{◌≡◌, ◌++◌, [], IfOk, OnOk, map};
+ghost use Rattle.std.specs.Prelude.{◌≡◌, ◌++◌, [], IfOk, OnOk};
 ghost use Rattle.lu_graph.specs.Alive.{AreTold};
 ghost use Rattle.lu_graph.specs.Listing.{ListsMore, histories};
 

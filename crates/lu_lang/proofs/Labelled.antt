@@ -1,5 +1,5 @@
 -- In a text that is read, the labels stand where its jumps lead.
-use Rattle.std.proofs.Common.{◌≡◌, ℕ, zero, suc, ◌+◌, ◌-◌, ◌<◌, ◌≤◌, Bool, true, false, cond, List, [], ◌∷◌, ◌++◌, length, get_or, Option, Some, None, Result, Ok, Err, refl, subst, sym, ap, ◌∙◌, arith}
+use Rattle.std.proofs.Common.{◌≡◌, ℕ, ◌+◌, ◌-◌, ◌<◌, ◌≤◌, Bool, true, false, cond, List, [], ◌∷◌, ◌++◌, length, get_or, Option, Some, None, Result, Ok, Err, refl, subst, sym, ap, ◌∙◌, arith}
 use Rattle.std.specs.Prelude.{◌&&◌, ◌||◌, not, nat_le, nat_lt, is_some, option_and_then, map, slice_get, codes, find}
 use Rattle.std.specs.List.{position, AllByRecursion, list_all}
 use Rattle.std.specs.Str.{bytes_eq}
@@ -13,11 +13,9 @@ use Rattle.lu_text.specs.Names.{has_name_form, is_long}
 use Rattle.lu_text.specs.Lines.{is_allowed, lines_of, words_of}
 use Rattle.lu_text.specs.Words.{Word, exactly_one, exactly_two, exactly_three, exactly_five}
 use Rattle.lu_text.specs.Faults.{Tests, says, or_else, on_line, then_lines, lines_after, meaning_of}
-use Rattle.lu_text.specs.declared.fault.Fault.{Fault}
 use Rattle.lu_text.proofs.Says.{NoneHold, said}
 use Rattle.lu_component.specs.declared.instr.Instr.{Instr}
 use Rattle.lu_component.specs.declared.instr.Instr.TheVariants as instr
-use Rattle.lu_component.specs.declared.instr.Operand.{Operand}
 use Rattle.lu_component.specs.declared.instr.Arithmetic.{Arithmetic}
 use Rattle.lu_component.specs.declared.component.Op.{Op}
 use Rattle.lu_component.specs.Component.{Component, operation_number}
@@ -31,7 +29,7 @@ use Rattle.lu_lang.specs.declared.fault.LangFaultKind.TheVariants.{Byte, Missing
 use Rattle.lu_lang.specs.Draft.{OpenOp, ComponentDraft, nothing, named}
 use Rattle.lu_lang.specs.Words.{keyword_in}
 use Rattle.lu_lang.specs.Grammar.{value, is_value, register, is_register, operand, is_operand, array_place, lock_place, label_place, array_number, component_line, local_line, array_line, lock_line, op_line, declaration, set_line, compute_line, load_line, cas_line, locked, cell_and_value, as_plain, pick_line, jump_line, jump_if_zero_line, return_line, statement, sooner, place_fault, with_label, with_statement, placed, instr_line, labelled, label_used, is_there, are_there, ends_well, target, resolved, op_of, end_line, by_label, by_state, closed, by_words, line_of, label_in, declared, component_grammar}
-use Rattle.lu_lang.specs.Labels.{Marked, nothing_marked, outside_line, inside_line, marked_line, with_words, marked_after, all_marks, marks_of_lines, by_operation, name_if, label_on, label_at, label_named, jump_of, jump_on, labels_of, jumps_of, target_of, led_to, AreTargets}
+use Rattle.lu_lang.specs.Labels.{Marked, nothing_marked, outside_line, inside_line, marked_line, with_words, all_marks, marks_of_lines, name_if, label_on, label_at, label_named, jump_of, jump_on, labels_of, jumps_of, target_of, led_to, AreTargets}
 use Rattle.lu_component.proofs.Named.{is_found}
 use Rattle.lu_lang.proofs.Drafts.{sooner_some}
 use Rattle.lu_lang.proofs.Placing.{no_fault}

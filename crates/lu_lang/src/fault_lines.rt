@@ -1,7 +1,6 @@
 //! Where the messages of a fault stand, where that is not the fault's line.
 
-ghost use Rattle.std.specs.Prelude.{◌≡◌, ◌-◌, length, map, filter, None};
-ghost use Rattle.std.specs.List.{enumerate_from};
+ghost use Rattle.std.specs.Prelude.{◌≡◌, ◌-◌, map, filter, None};
 ghost use Rattle.lu_text.specs.Lines.{text_if, texts};
 ghost use Rattle.lu_lang.specs.Grammar as grammar;
 ghost use Rattle.lu_lang.specs.Place as spec;

@@ -1,7 +1,7 @@
 //! Lines as their writer meant them: a declaration with a fault was to declare a name, and the
 //! lines after it may use that name.
 
-ghost use Rattle.std.specs.Prelude.{◌≡◌, ◌≤◌, ◌<◌, ◌++◌, length, nat_le, option_and_then, slice_get};
+ghost use Rattle.std.specs.Prelude.{◌≡◌, ◌≤◌, ◌<◌, ◌++◌, length, nat_le};
 ghost use Rattle.std.specs.Option.{option_map, unwrap_or};
 ghost use Rattle.lu_text.specs.Lines.{text_if, texts};
 ghost use Rattle.lu_text.specs.Faults.{going_on};

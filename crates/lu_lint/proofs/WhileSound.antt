@@ -4,8 +4,7 @@ use Rattle.std.specs.Prelude.{◌==◌, ◌&&◌, IfSome, IsSome, is_none, is_so
 use Rattle.std.specs.Option.{unwrap_or}
 use Rattle.std.specs.Result.{result_ok}
 use Rattle.lu_text.specs.declared.fault.Fault.{Fault}
-use Rattle.lu_text.specs.declared.fault.Fault.TheVariants.{At}
-use Rattle.lu_text.specs.Faults.{Grammar, fault_in, going_on, lines_after, meaning_of, on_line, says, then_lines}
+use Rattle.lu_text.specs.Faults.{Grammar, fault_in, going_on, lines_after, on_line, says, then_lines}
 use Rattle.lu_component.specs.Component.{Component}
 use Rattle.lu_lang.specs.declared.fault.LangFaultKind.{LangFaultKind}
 use Rattle.lu_lang.specs.Draft.{ComponentDraft}

@@ -1,5 +1,5 @@
 -- What lint and the readers say of one text.
-use Rattle.std.specs.Prelude.{ℕ, List, None}
+use Rattle.std.specs.Prelude.{ℕ, List}
 use Rattle.lu_component.specs.Component.{Component}
 use Rattle.lu_text.specs.Faults.{meaning_of}
 use Rattle.lu_lang.specs.Grammar.{component_grammar}

@@ -152,7 +152,7 @@ unsettled_before c matrix k n end h less all =
     h.open_still b.end (subst (λ x. Makes x k b.end) same b.makes)
 
 pub never_both : (c : Component) (matrix : Matrix) (k : ℕ) → IsUnsettledAt c matrix k → Settles c matrix → ⊥
-never_both c matrix k h settles = settles k h
+never_both c matrix k h settles = settles.none_open k h
 
 pub one_unsettled : (c : Component) (matrix : Matrix) (i j : ℕ) → IsUnsettledAt c matrix i → IsUnsettledAt c matrix j → i ≡ j
 one_unsettled c matrix i j p q =
@@ -168,10 +168,13 @@ one_unsettled c matrix i j p q =
 
 -- where all these calls were made, each of them ends
 pub made_end : (c : Component) (calls : List Call) (end : State) → MakesAll c calls (length calls) end → AllEnd c calls
-made_end c calls end made k h =
-    let b = before c calls (length calls) k end h.there made in
-    let same = makes_all_same c calls k b.before h.before b.made h.made in
-    h.open_still b.end (subst (λ x. Makes x k b.end) same b.makes)
+made_end c calls end made = record { none_open = never }
+  where
+    never : (k : ℕ) → IsFirstOpen c calls k → ⊥
+    never k h =
+        let b = before c calls (length calls) k end h.there made in
+        let same = makes_all_same c calls k b.before h.before b.made h.made in
+        h.open_still b.end (subst (λ x. Makes x k b.end) same b.makes)
 
 -- at most n moves of thread 0, each with pick 0, lead from s to a state where call k has ended
 record Reaches (n k : ℕ) (s : State) : Type 0 where
@@ -307,7 +310,7 @@ all_made c calls all (suc k) few =
     let b = all_made c calls all k (omega (arith, few)) in
     elim (makes_or_not b.0 k) [
       | inl makes ↦ (makes.0, (b.0, b.1, makes.1))
-      | inr none ↦ absurd (all k (record { there = omega (arith, few); before = b.0; made = b.1; open_still = none }))
+      | inr none ↦ absurd (all.none_open k (record { there = omega (arith, few); before = b.0; made = b.1; open_still = none }))
     ]
 
 pub start_there : (c : Component) (matrix : Matrix) → Settles c matrix → (s : State) × IsStart c matrix s
@@ -481,7 +484,7 @@ settles_too c matrix other h e = subst (AllEnd c) (sym e) h
 
 -- the empty setup settles
 pub none_settles : (c : Component) (matrix : Matrix) → matrix.setup ≡ [] → Settles c matrix
-none_settles c matrix e = subst (AllEnd c) (sym e) (λ k h. omega (arith, h.there))
+none_settles c matrix e = subst (AllEnd c) (sym e) (record { none_open = λ k h. omega (arith, h.there) })
 
 -- so a matrix of the component can run that has the setup of one that can
 pub can_run_too : (c : Component) (matrix other : Matrix) → CanRun c matrix → IsOf other c → other.setup ≡ matrix.setup → CanRun c other

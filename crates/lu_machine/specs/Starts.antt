@@ -70,8 +70,8 @@ pub record IsFirstOpen (c : Component) (calls : List Call) (k : ℕ) : Type 0 wh
   pub open_still : (end : State) → Makes before k end → ⊥
 
 -- each of these calls ends within 256 moves after it: none is the first that does not
-abbrev pub AllEnd : Component → List Call → Type 0
-AllEnd c calls = (k : ℕ) → IsFirstOpen c calls k → ⊥
+pub record AllEnd (c : Component) (calls : List Call) : Type 0 where
+  pub none_open : (k : ℕ) → IsFirstOpen c calls k → ⊥
 
 -- each call of the setup ends
 abbrev pub Settles : Component → Matrix → Type 0

@@ -14,8 +14,8 @@
 //! [`settles`] says whether each of them ends. A component with a matrix whose setup settles is a
 //! [`Test`].
 //!
-//! A search makes a move by [`Machine::apply`] and takes it back by [`Machine::undo`]. None of the
-//! calls but [`Machine::start`] and [`settles`] takes memory.
+//! A search makes a move by [`Machine::apply`] and takes it back by [`Machine::undo`]. Of the calls
+//! only [`Machine::start`], [`Machine::position`], [`settles`] and [`Test::of`] take memory.
 //!
 //! ```text
 //! let mut machine = Machine::start(alloc, &component, &matrix)?;

@@ -3,7 +3,6 @@
 ghost use Rattle.std.specs.Prelude.{◌≡◌, ◌<◌, ◌≤◌, ◌↔◌, IsTrue, IsOk, IfOk, IfErr, length, All, Any};
 ghost use Rattle.lu_test.specs.Matrix.{IsSetup};
 ghost use Rattle.lu_machine.specs.Starts.{AllEnd};
-ghost use Rattle.lu_report.specs.Parts.{IsPass};
 ghost use Rattle.lu_refine.specs.Choices.{AreEnough, choice_count};
 ghost use Rattle.lu_refine.specs.Campaigns.{AreCallsOf, HaveArguments, IsFoundOf, IsGrid, IsLimitFault, Runs};
 ghost use Rattle.lu_refine.specs.Roles.{AreWithinLimits, bases};

@@ -1,10 +1,9 @@
 //! Matrices that fail, with fewer calls.
 
-ghost use Rattle.std.specs.Prelude.{◌≡◌, ◌≤◌, ◌↔◌, IsTrue, IfOk, IfErr};
+ghost use Rattle.std.specs.Prelude.{◌≡◌, ◌≤◌, ◌↔◌, IfOk, IfErr};
 ghost use Rattle.lu_test.specs.Matrix.{IsOf};
 ghost use Rattle.lu_machine.specs.Starts.{CanRun};
-ghost use Rattle.lu_replay.specs.Reports.{IsReport};
-ghost use Rattle.lu_refine.specs.Removals.{IsFailure, IsRound, IsShrinkFault, IsShrunk};
+ghost use Rattle.lu_refine.specs.Removals.{IsRound, IsShrinkFault, IsShrunk};
 
 use crate::arena::check_in_arena;
 use crate::shrink_fault::ShrinkFault;

@@ -1,6 +1,6 @@
 //! Replays as text.
 
-ghost use Rattle.std.specs.Prelude.{◌≡◌, IfOk, codes, string_bytes};
+ghost use Rattle.std.specs.Prelude.{◌≡◌, IfOk, string_bytes};
 ghost use Rattle.lu_replay.specs.Text.{replay_text, status_text};
 
 use crate::shown::Replay;

@@ -61,7 +61,7 @@ pub record DiffersAt (Texts : List (List ℕ) → Type 0) (lines : List (List �
   pub there : (other : List (List ℕ)) → Texts other → take (n + 1) other ≡ take (n + 1) lines → ⊥
 
 -- The fault of a text: the number of the first line at which all reports' texts differ, after the
--- same lines before it. Memory was refused can come with any text.
+-- same lines before it. That memory was refused can come with any text.
 abbrev pub IsFault : List ℕ → Fault ReportFaultKind → Type 0
 IsFault text (At kind line) = (n : ℕ) × (line ≡ 1 + n) × DiffersAt AreReport (kept_lines text) n
 IsFault text Memory = Unit {0}

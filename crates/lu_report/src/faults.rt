@@ -1,6 +1,6 @@
 //! Every fault of a report's text.
 
-ghost use Rattle.std.specs.Prelude.{◌≡◌, ◌++◌, IfOk, slice_get};
+ghost use Rattle.std.specs.Prelude.{◌≡◌, ◌++◌, IfOk};
 ghost use Rattle.std.specs.Option.{option_to_list};
 ghost use Rattle.lu_text.specs.Lines.{texts};
 ghost use Rattle.lu_report.specs.EveryLine as spec;

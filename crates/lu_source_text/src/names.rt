@@ -1,7 +1,6 @@
 //! What names and numbers of a source mean.
 
 ghost use Rattle.std.specs.Prelude.{◌≡◌, ◌+◌, ◌<◌, ◌^◌, length, IfSome};
-ghost use Rattle.std.specs.Option.{option_map};
 ghost use Rattle.lu_source_text.specs.Grammar as spec;
 ghost use Rattle.lu_source_text.specs.Grammar.{declaring, either, is_among, stating, valued};
 ghost use Rattle.lu_text.specs.Numbers.{value_in as a_value};

@@ -1,6 +1,6 @@
 //! Reading of sources, line by line.
 
-ghost use Rattle.std.specs.Prelude.{◌≡◌, ◌<◌, ◌≤◌, ◌∷◌, length, map, Ok, IfOk};
+ghost use Rattle.std.specs.Prelude.{◌≡◌, ◌<◌, ◌≤◌, ◌∷◌, map, Ok, IfOk};
 ghost use Rattle.lu_text.specs.Faults.{Gives, TellsFirst, meaning_of, meaning_of_lines, on_line};
 ghost use Rattle.lu_text.specs.Lines.{texts};
 ghost use Rattle.lu_text.specs.Results.{HasItems};

@@ -1,6 +1,6 @@
 //! Reading of statements that open no block and declare no local.
 
-ghost use Rattle.std.specs.Prelude.{◌≡◌, ◌<◌, ◌≤◌, length, IfOk};
+ghost use Rattle.std.specs.Prelude.{◌≡◌, ◌<◌, ◌≤◌, IfOk};
 ghost use Rattle.std.specs.List.{list_any};
 ghost use Rattle.lu_text.specs.Lines.{texts};
 ghost use Rattle.lu_source.specs.Evaluations.{coded_of, expr_of};

@@ -2,7 +2,6 @@
 
 ghost use Rattle.std.specs.Prelude.{◌≡◌, ◌≢◌, ◌↔◌, [], OnOk, IfOk, IfErr, IsTrue};
 ghost use Rattle.lu_text.specs.Lines.{kept_lines};
-ghost use Rattle.lu_test.specs.Matrix.{Matrix as AMatrix};
 ghost use Rattle.lu_history.specs.Serial.{IsSerial};
 ghost use Rattle.lu_spec.specs.Beginnings.{AddsBeginnings};
 ghost use Rattle.lu_spec.specs.Reading.{DraftsNext, FindsNext, IsDraftOf, IsRefusalAmong, IsSomeDraft, IsSomeGathering, ListsNothing, Refuses};

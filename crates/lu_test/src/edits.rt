@@ -1,8 +1,8 @@
 //! Matrices made from others: copies, and those with fewer calls.
 
-ghost use Rattle.std.specs.Prelude.{◌≡◌, ◌<◌, ◌≤◌, length, remove, take};
+ghost use Rattle.std.specs.Prelude.{◌≡◌, ◌<◌, ◌≤◌, length, remove};
 ghost use Rattle.std.specs.List.{AllZip};
-ghost use Rattle.lu_test.specs.Matrix.{alone, calls_of, without, cut, IsMatrix};
+ghost use Rattle.lu_test.specs.Matrix.{alone, calls_of, without, cut};
 ghost use Rattle.lu_text.specs.Results.{Builds, HasItems};
 
 use crate::matrix::{Arguments, Call, Calls, Matrix};

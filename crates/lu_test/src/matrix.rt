@@ -2,7 +2,7 @@
 
 ghost use Rattle.std.specs.Prelude.{◌≡◌, ◌<◌, ◌≤◌, ◌↔◌, IsTrue, IsSome, IfSome, length, slice_get, remove, All, Some};
 ghost use Rattle.lu_component.specs.Component.{IsComponent};
-ghost use Rattle.lu_test.specs.Matrix.{AreThreads, IsCallAmong, IsCallOf, IsMatrix, IsOf, IsSetup, calls_of, matrix_with, thread_count};
+ghost use Rattle.lu_test.specs.Matrix.{AreThreads, IsCallAmong, IsMatrix, IsOf, IsSetup, calls_of, matrix_with, thread_count};
 
 use lu_component::{Component, Op};
 use std::marker::Model;

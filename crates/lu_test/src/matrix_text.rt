@@ -1,14 +1,13 @@
 //! Reading of matrices.
 
-ghost use Rattle.std.specs.Prelude.{◌≡◌, ◌==◌, ◌||◌, ◌+◌, ◌∷◌, ◌^◌, ◌<◌, ◌≤◌, ℕ, [], IfOk, Ok, Some, IsErrOf, length, map, drop, nat_le, nat_lt, sum_by, is_some};
-ghost use Rattle.std.specs.Option.{option_copied, option_map, unwrap_or};
-ghost use Rattle.std.specs.List.{position, filter_map, list_all, slice_split};
-ghost use Rattle.std.specs.Str.{bytes_eq};
+ghost use Rattle.std.specs.Prelude.{◌≡◌, ◌==◌, ◌||◌, ◌+◌, ◌∷◌, ◌^◌, ◌<◌, ◌≤◌, ℕ, [], IfOk, Ok, Some, length, map, drop, sum_by, is_some};
+ghost use Rattle.std.specs.Option.{option_copied, unwrap_or};
+ghost use Rattle.std.specs.List.{filter_map, list_all};
 ghost use Rattle.lu_text.specs.Lines.{texts, words_of};
 ghost use Rattle.lu_text.specs.Numbers.{value_in};
 ghost use Rattle.lu_text.specs.Faults.{Gives, TellsFirst, fault_in, meaning_of};
 ghost use Rattle.lu_component.specs.Component.{IsComponent};
-ghost use Rattle.lu_test.specs.Matrix.{IsMatrix, IsOf, IsOfSome};
+ghost use Rattle.lu_test.specs.Matrix.{IsOf, IsOfSome};
 ghost use Rattle.lu_test.specs.MatrixText as spec;
 ghost use Rattle.lu_test.specs.MatrixText.{AreFew, CanRead, IsDraft, by_parts, calls_after, matrix_grammar, with_setup, with_thread, words_in};
 ghost use Rattle.lu_test.specs.MatrixLines.{Takes, by_words};

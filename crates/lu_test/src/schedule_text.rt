@@ -2,7 +2,7 @@
 
 ghost use Rattle.std.specs.Prelude.{◌≡◌, ◌==◌, ◌∷◌, List, IfOk, OnOk, Ok, not, length, string_bytes};
 ghost use Rattle.std.specs.Option.{option_map};
-ghost use Rattle.std.specs.List.{position, list_all};
+ghost use Rattle.std.specs.List.{list_all};
 ghost use Rattle.lu_text.specs.Lines.{texts};
 ghost use Rattle.lu_text.specs.Numbers.{number_in};
 ghost use Rattle.lu_text.specs.Writing.{Writes};

@@ -1,6 +1,6 @@
 //! What calls see of operations.
 
-ghost use Rattle.std.specs.Prelude.{◌≡◌, IfOk};
+ghost use Rattle.std.specs.Prelude.{◌≡◌};
 ghost use Rattle.std.specs.Str.{bytes_eq};
 ghost use Rattle.lu_test.specs.Signatures as spec;
 ghost use Rattle.lu_text.specs.Results.{HasItems};

@@ -1,4 +1,4 @@
-use Rattle.std.proofs.Common.{[], arith}
+use Rattle.std.proofs.Common.{[]}
 use Rattle.lineup_c.proofs.Strings.{goes_on, not_all}
 use Rattle.lineup_c.proofs.answering.strings_of.Goals as goal
 

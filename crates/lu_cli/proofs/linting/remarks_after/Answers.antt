@@ -1,7 +1,7 @@
 use Rattle.std.proofs.Common.{◌≡◌, ◌∙◌, ℕ, List, ap, length, subst, sym}
 use Rattle.std.proofs.lemmas.List.{length-map}
 use Rattle.std.proofs.lemmas.Result.{IfOk-weaker}
-use Rattle.lu_text.specs.Lines.{lines_of, texts}
+use Rattle.lu_text.specs.Lines.{lines_of}
 use Rattle.lu_lint.specs.Bundle.{IsSaidOf}
 use Rattle.lu_lint.specs.Said.{said_of}
 use Rattle.lu_cli.specs.Linting.{remarks_below}
