@@ -15,10 +15,10 @@ use Rattle.lu_witness.specs.declared.judgement.Why.{Why}
 use Rattle.lu_witness.specs.Goodness.{IsFirstBad, AreAllGood}
 use Rattle.lu_tree.specs.Reordered.{AreReordered}
 use Rattle.lu_tree.specs.Trees.{Below}
-use Rattle.lu_tree.specs.Walks.{AreBelow, IsCountAtEnd, IsBadAt, IsFirstAt, IsGoodAfter, StopsAtSchedule, no_schedule}
+use Rattle.lu_tree.specs.Walks.{AreBelow, IsCountAtEnd, IsBadAt, IsFirstAt, IsGoodAfter, HaltsAtSchedule, no_schedule}
 use Rattle.lu_tree.proofs.BelowLaws.{below_here, below_led}
 use Rattle.lu_tree.proofs.Reordering.{counted_reordered, reordered_same, reordered_then}
-use Rattle.lu_tree.proofs.Walking.{AllEndSo, GoesOnBelow, counted_here, first_here, kids_all, kids_more, kids_none, kids_stop, kids_turn}
+use Rattle.lu_tree.proofs.Walking.{AllEndSo, GoesOnBelow, counted_here, first_here, kids_all, kids_more, kids_none, kids_halt, kids_turn}
 
 -- the schedules that go on by a move below the limit are good if they end, and these are their numbers
 abbrev pub AreAdded : (List SerialOp → Type 0) → State → List Event → ℕ → Move → Counts → Type 0
@@ -57,11 +57,11 @@ module _ (Set : List SerialOp → Type 0) (s : State) (h : List Event) (left : �
     longer : (u path : List Move) → (u ++ m ∷ []) ++ reverse path ≡ u ++ reverse (path ++ m ∷ [])
     longer u path = append_assoc u (m ∷ []) (reverse path) ∙ ap (λ x. u ++ x) (sym (reverse-append path (m ∷ [])))
 
-    pub stops_more : IsFeasible s m → (below : Counts) → AreAdded Set s h left (record { thread = t; pick = p }) below → (path : List Move) (end : State) (last : List Event) → StopsAtSchedule Set r k (left - 1) path end last → StopsAtSchedule Set s h left (path ++ m ∷ []) end last
-    stops_more feasible below added path end last stops = λ start u at.
-        (let b = stops start (u ++ m ∷ []) (on start u at) in
+    pub halts_more : IsFeasible s m → (below : Counts) → AreAdded Set s h left (record { thread = t; pick = p }) below → (path : List Move) (end : State) (last : List Event) → HaltsAtSchedule Set r k (left - 1) path end last → HaltsAtSchedule Set s h left (path ++ m ∷ []) end last
+    halts_more feasible below added path end last halts = λ start u at.
+        (let b = halts start (u ++ m ∷ []) (on start u at) in
         let c = subst (λ n. IsFirstAt Set start n (Below (u ++ m ∷ [])) ((u ++ m ∷ []) ++ reverse path) end last) (one_less u) b in
-        let d = kids_stop start u s h at Set (length u + left) m feasible below ((u ++ m ∷ []) ++ reverse path) end last (added start u h [] (reordered_same h) at) c in
+        let d = kids_halt start u s h at Set (length u + left) m feasible below ((u ++ m ∷ []) ++ reverse path) end last (added start u h [] (reordered_same h) at) c in
         subst (λ v. IsFirstAt Set start (length u + left) (Below u) v end last) (longer u path) d)
 
   none_more : 0 + left ≡ left
@@ -89,14 +89,14 @@ module _ (Set : List SerialOp → Type 0) (s : State) (h : List Event) (left : �
       let here = counted_here s [] s [] (refl, refl) (IsGoodAfter Set k) (0 + left) (over_at over []) (omega arith) counts there in
       subst (λ n. AllEndSo (IsGoodAfter Set k) s n (Below []) counts) none_more here))
 
-  pub end_stops : HasNoMove s ⊎ (left ≡ 0) → IsEnded s → (path : List Move) → path ≡ [] → StopsAtSchedule Set s h left path s h
-  end_stops over ended path none = λ start u at.
+  pub end_halts : HasNoMove s ⊎ (left ≡ 0) → IsEnded s → (path : List Move) → path ≡ [] → HaltsAtSchedule Set s h left path s h
+  end_halts over ended path none = λ start u at.
       (let here = first_here start u s h at Set (length u + left) (over_at over u) (omega arith) ended in
       rw (none, append-nil) here)
 
--- where a walk stopped, by other names for the place
-pub stops_there : (Set : List SerialOp → Type 0) (s : State) (h : List Event) (left : ℕ) (path other : List Move) (end there : State) (last behind : List Event) → other ≡ path → there ≡ end → behind ≡ last → StopsAtSchedule Set s h left path end last → StopsAtSchedule Set s h left other there behind
-stops_there Set s h left path other end there last behind is to back stops = rw (is, to, back) stops
+-- where a walk halted, by other names for the place
+pub halts_there : (Set : List SerialOp → Type 0) (s : State) (h : List Event) (left : ℕ) (path other : List Move) (end there : State) (last behind : List Event) → other ≡ path → there ≡ end → behind ≡ last → HaltsAtSchedule Set s h left path end last → HaltsAtSchedule Set s h left other there behind
+halts_there Set s h left path other end there last behind is to back halts = rw (is, to, back) halts
 
 -- a schedule that is the first to end and bad is the first bad one
 pub first_bad : (Set : List SerialOp → Type 0) (start : State) (bound : ℕ) (Part : List Move → Type 0) (u : List Move) (end : State) (history : List Event) (why : Why) → IsFirstAt Set start bound Part u end history → IsBadAt Set end history why → IsFirstBad Set start bound Part u why
@@ -115,8 +115,8 @@ module _ (Set : List SerialOp → Type 0) (start : State) (bound left : ℕ) (fr
       let good = subst (λ n. AllEndSo (IsGoodAfter Set []) start n (Below moves) below) all led in
       subst (λ u. AreAllGood Set start bound (Below u) below) is (record { good = good.good; numbers = good.numbers })
 
-  pub walk_stopped : (path : List Move) (end : State) (k : List Event) → StopsAtSchedule Set s h left path end k → IsFirstAt Set start bound (Below from) (from ++ reverse path) end k
-  walk_stopped path end k stops =
-      let a = stops start moves at in
+  pub walk_halted : (path : List Move) (end : State) (k : List Event) → HaltsAtSchedule Set s h left path end k → IsFirstAt Set start bound (Below from) (from ++ reverse path) end k
+  walk_halted path end k halts =
+      let a = halts start moves at in
       let b = subst (λ n. IsFirstAt Set start n (Below moves) (moves ++ reverse path) end k) all a in
       subst (λ u. IsFirstAt Set start bound (Below u) (u ++ reverse path) end k) is b

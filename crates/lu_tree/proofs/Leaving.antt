@@ -1,5 +1,5 @@
 -- How a walk leaves the node, its tally and what is known.
-use Rattle.std.proofs.Common.{◌≡◌, ◌≤◌, ℕ, false, List, length, vec_capacity, Option, None, Some, IfNone, IfSome, IfOk, Result, Ok, Err, is_some, refl, sym, ◌∙◌, ap, subst, arith}
+use Rattle.std.proofs.Common.{◌≡◌, ◌≤◌, ℕ, false, List, length, vec_capacity, IfOk, Result, Ok, Err, refl, sym, ◌∙◌, ap, subst, arith}
 use Rattle.lu_test.specs.declared.schedule.Move.{Move}
 use Rattle.lu_machine.specs.declared.event.Event.{Event}
 use Rattle.lu_machine.specs.States.{State, progress}
@@ -9,11 +9,14 @@ use Rattle.lu_witness.specs.Goodness.{IsFirstBad}
 use Rattle.lu_witness.specs.Witnesses.{IsMember}
 use Rattle.lu_tree.specs.declared.found.Found.{Found}
 use Rattle.lu_tree.specs.declared.found.Found.TheVariants.{Clean, Bad, Abandoned}
+use Rattle.lu_tree.specs.declared.halt.Halt.{Halt}
+use Rattle.lu_tree.specs.declared.halt.Halt.TheVariants.{NotGood, Stopped}
+use Rattle.lu_tree.specs.declared.known.Known.{Known}
 use Rattle.lu_tree.specs.declared.node.Node.{Node}
 use Rattle.lu_tree.specs.declared.progress.WalkProgress.{WalkProgress}
 use Rattle.lu_tree.specs.Trees.{Below, IsFoundWatched, is_abandoned}
-use Rattle.lu_tree.specs.Walks.{IsBadAt, IsFirstAt, IsReadyToWalk}
-use Rattle.lu_tree.specs.Walked.{IsBadFound, StaysBelow}
+use Rattle.lu_tree.specs.Walks.{HaltsAtNode, IsBadAt, IsFirstAt, IsReadyToWalk}
+use Rattle.lu_tree.specs.Walked.{IsBadFound, IsWalked, Passed, StaysBelow}
 use Rattle.lu_tree.proofs.Added.{first_bad}
 
 abbrev node_of : {T Place : Type 0} → State → T → List Event → Node T Place
@@ -24,15 +27,21 @@ pub same_node : {T Place : Type 0} (a b : Node T Place) → a.machine ≡ b.mach
 same_node a b machine tree history =
     ap (λ s. node_of s a.trail.tree a.trail.history) machine ∙ (ap (λ x. node_of b.machine x a.trail.history) tree ∙ ap (λ h. node_of b.machine b.trail.tree h) history)
 
--- what holds of the value, if there is one
-pub some_both : {A : Type 0} (P Q R : A → Type 0) (o : Option A) → ((x : A) → P x → Q x → R x) → IfSome o P → IfSome o Q → IfSome o R
-some_both P Q R None f p q = tt
-some_both P Q R (Some x) f p q = f x p q
+-- a walk by what holds where it passed, and where it halts at a schedule
+pub walked_by : {T Place : Type 0} (members : T → List (List SerialOp)) (node : Node T Place) (left : ℕ) (tally : WalkProgress) (end : Node T Place) (IsTold : Known → Type 0) (r : Result Known Halt) → ((known : Known) → IsTold known → Passed members node left tally end known) → (r ≡ Err NotGood → HaltsAtNode members node left tally end) → IfOk r IsTold → IsWalked members node left tally end r
+walked_by members node left tally end IsTold (Ok known) passed halts told = passed known told
+walked_by members node left tally end IsTold (Err NotGood) passed halts told = halts refl
+walked_by members node left tally end IsTold (Err Stopped) passed halts told = tt
 
--- and where there is none
-pub where_none : {A : Type 0} (P : Type 0) (o : Option A) → is_some o ≡ false → IfNone o P → P
-where_none P None is p = p
-where_none P (Some x) is p = absurd (cc)
+-- and where it halts at a schedule
+pub halts_at : {T Place : Type 0} (members : T → List (List SerialOp)) (node : Node T Place) (left : ℕ) (tally : WalkProgress) (end : Node T Place) (halt : Halt) → halt ≡ NotGood → IsWalked members node left tally end (Err halt) → HaltsAtNode members node left tally end
+halts_at members node left tally end NotGood is walked = walked
+halts_at members node left tally end Stopped is walked = absurd cc
+
+-- a walk that halts below a node halts below the one before it for the same cause
+pub halted_above : {T Place : Type 0} (members : T → List (List SerialOp)) (node below end : Node T Place) (left less : ℕ) (tally longer : WalkProgress) (halt : Halt) → (HaltsAtNode members below less tally end → HaltsAtNode members node left longer end) → IsWalked members below less tally end (Err halt) → IsWalked members node left longer end (Err halt)
+halted_above members node below end left less tally longer NotGood more walked = more walked
+halted_above members node below end left less tally longer Stopped more walked = tt
 
 -- a tally whose path is as it was
 pub ready_still : (before after : WalkProgress) → after.path ≡ before.path → IsReadyToWalk before → IsReadyToWalk after

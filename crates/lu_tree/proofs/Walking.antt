@@ -271,8 +271,8 @@ module _ (start : State) (u : List Move) (s : State) (h : List Event) (at : Lead
     }
 
     -- the first schedule of a move that is not passed is the first of all, where those of the moves below it are good
-    pub kids_stop : (m : Move) → IsFeasible s m → (a : Counts) (w : List Move) (end : State) (k : List Event) → AllEndSo (IsGoodAfter Set []) start bound (GoesOnBelow u m) a → IsFirstAt Set start bound (Below (u ++ m ∷ [])) w end k → IsFirstAt Set start bound (Below u) w end k
-    kids_stop m f a w end k x y = record {
+    pub kids_halt : (m : Move) → IsFeasible s m → (a : Counts) (w : List Move) (end : State) (k : List Event) → AllEndSo (IsGoodAfter Set []) start bound (GoesOnBelow u m) a → IsFirstAt Set start bound (Below (u ++ m ∷ [])) w end k → IsFirstAt Set start bound (Below u) w end k
+    kids_halt m f a w end k x y = record {
       part = begins_shorter w u m y.part;
       short = y.short;
       leads = y.leads;

@@ -1,16 +1,18 @@
 -- What a walk below a node leaves after.
-use Rattle.std.specs.Prelude.{◌≡◌, ◌≤◌, ℕ, List, [], length, vec_capacity}
+use Rattle.std.specs.Prelude.{◌≡◌, ◌≤◌, ℕ, Bool, false, true, List, [], Result, Ok, Err, length, vec_capacity}
 use Rattle.lu_test.specs.declared.schedule.Move.{Move}
 use Rattle.lu_machine.specs.States.{progress}
 use Rattle.lu_history.specs.Standing.{Agree}
 use Rattle.lu_history.specs.declared.serial.SerialOp.{SerialOp}
 use Rattle.lu_tree.specs.declared.found.Found.{Found}
 use Rattle.lu_tree.specs.declared.found.Found.TheVariants.{Clean, Bad, Abandoned}
+use Rattle.lu_tree.specs.declared.halt.Halt.{Halt}
+use Rattle.lu_tree.specs.declared.halt.Halt.TheVariants.{NotGood, Stopped}
 use Rattle.lu_tree.specs.declared.known.Known.{Known}
 use Rattle.lu_tree.specs.declared.node.Node.{Node}
 use Rattle.lu_tree.specs.declared.progress.WalkProgress.{WalkProgress}
 use Rattle.lu_tree.specs.Known.{IsKnownNode, counts_of, kids_of}
-use Rattle.lu_tree.specs.Walks.{IsBadEnd, IsCountOfNode, IsReadyToWalk}
+use Rattle.lu_tree.specs.Walks.{HaltsAtNode, IsBadEnd, IsCountOfNode, IsReadyToWalk}
 
 -- The walk ends at a node over the same tree, whose history is that of its machine. The path by
 -- which it went on is no longer than the moves that were left, and has room for any.
@@ -28,6 +30,20 @@ pub record Passed {T Place : Type 0} (members : T → List (List SerialOp)) (nod
   pub history : end.trail.history ≡ node.trail.history
   pub ready : IsReadyToWalk tally
   pub known : IsKnownNode members node left below
+
+-- The walk passed; or it halted at a schedule that ends, and all before it are good; or the watch
+-- stopped it.
+abbrev pub IsWalked : {T Place : Type 0} → (T → List (List SerialOp)) → Node T Place → ℕ
+    → WalkProgress → Node T Place → Result Known Halt → Type 0
+IsWalked members node left tally end (Ok below) = Passed members node left tally end below
+IsWalked members node left tally end (Err NotGood) = HaltsAtNode members node left tally end
+IsWalked members node left tally end (Err Stopped) = Unit {0}
+
+-- the watch stopped the walk
+abbrev pub was_stopped : Result Known Halt → Bool
+was_stopped (Ok below) = false
+was_stopped (Err NotGood) = false
+was_stopped (Err Stopped) = true
 
 -- the numbers of a schedule that is cut at the node, or ends there, and nothing of states that
 -- follow

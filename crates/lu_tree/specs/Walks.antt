@@ -1,5 +1,5 @@
 -- What the steps of the walk promise one another.
-use Rattle.std.specs.Prelude.{◌≡◌, ◌⊎◌, Bool, false, ℕ, ◌+◌, ◌≤◌, ◌++◌, List, [], Option, length, reverse, vec_capacity}
+use Rattle.std.specs.Prelude.{◌≡◌, ◌⊎◌, ℕ, ◌+◌, ◌≤◌, ◌++◌, List, [], Option, length, reverse, vec_capacity}
 use Rattle.lu_test.specs.declared.schedule.Move.{Move}
 use Rattle.lu_machine.specs.declared.counts.Counts.{Counts}
 use Rattle.lu_machine.specs.declared.event.Event.{Event}
@@ -77,11 +77,11 @@ pub record IsFirstAt (Set : List SerialOp → Type 0) (start : State) (bound : �
   pub ended : IsEnded end
   pub before : AreGood Set start bound (λ v. Part v × IsSmaller v u)
 
--- The walk stopped at a schedule that ends: it goes on by these moves, the last one first, and
+-- The walk halted at a schedule that ends: it goes on by these moves, the last one first, and
 -- those before it are good.
-abbrev pub StopsAtSchedule : (List SerialOp → Type 0) → State → List Event → ℕ → List Move → State
+abbrev pub HaltsAtSchedule : (List SerialOp → Type 0) → State → List Event → ℕ → List Move → State
     → List Event → Type 0
-StopsAtSchedule Set s h left path end history =
+HaltsAtSchedule Set s h left path end history =
     (start : State) (u : List Move) → Leads start u s h →
     IsFirstAt Set start (length u + left) (Below u) (u ++ reverse path) end history
 
@@ -96,12 +96,10 @@ abbrev pub AreBelowNode : {T Place : Type 0} → (T → List (List SerialOp)) �
 AreBelowNode members node left below =
     AreBelow (IsMember (members node.trail.tree)) node.machine node.trail.history left below
 
--- or, where it did not pass and the watch did not stop it
-abbrev pub Stopped : {T Place : Type 0} → (T → List (List SerialOp)) → Node T Place → ℕ → Bool
-    → Bool → WalkProgress → Node T Place → Type 0
-Stopped members node left passed stopped tally end =
-    passed ≡ false → stopped ≡ false →
-    StopsAtSchedule (IsMember (members node.trail.tree)) node.machine node.trail.history left
+abbrev pub HaltsAtNode : {T Place : Type 0} → (T → List (List SerialOp)) → Node T Place → ℕ
+    → WalkProgress → Node T Place → Type 0
+HaltsAtNode members node left tally end =
+    HaltsAtSchedule (IsMember (members node.trail.tree)) node.machine node.trail.history left
     tally.path.items end.machine end.trail.history
 
 -- a schedule that ends at the node is good, or complete and good, or not good and why

@@ -22,6 +22,7 @@ mod access;
 mod commuting;
 mod every_order;
 mod found;
+mod halt;
 mod known;
 mod lookahead;
 mod node;

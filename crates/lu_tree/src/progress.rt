@@ -11,13 +11,13 @@ use std::alloc::{AllocError, Global};
 /// The number of schedules that are passed before the watch is asked again.
 const UNASKED: u8 = 64;
 
-/// How far a walk has come with its watch, and the path on which it stopped.
+/// How far a walk has come with its watch, and the path on which it halted.
 #[derive(Drop)]
 pub(crate) struct WalkProgress {
     /// How many schedules were passed since the watch was asked.
     unasked: u8,
 
-    /// The moves by which a walk that stopped had gone on, the last one first. It has room for all
+    /// The moves by which a walk that halted had gone on, the last one first. It has room for all
     /// of them.
     pub(crate) path: Vec<Move>,
 }

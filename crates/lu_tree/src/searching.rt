@@ -17,6 +17,7 @@ ghost use Rattle.lu_tree.specs.Walked.{IsBadFound};
 ghost use Rattle.lu_tree.specs.Walks.{IsScheduleIn, LeadsToNode};
 
 use crate::found::Found;
+use crate::halt::Halt;
 use crate::lookahead::Lookahead;
 use crate::node::Node;
 use crate::progress::WalkProgress;
@@ -66,7 +67,7 @@ fn join(from: &[Move], path: Vec<Move>) -> Vec<Move>
     moves
 }
 
-/// The schedule of these moves and of the path, at whose end a walk stopped, and why it is bad.
+/// The schedule of these moves and of the path, at whose end a walk halted, and why it is bad.
 fn found_bad<'t, T: SerialTree>(
     cache: &mut Cache<'t, T>,
     from: &[Move],
@@ -120,14 +121,11 @@ pub fn search_with<'t, T: SerialTree, W: Watch>(
         most: left,
     };
     let mut tally = WalkProgress::new(space.alloc)?;
-    let walked = walk(cache, watch, &ahead, left, &mut node, &mut tally);
-    if let Some(known) = walked {
-        return Ok(Found::Clean(known.counts));
+    match walk(cache, watch, &ahead, left, &mut node, &mut tally) {
+        Ok(known) => Ok(Found::Clean(known.counts)),
+        Err(Halt::NotGood) => found_bad(cache, moves, tally.path, &mut node),
+        Err(Halt::Stopped) => Ok(Found::Abandoned),
     }
-    if watch.stopped() {
-        return Ok(Found::Abandoned);
-    }
-    found_bad(cache, moves, tally.path, &mut node)
 }
 
 /// Searches as [`search`] does, over the tree of the cache, until the watch stops it. The watch is

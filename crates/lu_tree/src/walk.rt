@@ -1,17 +1,19 @@
 //! The walk over the schedules below a node.
 
-ghost use Rattle.std.specs.Prelude.{◌≡◌, ◌≤◌, ◌-◌, false, true, [], is_some, IfNone, IfSome};
+ghost use Rattle.std.specs.Prelude.{◌≡◌, ◌≢◌, ◌≤◌, ◌-◌, false, [], Err, IfOk};
 ghost use Rattle.lu_machine.specs.States.{progress};
 ghost use Rattle.lu_machine.specs.Ends.{IsEnded};
 ghost use Rattle.lu_horizon.specs.Dead.{IsDeadTable};
 ghost use Rattle.lu_history.specs.Standing.{Agree};
 ghost use Rattle.lu_witness.specs.Caches.{SameButEntries};
+ghost use Rattle.lu_tree.specs.declared.halt.Halt.TheVariants.{NotGood};
 ghost use Rattle.lu_tree.specs.Known.{AreHints, TellsAlone};
 ghost use Rattle.lu_tree.specs.Tables.{ServesAhead};
-ghost use Rattle.lu_tree.specs.Walked.{IsCountedAlone, Passed, StaysBelow};
-ghost use Rattle.lu_tree.specs.Walks.{IsReadyToWalk, Stopped};
+ghost use Rattle.lu_tree.specs.Walked.{IsCountedAlone, IsWalked, StaysBelow, was_stopped};
+ghost use Rattle.lu_tree.specs.Walks.{IsReadyToWalk};
 
 use crate::commuting::hints_after;
+use crate::halt::Halt;
 use crate::known::{Hints, Known};
 use crate::lookahead::Lookahead;
 use crate::node::Node;
@@ -44,8 +46,8 @@ struct Visit<'h> {
     moved: ThreadSet,
 }
 
-/// Ends a schedule here, which is cut, or is ended and has to be good. Returns what is then known:
-/// none where it is not found good, or the watch stops the walk.
+/// Ends a schedule here, which is cut, or is ended and has to be good. Returns what is then known,
+/// or why the walk halts here.
 #[inline(always)]
 fn end<'t, T: SerialTree, W: Watch>(
     alloc: Global,
@@ -53,7 +55,7 @@ fn end<'t, T: SerialTree, W: Watch>(
     watch: &mut W,
     node: &mut Node<'_, 't, T>,
     tally: &mut WalkProgress,
-) -> Option<Known>
+) -> Result<Known, Halt>
     requires agree { Agree (progress node.old.machine) node.old.trail.history }
     requires tree { cache.old.tree ≡ node.old.trail.tree }
     requires running { W.is_stopped watch.old ≡ false }
@@ -61,9 +63,9 @@ fn end<'t, T: SerialTree, W: Watch>(
     ensures cache { SameButEntries cache.old cache.new }
     ensures base { W.base watch.new ≡ W.base watch.old }
     ensures path { tally.new.path ≡ tally.old.path }
-    ensures running { IfSome result (λ _. W.is_stopped watch.new ≡ false) }
-    ensures counted { IfSome result (IsCountedAlone T.members node.old) }
-    ensures ended { IfNone result (W.is_stopped watch.new ≡ false → IsEnded node.old.machine) }
+    ensures stopped { W.is_stopped watch.new ≡ was_stopped result }
+    ensures counted { IfOk result (IsCountedAlone T.members node.old) }
+    ensures ended { result ≡ Err NotGood → IsEnded node.old.machine }
 {
     let counts = match node.machine.status() {
         Status::Running => Counts {
@@ -72,7 +74,7 @@ fn end<'t, T: SerialTree, W: Watch>(
         },
         Status::Complete => {
             if !node.is_good(cache) {
-                return None;
+                return Err(Halt::NotGood);
             }
             Counts {
                 complete: 1,
@@ -81,7 +83,7 @@ fn end<'t, T: SerialTree, W: Watch>(
         }
         Status::Stuck => {
             if !node.is_good(cache) {
-                return None;
+                return Err(Halt::NotGood);
             }
             Counts {
                 stuck: 1,
@@ -90,38 +92,38 @@ fn end<'t, T: SerialTree, W: Watch>(
         }
     };
     if tally.pass(watch) {
-        Some(Known::alone(alloc, counts))
+        Ok(Known::alone(alloc, counts))
     } else {
-        None
+        Err(Halt::Stopped)
     }
 }
 
-/// Passes the schedules below a node, which are so many. Returns what is then known: none where the
-/// watch stops the walk.
+/// Passes the schedules below a node, which are so many. Returns what is then known, or that the
+/// watch stopped the walk.
 #[inline(always)]
 fn pass<W: Watch>(
     alloc: Global,
     counts: Counts,
     watch: &mut W,
     tally: &mut WalkProgress,
-) -> Option<Known>
+) -> Result<Known, Halt>
     requires running { W.is_stopped watch.old ≡ false }
     ensures base { W.base watch.new ≡ W.base watch.old }
     ensures path { tally.new.path ≡ tally.old.path }
-    ensures running { IfSome result (λ _. W.is_stopped watch.new ≡ false) }
-    ensures alone { IfSome result (TellsAlone counts) }
-    ensures stopped { IfNone result (W.is_stopped watch.new ≡ true) }
+    ensures stopped { W.is_stopped watch.new ≡ was_stopped result }
+    ensures alone { IfOk result (TellsAlone counts) }
+    ensures halts { result ≢ Err NotGood }
 {
     if tally.pass_many(counts, watch) {
-        Some(Known::alone(alloc, counts))
+        Ok(Known::alone(alloc, counts))
     } else {
-        None
+        Err(Halt::Stopped)
     }
 }
 
 /// Walks the schedules below the node, of no more than `left` moves, in order. Returns what is then
-/// known: none where the walk stops, at the first that is not found good, or where the watch stops
-/// it. It is then still there.
+/// known; or why the walk halts, at the first that is not found good, or where the watch stops it.
+/// It is then still there.
 pub(crate) fn walk<'a, 't, T: SerialTree, W: Watch>(
     cache: &mut Cache<'t, T>,
     watch: &mut W,
@@ -129,7 +131,7 @@ pub(crate) fn walk<'a, 't, T: SerialTree, W: Watch>(
     left: u16,
     node: &mut Node<'a, 't, T>,
     tally: &mut WalkProgress,
-) -> Option<Known>
+) -> Result<Known, Halt>
     requires few { left ≤ 256 }
     requires serves { ServesAhead ahead.now node.old.machine }
     requires dead { IsDeadTable node.old.machine.component ahead.now.tables.now.dead }
@@ -140,10 +142,8 @@ pub(crate) fn walk<'a, 't, T: SerialTree, W: Watch>(
     ensures cache { SameButEntries cache.old cache.new }
     ensures base { W.base watch.new ≡ W.base watch.old }
     ensures stays { StaysBelow node.old left tally.new node.new }
-    ensures running { IfSome result (λ _. W.is_stopped watch.new ≡ false) }
-    ensures passed { IfSome result (Passed T.members node.old left tally.new node.new) }
-    ensures stops { Stopped T.members node.old left (is_some result) (W.is_stopped watch.new)
-        tally.new node.new }
+    ensures stopped { W.is_stopped watch.new ≡ was_stopped result }
+    ensures walked { IsWalked T.members node.old left tally.new node.new result }
 {
     let first = Visit {
         left,
@@ -167,7 +167,7 @@ fn walk_as<'a, 't, const RUNS_LOCAL: bool, T: SerialTree, W: Watch>(
     visit: &Visit<'_>,
     node: &mut Node<'a, 't, T>,
     tally: &mut WalkProgress,
-) -> Option<Known>
+) -> Result<Known, Halt>
     requires few { visit.now.left ≤ 256 }
     requires one { RUNS_LOCAL ≡ false → node.old.machine.component.local ≡ 0 }
     requires serves { ServesAhead ahead.now node.old.machine }
@@ -180,10 +180,8 @@ fn walk_as<'a, 't, const RUNS_LOCAL: bool, T: SerialTree, W: Watch>(
     ensures cache { SameButEntries cache.old cache.new }
     ensures base { W.base watch.new ≡ W.base watch.old }
     ensures stays { StaysBelow node.old visit.now.left tally.new node.new }
-    ensures running { IfSome result (λ _. W.is_stopped watch.new ≡ false) }
-    ensures passed { IfSome result (Passed T.members node.old visit.now.left tally.new node.new) }
-    ensures stops { Stopped T.members node.old visit.now.left (is_some result)
-        (W.is_stopped watch.new) tally.new node.new }
+    ensures stopped { W.is_stopped watch.new ≡ was_stopped result }
+    ensures walked { IsWalked T.members node.old visit.now.left tally.new node.new result }
 {
     let left = visit.left;
     if left == 0 {
@@ -200,7 +198,7 @@ fn walk_as<'a, 't, const RUNS_LOCAL: bool, T: SerialTree, W: Watch>(
             is_ended = false;
             if let Some(hinted) = visit.hints.after_one_of(picks, thread) {
                 if !tally.pass_many(hinted.counts, watch) {
-                    return None;
+                    return Err(Halt::Stopped);
                 }
                 known.add(hinted.counts);
                 continue;
@@ -216,9 +214,12 @@ fn walk_as<'a, 't, const RUNS_LOCAL: bool, T: SerialTree, W: Watch>(
             let next = Move { thread, pick };
             let undo = node.enter::<RUNS_LOCAL>(next);
             let walked = walk_as::<RUNS_LOCAL, T, W>(cache, watch, ahead, &further, node, tally);
-            let Some(below) = walked else {
-                tally.path.push_reserved(next);
-                return None;
+            let below = match walked {
+                Ok(below) => below,
+                Err(halt) => {
+                    tally.path.push_reserved(next);
+                    return Err(halt);
+                }
             };
             node.leave(undo);
             known.add(below.counts);
@@ -228,5 +229,5 @@ fn walk_as<'a, 't, const RUNS_LOCAL: bool, T: SerialTree, W: Watch>(
     if is_ended {
         return end(ahead.alloc, cache, watch, node, tally);
     }
-    Some(known.keep_nearest(ahead.alloc, visit.room, visit.moved))
+    Ok(known.keep_nearest(ahead.alloc, visit.room, visit.moved))
 }

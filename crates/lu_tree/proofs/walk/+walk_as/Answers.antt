@@ -7,14 +7,15 @@ use Rattle.lu_machine.specs.Steps.{IsFeasible, Step, picks_of}
 use Rattle.lu_machine.specs.Undoes.{restored}
 use Rattle.lu_machine.proofs.StepLaws.{feasible_step}
 use Rattle.lu_witness.specs.Witnesses.{IsMember}
+use Rattle.lu_tree.specs.declared.progress.WalkProgress.{WalkProgress}
 use Rattle.lu_tree.specs.Known.{AreFrom, AreKnownAfter, IsHint, IsKnown, Moves, counts_of}
-use Rattle.lu_tree.specs.Walks.{AreBelow, IsCountAtEnd, StopsAtSchedule}
-use Rattle.lu_tree.proofs.Added.{AreAdded, added_all, added_more, added_none, added_turn, end_below, end_stops, stops_more, stops_there}
+use Rattle.lu_tree.specs.Walks.{AreBelow, IsCountAtEnd, HaltsAtSchedule}
+use Rattle.lu_tree.proofs.Added.{AreAdded, added_all, added_more, added_none, added_turn, end_below, end_halts, halts_more, halts_there}
 use Rattle.lu_horizon.specs.Dead.{IsDeadTable}
 use Rattle.lu_horizon.proofs.OwnLaws.{serves_next}
 use Rattle.lu_machine.proofs.Keeping.{step_moved}
 use Rattle.lu_tree.proofs.KnownLaws.{after_here, behind_more, after_same, hints_on, known_alone, known_after, known_below, known_with, none_after}
-use Rattle.lu_tree.proofs.Leaving.{ready_still, some_both, stays_home, where_none}
+use Rattle.lu_tree.proofs.Leaving.{halted_above, ready_still, stays_home, walked_by}
 use Rattle.lu_tree.proofs.Walking.{ended_all, ended_first, ended_picked, ended_turn}
 use Rattle.lu_tree.proofs.walk.+walk_as.Goals as goal
 
@@ -94,9 +95,9 @@ walk_as-walked-requires g t c =
     let told = subst (λ x. AreKnownAfter (IsMember x) r k (c.args.visit.now.left - 1 - 1) (IsHint c.hints_after.result)) (sym tree) there in
     search (rules, serves, dead, told)
 
-pub returns-in_default-walked-clause-stops : goal.returns-in_default-walked-clause-stops
-returns-in_default-walked-clause-stops g t c = λ _ running.
-    (let Set = IsMember (g.T.SerialTree.members c.args.node.now.trail.tree) in
+pub returns-in-Err-clause-walked : goal.returns-in-Err-clause-walked
+returns-in-Err-clause-walked g t c =
+    let Set = IsMember (g.T.SerialTree.members c.args.node.now.trail.tree) in
     let s = c.args.node.now.machine in
     let h = c.args.node.now.trail.history in
     let i = c.loop-pick.invariant in
@@ -113,9 +114,15 @@ returns-in_default-walked-clause-stops g t c = λ _ running.
     let grown : k ≡ h ++ with_event event [] = c.enter-undo.ensures.history ∙ ap (λ x. x ++ with_event event []) i.history in
     let some : 1 ≤ c.args.visit.now.left = omega arith in
     let tree = ap (λ x. g.T.SerialTree.members x) (c.enter-undo.ensures.tree ∙ i.tree) in
-    let below : StopsAtSchedule Set r k (c.args.visit.now.left - 1) c.walk_as-walked.new.tally.path.items c.walk_as-walked.new.node.machine c.walk_as-walked.new.node.trail.history = subst (λ x. StopsAtSchedule (IsMember x) r k (c.args.visit.now.left - 1) c.walk_as-walked.new.tally.path.items c.walk_as-walked.new.node.machine c.walk_as-walked.new.node.trail.history) tree (c.in_default-walked.ensures.stops refl running) in
-    let stops = stops_more Set s h c.args.visit.now.left thread pick r event k step grown some able (counts_of c.loop-pick.known) i.counted c.walk_as-walked.new.tally.path.items c.walk_as-walked.new.node.machine c.walk_as-walked.new.node.trail.history below in
-    stops_there Set s h c.args.visit.now.left (c.walk_as-walked.new.tally.path.items ++ next ∷ []) c.push_reserved.new.self.items c.walk_as-walked.new.node.machine c.walk_as-walked.new.node.machine c.walk_as-walked.new.node.trail.history c.walk_as-walked.new.node.trail.history c.push_reserved.ensures.items refl refl stops)
+    let end = c.walk_as-walked.new.node in
+    let path = c.walk_as-walked.new.tally.path.items in
+    let longer : WalkProgress = record { unasked = c.walk_as-walked.new.tally.unasked; path = c.push_reserved.new.self } in
+    halted_above g.T.SerialTree.members c.args.node.now c.enter-undo.new.self end c.args.visit.now.left (c.args.visit.now.left - 1) c.walk_as-walked.new.tally longer c.in-Err.halt
+    (λ there.
+    (let below : HaltsAtSchedule Set r k (c.args.visit.now.left - 1) path end.machine end.trail.history = subst (λ x. HaltsAtSchedule (IsMember x) r k (c.args.visit.now.left - 1) path end.machine end.trail.history) tree there in
+    let halts = halts_more Set s h c.args.visit.now.left thread pick r event k step grown some able (counts_of c.loop-pick.known) i.counted path end.machine end.trail.history below in
+    halts_there Set s h c.args.visit.now.left (path ++ next ∷ []) c.push_reserved.new.self.items end.machine end.machine end.trail.history end.trail.history c.push_reserved.ensures.items refl refl halts))
+    c.in-Err.ensures.walked
 
 pub loop-pick-preserved : goal.loop-pick-preserved
 loop-pick-preserved g t c =
@@ -123,7 +130,7 @@ loop-pick-preserved g t c =
     let s = c.args.node.now.machine in
     let h = c.args.node.now.trail.history in
     let i = c.loop-pick.invariant in
-    let w = c.in-Some-walked.ensures.passed in
+    let w = c.in-Ok.ensures.walked in
     let thread = c.loop-thread.thread in
     let pick = c.loop-pick.pick in
     let next : Move = record { thread = thread; pick = pick } in
@@ -137,7 +144,7 @@ loop-pick-preserved g t c =
     let grown : k ≡ h ++ with_event event [] = c.enter-undo.ensures.history ∙ ap (λ x. x ++ with_event event []) i.history in
     let some : 1 ≤ c.args.visit.now.left = omega arith in
     let tree = ap (λ x. g.T.SerialTree.members x) (c.enter-undo.ensures.tree ∙ i.tree) in
-    let below = c.in-Some-walked.below in
+    let below = c.in-Ok.below in
     let known : IsKnown Set r k (c.args.visit.now.left - 1) below = subst (λ x. IsKnown (IsMember x) r k (c.args.visit.now.left - 1) below) tree w.known in
     let behind = known_after Set s h (c.args.visit.now.left - 1) thread pick r event k below step grown known in
     let more = added_more Set s h c.args.visit.now.left thread pick r event k step grown some (counts_of c.loop-pick.known) (counts_of below) i.counted (known_below Set r k (c.args.visit.now.left - 1) below known) in
@@ -149,7 +156,7 @@ loop-pick-preserved g t c =
       tree = c.leave.ensures.tree ∙ c.walk_as-walked.ensures.stays.tree ∙ c.enter-undo.ensures.tree ∙ i.tree;
       cache = record { tree_is = c.walk_as-walked.ensures.cache.tree_is ∙ i.cache.tree_is; capacity = c.walk_as-walked.ensures.cache.capacity ∙ i.cache.capacity };
       base = c.walk_as-walked.ensures.base ∙ i.base;
-      running = c.in-Some-walked.ensures.running;
+      running = c.in-Ok.ensures.stopped;
       ready = w.ready;
       ended = ended_picked s next able;
       counted = subst (AreAdded Set s h c.args.visit.now.left (record { thread = thread; pick = pick + 1 })) (sym counts) more;
@@ -179,82 +186,50 @@ returns-then-left-eq0-clause-stays g t c =
     let node = c.end.ensures.node in
     stays_home c.args.node.now c.end.new.node c.args.visit.now.left c.end.new.tally (ap (λ n. n.trail.tree) node) (ap (λ n. n.machine) node) (ap (λ n. n.trail.history) node) c.requires.agree (ready_still c.args.tally.now c.end.new.tally c.end.ensures.path c.requires.ready)
 
-pub returns-then-left-eq0-clause-passed : goal.returns-then-left-eq0-clause-passed
-returns-then-left-eq0-clause-passed g t c =
+pub returns-then-left-eq0-clause-walked : goal.returns-then-left-eq0-clause-walked
+returns-then-left-eq0-clause-walked g t c =
     let Set = IsMember (g.T.SerialTree.members c.args.node.now.trail.tree) in
     let s = c.args.node.now.machine in
     let h = c.args.node.now.trail.history in
     let node = c.end.ensures.node in
-    some_both _ _ _ c.end.result
-    (λ known _ alone. record {
+    let path = c.end.new.tally.path.items in
+    let none = ap (λ p. p.items) c.end.ensures.path ∙ c.requires.ready.empty in
+    walked_by g.T.SerialTree.members c.args.node.now c.args.visit.now.left c.end.new.tally c.end.new.node _ c.end.result
+    (λ known alone. record {
       machine = ap (λ n. n.machine) node;
       history = ap (λ n. n.trail.history) node;
       ready = ready_still c.args.tally.now c.end.new.tally c.end.ensures.path c.requires.ready;
       known = known_alone Set s h c.args.visit.now.left known (counts_of known) refl alone.1 (end_below Set s h c.args.visit.now.left (inr (search rules)) (counts_of known) alone.0);
     })
-    c.end.ensures.running c.end.ensures.counted
-
-pub returns-then-left-eq0-clause-stops : goal.returns-then-left-eq0-clause-stops
-returns-then-left-eq0-clause-stops g t c = λ is running.
-    (let Set = IsMember (g.T.SerialTree.members c.args.node.now.trail.tree) in
-    let s = c.args.node.now.machine in
-    let h = c.args.node.now.trail.history in
-    let path = c.end.new.tally.path.items in
-    let none = ap (λ p. p.items) c.end.ensures.path ∙ c.requires.ready.empty in
-    let over : IsEnded s = where_none _ c.end.result is c.end.ensures.ended running in
-    let stops = end_stops Set s h c.args.visit.now.left (inr (search rules)) over path none in
-    stops_there Set s h c.args.visit.now.left path path s c.end.new.node.machine h c.end.new.node.trail.history refl (ap (λ n. n.machine) c.end.ensures.node) (ap (λ n. n.trail.history) c.end.ensures.node) stops)
+    (λ is.
+    (let halts = end_halts Set s h c.args.visit.now.left (inr (search rules)) (c.end.ensures.ended is) path none in
+    halts_there Set s h c.args.visit.now.left path path s c.end.new.node.machine h c.end.new.node.trail.history refl (ap (λ n. n.machine) node) (ap (λ n. n.trail.history) node) halts))
+    c.end.ensures.counted
 
 pub returns-in-Some-clause-stays : goal.returns-in-Some-clause-stays
 returns-in-Some-clause-stays g t c =
     let there = c.counted_below.ensures in
     stays_home c.args.node.now c.counted_below.new.node c.args.visit.now.left c.pass.new.tally (ap (λ n. n.trail.tree) there.same) (ap (λ n. n.machine) there.same) (ap (λ n. n.trail.history) there.same) c.requires.agree (ready_still c.args.tally.now c.pass.new.tally c.pass.ensures.path c.requires.ready)
 
-pub returns-in-Some-clause-passed : goal.returns-in-Some-clause-passed
-returns-in-Some-clause-passed g t c =
+pub returns-in-Some-clause-walked : goal.returns-in-Some-clause-walked
+returns-in-Some-clause-walked g t c =
     let Set = IsMember (g.T.SerialTree.members c.args.node.now.trail.tree) in
     let s = c.args.node.now.machine in
     let h = c.args.node.now.trail.history in
     let there = c.counted_below.ensures in
-    some_both _ _ _ c.pass.result
-    (λ known _ alone. record {
+    walked_by g.T.SerialTree.members c.args.node.now c.args.visit.now.left c.pass.new.tally c.counted_below.new.node _ c.pass.result
+    (λ known alone. record {
       machine = (ap (λ n. n.machine) there.same);
       history = (ap (λ n. n.trail.history) there.same);
       ready = ready_still c.args.tally.now c.pass.new.tally c.pass.ensures.path c.requires.ready;
       known = known_alone Set s h c.args.visit.now.left known c.in-Some.counts alone.0 alone.1 c.in-Some.ensures.below;
     })
-    c.pass.ensures.running c.pass.ensures.alone
+    (λ is. absurd (c.pass.ensures.halts is))
+    c.pass.ensures.alone
 
-pub returns-in-Some-clause-stops : goal.returns-in-Some-clause-stops
-returns-in-Some-clause-stops g t c = λ is running.
-    (let stopped = where_none _ c.pass.result is c.pass.ensures.stopped in
-    absurd (cc))
-
-pub returns-then-is_ended-clause-passed : goal.returns-then-is_ended-clause-passed
-returns-then-is_ended-clause-passed g t c =
+pub returns-then-is_ended-clause-walked : goal.returns-then-is_ended-clause-walked
+returns-then-is_ended-clause-walked g t c =
     let Set = IsMember (g.T.SerialTree.members c.args.node.now.trail.tree) in
-    let s = c.args.node.now.machine in
-    let h = c.args.node.now.trail.history in
-    let i = c.loop-thread.invariant in
-    let home : c.counted_below.new.node.machine ≡ s = (ap (λ n. n.machine) c.counted_below.ensures.same) in
-    let past : length s.threads ≤ c.loop-thread.thread = omega (arith, c.threads-thread-end.ensures.value, ap (λ (x : State). length x.threads) home) in
-    let all : c.loop-thread.is_ended ≡ true = search rules in
-    let none : HasNoMove s = ended_all s c.loop-thread.thread past (rw all at i.ended) in
-    let node = c.end-then-is_ended.ensures.node in
-    some_both _ _ _ c.end-then-is_ended.result
-    (λ known _ alone. record {
-      machine = ap (λ n. n.machine) node ∙ i.machine;
-      history = ap (λ n. n.trail.history) node ∙ i.history;
-      ready = ready_still c.loop-thread.tally c.end-then-is_ended.new.tally c.end-then-is_ended.ensures.path i.ready;
-      known =
-          (let counted : IsCountAtEnd Set s h (counts_of known) = rw (← i.tree, ← i.machine, ← i.history) alone.0 in
-          known_alone Set s h c.args.visit.now.left known (counts_of known) refl alone.1 (end_below Set s h c.args.visit.now.left (inl none) (counts_of known) counted));
-    })
-    c.end-then-is_ended.ensures.running c.end-then-is_ended.ensures.counted
-
-pub returns-then-is_ended-clause-stops : goal.returns-then-is_ended-clause-stops
-returns-then-is_ended-clause-stops g t c = λ is running.
-    (let Set = IsMember (g.T.SerialTree.members c.args.node.now.trail.tree) in
     let s = c.args.node.now.machine in
     let h = c.args.node.now.trail.history in
     let i = c.loop-thread.invariant in
@@ -265,12 +240,23 @@ returns-then-is_ended-clause-stops g t c = λ is running.
     let node = c.end-then-is_ended.ensures.node in
     let path = c.end-then-is_ended.new.tally.path.items in
     let empty : path ≡ [] = ap (λ p. p.items) c.end-then-is_ended.ensures.path ∙ i.ready.empty in
-    let over : IsEnded s = rw (← i.machine) (where_none _ c.end-then-is_ended.result is c.end-then-is_ended.ensures.ended running) in
-    let stops = end_stops Set s h c.args.visit.now.left (inl none) over path empty in
-    stops_there Set s h c.args.visit.now.left path path s c.end-then-is_ended.new.node.machine h c.end-then-is_ended.new.node.trail.history refl (ap (λ n. n.machine) node ∙ i.machine) (ap (λ n. n.trail.history) node ∙ i.history) stops)
+    walked_by g.T.SerialTree.members c.args.node.now c.args.visit.now.left c.end-then-is_ended.new.tally c.end-then-is_ended.new.node _ c.end-then-is_ended.result
+    (λ known alone. record {
+      machine = ap (λ n. n.machine) node ∙ i.machine;
+      history = ap (λ n. n.trail.history) node ∙ i.history;
+      ready = ready_still c.loop-thread.tally c.end-then-is_ended.new.tally c.end-then-is_ended.ensures.path i.ready;
+      known =
+          (let counted : IsCountAtEnd Set s h (counts_of known) = rw (← i.tree, ← i.machine, ← i.history) alone.0 in
+          known_alone Set s h c.args.visit.now.left known (counts_of known) refl alone.1 (end_below Set s h c.args.visit.now.left (inl none) (counts_of known) counted));
+    })
+    (λ is.
+    (let over : IsEnded s = rw (← i.machine) (c.end-then-is_ended.ensures.ended is) in
+    let halts = end_halts Set s h c.args.visit.now.left (inl none) over path empty in
+    halts_there Set s h c.args.visit.now.left path path s c.end-then-is_ended.new.node.machine h c.end-then-is_ended.new.node.trail.history refl (ap (λ n. n.machine) node ∙ i.machine) (ap (λ n. n.trail.history) node ∙ i.history) halts))
+    c.end-then-is_ended.ensures.counted
 
-pub returns-clause-passed : goal.returns-clause-passed
-returns-clause-passed g t c =
+pub returns-clause-walked : goal.returns-clause-walked
+returns-clause-walked g t c =
     let Set = IsMember (g.T.SerialTree.members c.args.node.now.trail.tree) in
     let s = c.args.node.now.machine in
     let h = c.args.node.now.trail.history in
@@ -321,8 +307,8 @@ returns-clause-stays g t c =
     let i = c.loop-thread.invariant in
     stays_home c.args.node.now c.loop-thread.node c.args.visit.now.left c.loop-thread.tally i.tree i.machine i.history c.requires.agree i.ready
 
-pub returns-in_default-walked-clause-stays : goal.returns-in_default-walked-clause-stays
-returns-in_default-walked-clause-stays g t c =
+pub returns-in-Err-clause-stays : goal.returns-in-Err-clause-stays
+returns-in-Err-clause-stays g t c =
     let below = c.walk_as-walked.ensures.stays in
     record {
       tree = below.tree ∙ c.enter-undo.ensures.tree ∙ c.loop-pick.invariant.tree;
