@@ -1,11 +1,13 @@
 -- All states of a component on a matrix, where these are few.
 use Rattle.std.specs.Prelude.{◌≡◌, ◌↔◌, ℕ, ◌<◌, ◌≤◌, Bool, IfOk, Result, List, [], ◌∷◌, ◌++◌, length, Option, Some, None, slice_get}
+use Rattle.lu_component.specs.Component.{Component}
 use Rattle.lu_test.specs.declared.schedule.Move.{Move}
+use Rattle.lu_test.specs.Matrix.{Matrix}
 use Rattle.lu_test.specs.Schedule.{AreMoves}
 use Rattle.lu_machine.specs.declared.position.Position.{Position}
 use Rattle.lu_machine.specs.Ends.{IsEnded}
 use Rattle.lu_machine.specs.Positions.{at_position}
-use Rattle.lu_machine.specs.Starts.{first_move}
+use Rattle.lu_machine.specs.Starts.{FromEachStart, first_move}
 use Rattle.lu_machine.specs.States.{State}
 use Rattle.lu_graph.specs.declared.discovering.Discovery.{Discovery}
 use Rattle.lu_graph.specs.declared.exploring_states.StateGraph.{StateGraph}
@@ -32,6 +34,12 @@ pub record IsStateGraph (s : State) (graph : StateGraph) : Type 0 where
 abbrev pub IsExplored : ℕ → State → Option StateGraph → Type 0
 IsExplored most s None = HasFewStates s most → ⊥
 IsExplored most s (Some graph) = HasFewStates s most × IsStateGraph s graph
+
+-- so it is of the result, if there is one, from each start
+abbrev pub TellsExplored : {E : Type 0} → Component → Matrix → ℕ → Result (Option StateGraph) E
+    → Type 0
+TellsExplored c matrix most result =
+    FromEachStart c matrix (λ s. IfOk result (IsExplored most s))
 
 -- ---- the schedules by which states were discovered
 

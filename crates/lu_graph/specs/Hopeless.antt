@@ -1,11 +1,14 @@
 -- States from which no schedule ends: the livelock of threads that spin.
-use Rattle.std.specs.Prelude.{◌≡◌, ℕ, ◌<◌, ◌≤◌, List, length, Option, Some, None}
+use Rattle.std.specs.Prelude.{◌≡◌, ℕ, ◌<◌, ◌≤◌, IfOk, Result, List, length, Option, Some, None}
+use Rattle.lu_component.specs.Component.{Component}
 use Rattle.lu_test.specs.declared.schedule.Move.{Move}
+use Rattle.lu_test.specs.Matrix.{Matrix}
 use Rattle.lu_test.specs.Schedule.{AreMoves}
 use Rattle.lu_machine.specs.declared.event.Event.{Event}
 use Rattle.lu_machine.specs.Ends.{IsEnded}
 use Rattle.lu_machine.specs.Order.{IsSmaller}
 use Rattle.lu_machine.specs.Schedules.{Reaches}
+use Rattle.lu_machine.specs.Starts.{FromEachStart}
 use Rattle.lu_machine.specs.States.{State}
 use Rattle.lu_machine.specs.Steps.{Step}
 use Rattle.lu_graph.specs.Nodes.{IsAmong}
@@ -52,6 +55,12 @@ abbrev pub IsFirstLostIfAny : ℕ → State → Option (List Move) → Type 0
 IsFirstLostIfAny most s None =
     HasFewStates s most → (u : List Move) → AreMoves u → LosesHope s u → ⊥
 IsFirstLostIfAny most s (Some u) = HasFewStates s most × IsFirstLost s u
+
+-- so it is of the result, if there is one, from each start
+abbrev pub TellsFirstLost : {E : Type 0} → Component → Matrix → ℕ → Result (Option (List Move)) E
+    → Type 0
+TellsFirstLost c matrix most result =
+    FromEachStart c matrix (λ s. IfOk result (IsFirstLostIfAny most s))
 
 -- ---- a law
 

@@ -1,14 +1,15 @@
 //! How all schedules end, of any length.
 
-ghost use Rattle.std.specs.Prelude.{[]};
+ghost use Rattle.std.specs.Prelude.{◌≡◌, true, false, IfErr, OnOk};
 ghost use Rattle.lu_machine.specs.Starts.{CanRun, IsStart, Settles};
-ghost use Rattle.lu_graph.specs.Alive.{AreTold};
+ghost use Rattle.lu_graph.specs.declared.halted.Halted.TheVariants.{Stopped};
 ghost use Rattle.lu_graph.specs.Holding.{AreFewAsTold, AreVisitedBy, EndsSo, HoldsNone, HoldsStart};
 ghost use Rattle.lu_graph.specs.Nodes.{TellsEndings};
 ghost use Rattle.lu_graph.specs.Rows.{KnowsDead};
 
 use crate::ending::Ending;
 use crate::growing::add_next;
+use crate::halted::Halted;
 use crate::holding::{Nodes, add_first};
 use crate::judging::is_good;
 use crate::level::Level;
@@ -18,24 +19,33 @@ use lu_history::SerialOp;
 use lu_horizon::DeadRegisters;
 use lu_machine::Machine;
 use lu_test::Matrix;
+use lu_tree::{Unwatched, Watch};
 use lu_trie::SerialTree;
 use std::alloc::{AllocError, Global};
 
 /// Whether the component of the machine has no more than `most` nodes on its matrix, where those
 /// before this place were gone through.
-fn are_few(
+fn are_few<W: Watch>(
     alloc: Global,
     machine: &mut Machine<'_>,
     members: &[Vec<SerialOp>],
     nodes: &mut Nodes,
     place: usize,
     most: usize,
-) -> Result<bool, AllocError>
+    watch: &mut W,
+) -> Result<bool, Halted>
     requires settles { Settles machine.old.component machine.old.matrix }
     requires visited { AreVisitedBy members.now machine.old nodes.old place }
-    ensures { AreFewAsTold members.now most machine.old result }
+    requires running { W.is_stopped watch.old ≡ false }
+    ensures few { AreFewAsTold members.now most machine.old result }
+    ensures base { W.base watch.new ≡ W.base watch.old }
+    ensures stopped { IfErr result (λ halted. halted ≡ Stopped → W.is_stopped watch.new ≡ true) }
+    ensures running { OnOk result (W.is_stopped watch.new ≡ false) }
 {
     for at in place..most {
+        if watch.stop() {
+            return Err(Halted::Stopped);
+        }
         if nodes.rows.len() > most {
             return Ok(false);
         }
@@ -51,23 +61,31 @@ fn are_few(
 
 /// How all schedules of the machine's component on its matrix end. It stands at the start, which
 /// alone is kept.
-fn search(
+fn search<W: Watch>(
     alloc: Global,
     machine: &mut Machine<'_>,
     members: &[Vec<SerialOp>],
     nodes: &mut Nodes,
     bound: u16,
     most: usize,
-) -> Result<Ending, AllocError>
+    watch: &mut W,
+) -> Result<Ending, Halted>
     requires starts { IsStart machine.old.component machine.old.matrix machine.old }
     requires first { HoldsStart members.now machine.old nodes.old }
-    ensures { EndsSo members.now bound most machine.old result }
+    requires running { W.is_stopped watch.old ≡ false }
+    ensures ends { EndsSo members.now bound most machine.old result }
+    ensures base { W.base watch.new ≡ W.base watch.old }
+    ensures stopped { IfErr result (λ halted. halted ≡ Stopped → W.is_stopped watch.new ≡ true) }
+    ensures running { OnOk result (W.is_stopped watch.new ≡ false) }
 {
     let mut level = Level {
         moves: 0,
         end: nodes.rows.len(),
     };
     for at in 0..most {
+        if watch.stop() {
+            return Err(Halted::Stopped);
+        }
         let known = nodes.rows.len();
         if known > most {
             return Ok(Ending::TooMany);
@@ -82,7 +100,7 @@ fn search(
         add_next(alloc, machine, members, &kept.row, nodes)?;
         if !is_good {
             let is_far = level.moves > usize::from(bound);
-            if is_far && !are_few(alloc, machine, members, nodes, at + 1, most)? {
+            if is_far && !are_few(alloc, machine, members, nodes, at + 1, most, watch)? {
                 return Ok(Ending::TooMany);
             }
             return Ok(Ending::Badly(level.moves));
@@ -94,42 +112,78 @@ fn search(
     Ok(Ending::Well)
 }
 
-/// How all schedules of the machine's component on its matrix end. It stands at the start, where
-/// these members are possible.
-fn search_from(
+/// How all schedules of the machine's component on its matrix end. It stands at the start, and no
+/// node is kept.
+fn search_from<W: Watch>(
     alloc: Global,
     machine: &mut Machine<'_>,
     members: &[Vec<SerialOp>],
-    alive: &[bool],
     nodes: &mut Nodes,
     bound: u16,
     most: usize,
-) -> Result<Ending, AllocError>
+    watch: &mut W,
+) -> Result<Ending, Halted>
     requires starts { IsStart machine.old.component machine.old.matrix machine.old }
-    requires told { AreTold members.now [] alive.now }
     requires none { HoldsNone nodes.old }
     requires dead { KnowsDead machine.old.component nodes.old.parts.dead }
-    ensures { EndsSo members.now bound most machine.old result }
+    requires running { W.is_stopped watch.old ≡ false }
+    ensures ends { EndsSo members.now bound most machine.old result }
+    ensures base { W.base watch.new ≡ W.base watch.old }
+    ensures stopped { IfErr result (λ halted. halted ≡ Stopped → W.is_stopped watch.new ≡ true) }
+    ensures running { OnOk result (W.is_stopped watch.new ≡ false) }
 {
-    add_first(alloc, machine, alive, nodes)?;
-    search(alloc, machine, members, nodes, bound, most)
+    let alive = all_possible(alloc, members)?;
+    add_first(alloc, machine, &alive, nodes)?;
+    search(alloc, machine, members, nodes, bound, most, watch)
 }
 
 /// How all schedules of the machine's component on its matrix end. It stands at the start.
-fn search_all(
+fn search_all<W: Watch>(
     alloc: Global,
     machine: &mut Machine<'_>,
     members: &[Vec<SerialOp>],
     bound: u16,
     most: usize,
-) -> Result<Ending, AllocError>
-    requires { IsStart machine.old.component machine.old.matrix machine.old }
-    ensures { EndsSo members.now bound most machine.old result }
+    watch: &mut W,
+) -> Result<Ending, Halted>
+    requires starts { IsStart machine.old.component machine.old.matrix machine.old }
+    requires running { W.is_stopped watch.old ≡ false }
+    ensures ends { EndsSo members.now bound most machine.old result }
+    ensures base { W.base watch.new ≡ W.base watch.old }
+    ensures stopped { IfErr result (λ halted. halted ≡ Stopped → W.is_stopped watch.new ≡ true) }
+    ensures running { OnOk result (W.is_stopped watch.new ≡ false) }
 {
-    let alive = all_possible(alloc, members)?;
     let dead = DeadRegisters::new(alloc, machine.component())?;
     let mut nodes = Nodes::new(alloc, dead);
-    search_from(alloc, machine, members, &alive, &mut nodes, bound, most)
+    search_from(alloc, machine, members, &mut nodes, bound, most, watch)
+}
+
+/// As [`ends_well`], but the watch is asked before each node that is gone through, and stops the
+/// search where it says so. Asks for a watch that has not stopped; where there is an ending, it has
+/// not stopped either.
+///
+/// # Errors
+///
+/// `Memory` where memory was refused, `Stopped` where the watch stopped the search.
+pub fn ends_well_watched<T: SerialTree, W: Watch>(
+    alloc: Global,
+    component: &Component,
+    matrix: &Matrix,
+    tree: &T,
+    bound: u16,
+    most: u32,
+    watch: &mut W,
+) -> Result<Ending, Halted>
+    requires runs { CanRun component.now matrix.now }
+    requires running { W.is_stopped watch.old ≡ false }
+    ensures endings { TellsEndings component.now matrix.now (T.members tree.now) bound most result }
+    ensures base { W.base watch.new ≡ W.base watch.old }
+    ensures stopped { IfErr result (λ halted. halted ≡ Stopped → W.is_stopped watch.new ≡ true) }
+    ensures running { OnOk result (W.is_stopped watch.new ≡ false) }
+{
+    let members = list_members(alloc, tree)?;
+    let mut machine = Machine::start(alloc, component, matrix)?;
+    search_all(alloc, &mut machine, &members, bound, most as usize, watch)
 }
 
 /// How all schedules of the component on the matrix end, of any length, for the set of the tree. A
@@ -153,7 +207,9 @@ pub fn ends_well<T: SerialTree>(
     requires { CanRun component.now matrix.now }
     ensures { TellsEndings component.now matrix.now (T.members tree.now) bound most result }
 {
-    let members = list_members(alloc, tree)?;
-    let mut machine = Machine::start(alloc, component, matrix)?;
-    search_all(alloc, &mut machine, &members, bound, most as usize)
+    match ends_well_watched(alloc, component, matrix, tree, bound, most, &mut Unwatched) {
+        Ok(ending) => Ok(ending),
+        Err(Halted::Memory) => Err(AllocError),
+        Err(Halted::Stopped) => unreachable!(),
+    }
 }

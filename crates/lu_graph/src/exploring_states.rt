@@ -1,16 +1,19 @@
 //! All states of a component on a matrix.
 
-ghost use Rattle.std.specs.Prelude.{◌≡◌, ◌<◌, IfOk};
-ghost use Rattle.lu_machine.specs.Starts.{CanRun, FromEachStart};
+ghost use Rattle.std.specs.Prelude.{◌≡◌, ◌<◌, true, false, IfErr, IfOk, OnOk};
+ghost use Rattle.lu_machine.specs.Starts.{CanRun};
+ghost use Rattle.lu_graph.specs.declared.halted.Halted.TheVariants.{Stopped};
 ghost use Rattle.lu_graph.specs.Discovering.{HasOnly};
-ghost use Rattle.lu_graph.specs.Exploring.{IsExplored};
+ghost use Rattle.lu_graph.specs.Exploring.{TellsExplored};
 
 use crate::discovering::{Discovered, Discovery, discover_next};
+use crate::halted::Halted;
 use crate::judging::has_ended;
 use indexmap::IndexSet;
 use lu_component::Component;
 use lu_machine::Machine;
 use lu_test::{Matrix, Move};
+use lu_tree::Watch;
 use std::alloc::{AllocError, Global};
 
 /// All states of a component on a matrix, and for each whether it has ended.
@@ -40,19 +43,27 @@ fn begin(alloc: Global, machine: &Machine<'_>) -> Result<Discovered, AllocError>
 
 /// The graph of all states, where there are no more than `most`. Asks for a matrix of the
 /// component, whose setup settles.
-pub(crate) fn explore(
+pub(crate) fn explore<W: Watch>(
     alloc: Global,
     component: &Component,
     matrix: &Matrix,
     most: usize,
-) -> Result<Option<StateGraph>, AllocError>
-    requires { CanRun component.now matrix.now }
-    ensures { FromEachStart component.now matrix.now (λ s. IfOk result (IsExplored most s)) }
+    watch: &mut W,
+) -> Result<Option<StateGraph>, Halted>
+    requires runs { CanRun component.now matrix.now }
+    requires running { W.is_stopped watch.old ≡ false }
+    ensures explored { TellsExplored component.now matrix.now most result }
+    ensures base { W.base watch.new ≡ W.base watch.old }
+    ensures stopped { IfErr result (λ halted. halted ≡ Stopped → W.is_stopped watch.new ≡ true) }
+    ensures running { OnOk result (W.is_stopped watch.new ≡ false) }
 {
     let mut machine = Machine::start(alloc, component, matrix)?;
     let mut found = begin(alloc, &machine)?;
     let mut ended = Vec::new(alloc);
     for at in 0..most {
+        if watch.stop() {
+            return Err(Halted::Stopped);
+        }
         if found.positions.len() > most {
             return Ok(None);
         }

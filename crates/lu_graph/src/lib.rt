@@ -9,6 +9,9 @@
 //! The same without histories tells of threads that go on for ever: where from a state none is
 //! reached that has ended, no schedule ends.
 //!
+//! A search can take long. [`ends_well_watched`] and [`first_lost_watched`] ask a watch before each
+//! node or state that is gone through, and can be stopped by it.
+//!
 //! ```text
 //! match ends_well(alloc, &component, &matrix, &set, 256, DEFAULT_NODES)? {
 //!     Ending::Well => ..,
@@ -32,6 +35,7 @@ mod ending;
 mod exploring;
 mod exploring_states;
 mod growing;
+mod halted;
 mod holding;
 mod judging;
 mod laws;
@@ -47,6 +51,8 @@ mod tables;
 mod unvisited;
 
 pub use ending::Ending;
-pub use exploring::ends_well;
+pub use exploring::{ends_well, ends_well_watched};
+pub use halted::Halted;
 pub use laws::{alike_laws, alive_laws, first_law, hopeless_law};
-pub use losing::first_lost;
+pub use losing::{first_lost, first_lost_watched};
+pub use lu_tree::{Unwatched, Watch};

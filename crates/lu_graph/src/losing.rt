@@ -1,16 +1,19 @@
 //! The first schedule that leads to a state from which none ends.
 
-ghost use Rattle.std.specs.Prelude.{◌≡◌, ◌<◌, length, All, IfOk};
+ghost use Rattle.std.specs.Prelude.{◌≡◌, ◌<◌, true, false, length, All, IfErr, IfOk, OnOk};
 ghost use Rattle.lu_test.specs.Schedule.{IsMove};
 ghost use Rattle.lu_machine.specs.Starts.{CanRun, FromEachStart};
+ghost use Rattle.lu_graph.specs.declared.halted.Halted.TheVariants.{Stopped};
 ghost use Rattle.lu_graph.specs.Exploring.{AreInOrder, FindsPath};
-ghost use Rattle.lu_graph.specs.Hopeless.{IsFirstLostIfAny};
+ghost use Rattle.lu_graph.specs.Hopeless.{IsFirstLostIfAny, TellsFirstLost};
 
 use crate::discovering::Discovery;
 use crate::exploring_states::explore;
+use crate::halted::Halted;
 use crate::marking::{first_unmarked, mark_back};
 use lu_component::Component;
 use lu_test::{MOST_LISTED_MOVES, Matrix, Schedule};
+use lu_tree::{Unwatched, Watch};
 use std::alloc::{AllocError, Global};
 
 /// The moves by which the state at this place was discovered, if they are no more than a schedule
@@ -39,6 +42,38 @@ fn schedule_to(
     Ok(Some(Schedule::new(moves)))
 }
 
+/// As [`first_lost`], but the watch is asked before each state that is gone through, and stops the
+/// search where it says so. Asks for a watch that has not stopped; where there is an answer, it has
+/// not stopped either.
+///
+/// # Errors
+///
+/// `Memory` where memory was refused, `Stopped` where the watch stopped the search.
+pub fn first_lost_watched<W: Watch>(
+    alloc: Global,
+    component: &Component,
+    matrix: &Matrix,
+    most: u32,
+    watch: &mut W,
+) -> Result<Option<Schedule>, Halted>
+    requires runs { CanRun component.now matrix.now }
+    requires running { W.is_stopped watch.old ≡ false }
+    ensures first { TellsFirstLost component.now matrix.now most result }
+    ensures base { W.base watch.new ≡ W.base watch.old }
+    ensures stopped { IfErr result (λ halted. halted ≡ Stopped → W.is_stopped watch.new ≡ true) }
+    ensures running { OnOk result (W.is_stopped watch.new ≡ false) }
+{
+    let mut graph = match explore(alloc, component, matrix, most as usize, watch)? {
+        None => return Ok(None),
+        Some(graph) => graph,
+    };
+    mark_back(&graph.found.edges, &mut graph.ended);
+    match first_unmarked(&graph.ended) {
+        None => Ok(None),
+        Some(place) => Ok(schedule_to(alloc, &graph.found.discoveries, place)?),
+    }
+}
+
 /// The first schedule that leads to a state from which no schedule ends: the shortest one, and the
 /// least of that length (some thread goes on for ever there, whatever moves are made). None where
 /// no schedule of up to 4,112 moves leads to one, and where the component has more than `most`
@@ -57,13 +92,9 @@ pub fn first_lost(
     requires { CanRun component.now matrix.now }
     ensures { FromEachStart component.now matrix.now (λ s. IfOk result (IsFirstLostIfAny most s)) }
 {
-    let mut graph = match explore(alloc, component, matrix, most as usize)? {
-        None => return Ok(None),
-        Some(graph) => graph,
-    };
-    mark_back(&graph.found.edges, &mut graph.ended);
-    match first_unmarked(&graph.ended) {
-        None => Ok(None),
-        Some(place) => schedule_to(alloc, &graph.found.discoveries, place),
+    match first_lost_watched(alloc, component, matrix, most, &mut Unwatched) {
+        Ok(schedule) => Ok(schedule),
+        Err(Halted::Memory) => Err(AllocError),
+        Err(Halted::Stopped) => unreachable!(),
     }
 }

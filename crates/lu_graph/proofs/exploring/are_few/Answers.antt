@@ -1,4 +1,4 @@
-use Rattle.std.proofs.Common.{arith, ◌≡◌, ◌≤◌, ◌+◌, length, refl, sym, ◌∙◌, ap, subst}
+use Rattle.std.proofs.Common.{arith, rules, ◌≡◌, ◌≤◌, ◌+◌, length, refl, sym, ◌∙◌, ap, subst}
 use Rattle.lu_machine.specs.Positions.{CanStandAt, at_position}
 use Rattle.lu_machine.specs.States.{State}
 use Rattle.lu_graph.specs.declared.holding.Nodes.{Nodes}
@@ -7,16 +7,16 @@ use Rattle.lu_graph.proofs.Visiting.{can_stand, few_nodes, many_or_few, too_many
 use Rattle.lu_graph.proofs.Waiting.{all_differ, next_there, none_waits, sized_there}
 use Rattle.lu_graph.proofs.exploring.are_few.Goals as goal
 
-pub returns-then-len-most : goal.returns-then-len-most
-returns-then-len-most c = λ s is.
+pub returns-then-len-most-clause-few : goal.returns-then-len-most-clause-few
+returns-then-len-most-clause-few g c = λ s is.
     (let v = c.loop-at.invariant.visited in
     let many = v.1.many in (
       (λ x. absurd (cc)),
       (λ few. absurd (too_many c.args.members.now c.args.machine.now.component c.args.machine.now.matrix c.requires.settles c.loop-at.nodes.parts.dead c.loop-at.invariant.visited.3 v.0 c.loop-at.at v.2 c.args.most (all_differ c.args.members.now c.loop-at.nodes v.0 c.loop-at.at v.1 c.len.ensures.unique) (omega (arith, many, c.len.ensures.len)) s is few)),
     ))
 
-pub returns-in-None : goal.returns-in-None
-returns-in-None c = λ s is.
+pub returns-in-None-clause-few : goal.returns-in-None-clause-few
+returns-in-None-clause-few g c = λ s is.
     (let v = c.loop-at.invariant.visited in
     let many = v.1.many in
     let past : length v.0 ≤ c.loop-at.at = none_waits c.args.members.now c.loop-at.nodes v.0 c.loop-at.at v.1 (sym c.loop-at.nodes.waiting.ok.0 ∙ c.in-None.ensures.cases.0) in
@@ -26,7 +26,7 @@ returns-in-None c = λ s is.
     ))
 
 pub stand_at-requires : goal.stand_at-requires
-stand_at-requires c =
+stand_at-requires g c =
     let v = c.loop-at.invariant.visited in
     let popped : Nodes = record c.loop-at.nodes { waiting = c.pop_front.new.self } in
     let one = next_there c.args.members.now c.loop-at.nodes v.0 c.loop-at.at v.1 popped c.in-Some.kept refl refl c.in-Some.ensures.items in
@@ -35,7 +35,7 @@ stand_at-requires c =
     c.loop-at.machine c.loop-at.invariant.component c.loop-at.invariant.matrix_is one.kept one.there)
 
 pub add_next-requires : goal.add_next-requires
-add_next-requires c =
+add_next-requires g c =
     let v = c.loop-at.invariant.visited in
     let popped : Nodes = record c.loop-at.nodes { waiting = c.pop_front.new.self } in
     let one = next_there c.args.members.now c.loop-at.nodes v.0 c.loop-at.at v.1 popped c.in-Some.kept refl refl c.in-Some.ensures.items in
@@ -45,7 +45,7 @@ add_next-requires c =
     (c.stand_at.ensures ∙ ap (at_position c.loop-at.machine) (sym one.position))
 
 pub loop-at-preserved : goal.loop-at-preserved
-loop-at-preserved c =
+loop-at-preserved g c =
     let v = c.loop-at.invariant.visited in
     let popped : Nodes = record c.loop-at.nodes { waiting = c.pop_front.new.self } in
     let one = next_there c.args.members.now c.loop-at.nodes v.0 c.loop-at.at v.1 popped c.in-Some.kept refl refl c.in-Some.ensures.items in
@@ -57,6 +57,8 @@ loop-at-preserved c =
     record {
       component = ap (λ (s : State). s.component) home ∙ c.loop-at.invariant.component;
       matrix_is = ap (λ (s : State). s.matrix) home ∙ c.loop-at.invariant.matrix_is;
+      base = search rules;
+      running = search rules;
       visited = (
         more.list,
         more.hold,
@@ -67,8 +69,8 @@ loop-at-preserved c =
       );
     }
 
-pub returns : goal.returns
-returns c = λ s is.
+pub returns-clause-few : goal.returns-clause-few
+returns-clause-few g c = λ s is.
     (let v = c.loop-at.invariant.visited in
     many_or_few c.args.members.now c.args.machine.now.component c.args.machine.now.matrix c.requires.settles c.loop-at.nodes.parts.dead c.loop-at.invariant.visited.3 v.0 c.loop-at.at v.2 c.args.most
     (all_differ c.args.members.now c.loop-at.nodes v.0 c.loop-at.at v.1 c.len-2.ensures.unique) c.len-2.result (c.len-2.ensures.len ∙ v.1.many) (omega arith) s is)

@@ -21,7 +21,7 @@ known_there : (c : Component) (dead : DeadTable) → KnowsDead c dead → (d : C
 known_there c dead known d table one two = subst (λ x. KnowsDead x table) (sym one) (subst (KnowsDead c) (sym two) known)
 
 pub loop-at-init : goal.loop-at-init
-loop-at-init c =
+loop-at-init g c =
     let members = c.args.members.now in
     let decl = c.args.machine.now.component in
     let matrix = c.args.machine.now.matrix in
@@ -35,6 +35,8 @@ loop-at-init c =
     record {
       component = refl;
       matrix_is = refl;
+      base = refl;
+      running = c.requires.running;
       dead = refl;
       known = (
         list,
@@ -45,8 +47,8 @@ loop-at-init c =
       moves = one_there members decl matrix settles dead dead_known c.args.machine.now c.requires.starts list start c.len.result many;
     }
 
-pub returns-then-known-most : goal.returns-then-known-most
-returns-then-known-most c =
+pub returns-then-known-most-clause-ends : goal.returns-then-known-most-clause-ends
+returns-then-known-most-clause-ends g c =
     let members = c.args.members.now in
     let decl = c.args.machine.now.component in
     let matrix = c.args.machine.now.matrix in
@@ -64,8 +66,8 @@ returns-then-known-most c =
 differ : (b : Bool) → b ≡ false → b ≡ true → ⊥
 differ b p q = cc
 
-pub returns-in-None : goal.returns-in-None
-returns-in-None c =
+pub returns-in-None-clause-ends : goal.returns-in-None-clause-ends
+returns-in-None-clause-ends g c =
     let members = c.args.members.now in
     let decl = c.args.machine.now.component in
     let matrix = c.args.machine.now.matrix in
@@ -82,7 +84,7 @@ returns-in-None c =
     ends_well_there members decl matrix settles dead dead_known list place visited c.args.most past (omega (arith, many, c.len-known.ensures.len)) c.loop-at.level.moves c.loop-at.level.end searched
 
 pub stand_at-requires : goal.stand_at-requires
-stand_at-requires c =
+stand_at-requires g c =
     let members = c.args.members.now in
     let decl = c.args.machine.now.component in
     let matrix = c.args.machine.now.matrix in
@@ -103,7 +105,7 @@ stand_at-requires c =
     subst (CanStandAt c.loop-at.machine.component c.loop-at.machine.matrix) one.position can
 
 pub is_good-is_good-requires : goal.is_good-is_good-requires
-is_good-is_good-requires c =
+is_good-is_good-requires g c =
     let members = c.args.members.now in
     let decl = c.args.machine.now.component in
     let matrix = c.args.machine.now.matrix in
@@ -124,7 +126,7 @@ is_good-is_good-requires c =
     as_many members decl matrix settles dead dead_known list place visited c.loop-at.machine c.loop-at.invariant.component c.loop-at.invariant.matrix_is kept here c.list.result.now (c.list.ensures kept.alive one.knows)
 
 pub add_next-requires : goal.add_next-requires
-add_next-requires c =
+add_next-requires g c =
     let members = c.args.members.now in
     let decl = c.args.machine.now.component in
     let matrix = c.args.machine.now.matrix in
@@ -146,7 +148,7 @@ add_next-requires c =
 
 -- its setup settles
 pub are_few-requires-clause-settles : goal.are_few-requires-clause-settles
-are_few-requires-clause-settles c =
+are_few-requires-clause-settles g c =
     let members = c.args.members.now in
     let decl = c.args.machine.now.component in
     let matrix = c.args.machine.now.matrix in
@@ -166,7 +168,7 @@ are_few-requires-clause-settles c =
     subst (Settles c.add_next.new.machine.component) (sym same_matrix) (subst (λ (d : Component). Settles d matrix) (sym same_component) settles)
 
 pub are_few-requires-clause-visited : goal.are_few-requires-clause-visited
-are_few-requires-clause-visited c =
+are_few-requires-clause-visited g c =
     let members = c.args.members.now in
     let decl = c.args.machine.now.component in
     let matrix = c.args.machine.now.matrix in
@@ -198,8 +200,8 @@ are_few-requires-clause-visited c =
       known_there decl dead dead_known c.add_next.new.machine.component c.add_next.new.nodes.parts.dead (ap (λ (s : State). s.component) home ∙ c.loop-at.invariant.component) (more.dead ∙ c.loop-at.invariant.dead),
     )
 
-pub returns-then-not-branch : goal.returns-then-not-branch
-returns-then-not-branch c =
+pub returns-then-not-branch-clause-ends : goal.returns-then-not-branch-clause-ends
+returns-then-not-branch-clause-ends g c =
     let members = c.args.members.now in
     let decl = c.args.machine.now.component in
     let matrix = c.args.machine.now.matrix in
@@ -224,11 +226,11 @@ returns-then-not-branch c =
     let more = c.in_ok-add_next.ensures.next list (place + 1) alive one.held one.knows there in
     let other : c.in_ok-are_few.field-0 ≡ false = search rules in
     let said = from_here members decl matrix settles dead dead_known list place visited c.loop-at.machine c.loop-at.invariant.component c.loop-at.invariant.matrix_is kept here c.add_next.new.machine alive home refl
-    (λ s. HasFewNodes (IsOneOf c.args.members.now) s c.args.most → c.in_ok-are_few.field-0 ≡ true) (λ s is. (c.in_ok-are_few.ensures s is).1) in
+    (λ s. HasFewNodes (IsOneOf c.args.members.now) s c.args.most → c.in_ok-are_few.field-0 ≡ true) (λ s is. (c.in_ok-are_few.ensures.few s is).1) in
     λ s is few. absurd (differ c.in_ok-are_few.field-0 other (said s is few))
 
-pub returns-then-not-is_good : goal.returns-then-not-is_good
-returns-then-not-is_good c =
+pub returns-then-not-is_good-clause-ends : goal.returns-then-not-is_good-clause-ends
+returns-then-not-is_good-clause-ends g c =
     let members = c.args.members.now in
     let decl = c.args.machine.now.component in
     let matrix = c.args.machine.now.matrix in
@@ -261,13 +263,13 @@ returns-then-not-is_good c =
         | else-is_far-via-then-is_far+in_ok-are_few+else-not-branch w ↦
             (let few : w.in_ok-are_few.field-0 ≡ true = search rules in
             from_here members decl matrix settles dead dead_known list place visited c.loop-at.machine c.loop-at.invariant.component c.loop-at.invariant.matrix_is kept here c.add_next.new.machine alive home refl
-            (λ s. w.in_ok-are_few.field-0 ≡ true → HasFewNodes (IsOneOf c.args.members.now) s c.args.most) (λ s is. (w.in_ok-are_few.ensures s is).0) s is few)
+            (λ s. w.in_ok-are_few.field-0 ≡ true → HasFewNodes (IsOneOf c.args.members.now) s c.args.most) (λ s is. (w.in_ok-are_few.ensures.few s is).0) s is few)
         | else-is_far-via-else-is_far w ↦ absurd (let near = w.if-is_far.false in omega (arith, near, far, c.from.ensures))
       ]),
     )
 
 pub loop-at-preserved : goal.loop-at-preserved
-loop-at-preserved c =
+loop-at-preserved g c =
     let members = c.args.members.now in
     let decl = c.args.machine.now.component in
     let matrix = c.args.machine.now.matrix in
@@ -295,6 +297,8 @@ loop-at-preserved c =
     record {
       component = ap (λ (s : State). s.component) home ∙ c.loop-at.invariant.component;
       matrix_is = ap (λ (s : State). s.matrix) home ∙ c.loop-at.invariant.matrix_is;
+      base = search rules;
+      running = search rules;
       dead = more.dead ∙ c.loop-at.invariant.dead;
       known = (
         more.list,
@@ -307,8 +311,8 @@ loop-at-preserved c =
       moves = level.1;
     }
 
-pub returns-then-len-most : goal.returns-then-len-most
-returns-then-len-most c =
+pub returns-then-len-most-clause-ends : goal.returns-then-len-most-clause-ends
+returns-then-len-most-clause-ends g c =
     let members = c.args.members.now in
     let decl = c.args.machine.now.component in
     let matrix = c.args.machine.now.matrix in
@@ -323,8 +327,8 @@ returns-then-len-most c =
     let many = hold.many in
     too_many members decl matrix settles dead dead_known list place visited c.args.most (subst (λ d. AreDifferent d list) c.loop-at.invariant.dead (all_differ members c.loop-at.nodes list place hold c.len-2.ensures.unique)) (omega (arith, many, c.len-2.ensures.len))
 
-pub returns : goal.returns
-returns c =
+pub returns-clause-ends : goal.returns-clause-ends
+returns-clause-ends g c =
     let members = c.args.members.now in
     let decl = c.args.machine.now.component in
     let matrix = c.args.machine.now.matrix in

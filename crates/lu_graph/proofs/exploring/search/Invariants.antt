@@ -1,4 +1,4 @@
-use Rattle.std.proofs.Common.{◌≡◌, ◌<◌, List}
+use Rattle.std.proofs.Common.{◌≡◌, ◌<◌, false, List}
 use Rattle.lu_graph.specs.Kept.{Kept}
 use Rattle.lu_graph.specs.Holding.{Hold}
 use Rattle.lu_graph.specs.Visiting.{AreVisitedFrom}
@@ -6,9 +6,11 @@ use Rattle.lu_graph.proofs.Visiting.{AreSearchedFrom}
 use Rattle.lu_graph.proofs.exploring.search.Given as goal
 
 abbrev pub invariant-loop-at : goal.invariant-loop-at
-invariant-loop-at l = record {
+invariant-loop-at g l = record {
   component : l.machine.component ≡ l.fn.machine.component;
   matrix_is : l.machine.matrix ≡ l.fn.machine.matrix;
+  base : g.W.Watch.base l.watch ≡ g.W.Watch.base l.fn.watch;
+  running : g.W.Watch.is_stopped l.watch ≡ false;
   dead : l.nodes.parts.dead ≡ l.fn.nodes.parts.dead;
   known : (list : List Kept) × Hold l.members l.nodes list l.at
       × AreVisitedFrom l.members l.fn.machine.component l.fn.machine.matrix list l.at

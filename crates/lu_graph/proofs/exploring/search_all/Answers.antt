@@ -1,12 +1,8 @@
-use Rattle.std.proofs.Common.{[], sym, subst}
-use Rattle.lu_graph.specs.Alive.{AreTold}
+use Rattle.std.proofs.Common.{sym, subst}
 use Rattle.lu_graph.specs.Rows.{KnowsDead}
 use Rattle.lu_graph.proofs.exploring.search_all.Goals as goal
 
-pub search_from-requires-clause-told : goal.search_from-requires-clause-told
-search_from-requires-clause-told c = subst (AreTold c.args.members.now []) (sym c.deref.ensures.value) c.in_ok-alive.ensures
-
 pub search_from-requires-clause-dead : goal.search_from-requires-clause-dead
-search_from-requires-clause-dead c =
+search_from-requires-clause-dead g c =
     let known : KnowsDead c.component.result.now c.in_ok-dead.dead = record { sound = c.in_ok-dead.ensures.sound; tells = c.in_ok-dead.ensures.exact } in
     subst (KnowsDead c.args.machine.now.component) (sym c.new-nodes.ensures.dead) (subst (λ x. KnowsDead x c.in_ok-dead.dead) c.component.ensures known)

@@ -1,5 +1,4 @@
-use Rattle.std.proofs.Common.{arith, ◌≡◌, false, true, sym, ◌∙◌, subst}
-use Rattle.lu_horizon.specs.Stands.{is_unseen_at}
+use Rattle.std.proofs.Common.{arith, sym, ◌∙◌, subst}
 use Rattle.lu_graph.specs.Growing.{TakeTurns}
 use Rattle.lu_graph.proofs.Turns.{seen_more, turns_all, turns_one}
 use Rattle.lu_graph.proofs.growing.turns_at.Goals as goal

@@ -1,55 +1,56 @@
-use Rattle.std.proofs.Common.{arith, ◌≡◌, None, Some, length, subst}
+use Rattle.std.proofs.Common.{arith, ◌≡◌, Ok, None, Some, length, subst}
 use Rattle.std.specs.Prelude.{not, position}
+use Rattle.lu_graph.specs.declared.halted.Halted.{Halted}
 use Rattle.lu_graph.specs.Exploring.{IsExplored}
 use Rattle.lu_graph.proofs.Found.{edges_within, found_by_path, none_found, place_within, ways_move, ways_ordered, written}
-use Rattle.lu_graph.proofs.losing.first_lost.Goals as goal
+use Rattle.lu_graph.proofs.losing.first_lost_watched.Goals as goal
 
-pub returns-in-None : goal.returns-in-None
-returns-in-None c = λ s is few u moves lost. (let none = subst (IsExplored c.args.most s) c.in-None.is (c.in_ok-explore.ensures s is) in absurd (none few))
+pub returns-in-None-clause-first : goal.returns-in-None-clause-first
+returns-in-None-clause-first g c = λ s is few u moves lost. (let none = subst (IsExplored c.args.most s) c.in-None.is (c.in_ok-explore.ensures.explored s is) in absurd (none few))
 
 pub mark_back-requires : goal.mark_back-requires
-mark_back-requires c =
-    edges_within c.args.component.now c.args.matrix.now c.requires.settles c.args.most c.in-Some.graph (λ s is. subst (IsExplored c.args.most s) c.in-Some.is (c.in_ok-explore.ensures s is))
+mark_back-requires g c =
+    edges_within c.args.component.now c.args.matrix.now c.requires.runs.settles c.args.most c.in-Some.graph (λ s is. subst (IsExplored c.args.most s) c.in-Some.is (c.in_ok-explore.ensures.explored s is))
     c.deref.result.now c.deref_mut.result.now c.deref.ensures.value c.deref_mut.ensures.value
 
-pub returns-in-None-first_unmarked : goal.returns-in-None-first_unmarked
-returns-in-None-first_unmarked c =
+pub returns-in-None-first_unmarked-clause-first : goal.returns-in-None-first_unmarked-clause-first
+returns-in-None-first_unmarked-clause-first g c =
     let size : length c.mark_back.new.marks ≡ length c.deref_mut.result.now = omega arith in
     let whole : length c.in-Some.graph.ended.items ≡ c.in-Some.graph.ended.len = omega (arith, c.in-Some.graph.ended.ok.0) in
     let same : length c.mark_back.new.marks ≡ length c.in-Some.graph.ended.items = omega arith in
     let now = written c.in-Some.graph.ended.len c.deref-2.result.now c.mark_back.new.marks c.in-Some.graph.ended.items whole same c.deref-2.ensures.value in
-    none_found c.args.component.now c.args.matrix.now c.requires.settles c.args.most c.in-Some.graph (λ s is. subst (IsExplored c.args.most s) c.in-Some.is (c.in_ok-explore.ensures s is))
+    none_found c.args.component.now c.args.matrix.now c.requires.runs.settles c.args.most c.in-Some.graph (λ s is. subst (IsExplored c.args.most s) c.in-Some.is (c.in_ok-explore.ensures.explored s is))
     c.deref.result.now c.deref_mut.result.now c.mark_back.new.marks c.deref.ensures.value c.deref_mut.ensures.value size c.mark_back.ensures
     (subst (λ xs. None ≡ position not xs) now c.in-None-first_unmarked.ensures)
 
 pub schedule_to-requires-clause-there : goal.schedule_to-requires-clause-there
-schedule_to-requires-clause-there c =
+schedule_to-requires-clause-there g c =
     let size : length c.mark_back.new.marks ≡ length c.deref_mut.result.now = omega arith in
     let whole : length c.in-Some.graph.ended.items ≡ c.in-Some.graph.ended.len = omega (arith, c.in-Some.graph.ended.ok.0) in
     let same : length c.mark_back.new.marks ≡ length c.in-Some.graph.ended.items = omega arith in
     let now = written c.in-Some.graph.ended.len c.deref-2.result.now c.mark_back.new.marks c.in-Some.graph.ended.items whole same c.deref-2.ensures.value in
-    place_within c.args.component.now c.args.matrix.now c.requires.settles c.args.most c.in-Some.graph (λ s is. subst (IsExplored c.args.most s) c.in-Some.is (c.in_ok-explore.ensures s is))
+    place_within c.args.component.now c.args.matrix.now c.requires.runs.settles c.args.most c.in-Some.graph (λ s is. subst (IsExplored c.args.most s) c.in-Some.is (c.in_ok-explore.ensures.explored s is))
     c.deref.result.now c.deref_mut.result.now c.mark_back.new.marks c.deref.ensures.value c.deref_mut.ensures.value size c.mark_back.ensures
     c.in-Some-first_unmarked.place (subst (λ xs. Some c.in-Some-first_unmarked.place ≡ position not xs) now c.in-Some-first_unmarked.ensures)
     c.deref-in-Some-first_unmarked.result.now c.deref-in-Some-first_unmarked.ensures.value
 
 pub schedule_to-requires-clause-order : goal.schedule_to-requires-clause-order
-schedule_to-requires-clause-order c =
-    ways_ordered c.args.component.now c.args.matrix.now c.requires.settles c.args.most c.in-Some.graph (λ s is. subst (IsExplored c.args.most s) c.in-Some.is (c.in_ok-explore.ensures s is))
+schedule_to-requires-clause-order g c =
+    ways_ordered c.args.component.now c.args.matrix.now c.requires.runs.settles c.args.most c.in-Some.graph (λ s is. subst (IsExplored c.args.most s) c.in-Some.is (c.in_ok-explore.ensures.explored s is))
     c.deref-in-Some-first_unmarked.result.now c.deref-in-Some-first_unmarked.ensures.value
 
 pub schedule_to-requires-clause-moves : goal.schedule_to-requires-clause-moves
-schedule_to-requires-clause-moves c =
-    ways_move c.args.component.now c.args.matrix.now c.requires.settles c.args.most c.in-Some.graph (λ s is. subst (IsExplored c.args.most s) c.in-Some.is (c.in_ok-explore.ensures s is))
+schedule_to-requires-clause-moves g c =
+    ways_move c.args.component.now c.args.matrix.now c.requires.runs.settles c.args.most c.in-Some.graph (λ s is. subst (IsExplored c.args.most s) c.in-Some.is (c.in_ok-explore.ensures.explored s is))
     c.deref-in-Some-first_unmarked.result.now c.deref-in-Some-first_unmarked.ensures.value
 
-pub returns : goal.returns
-returns c =
+pub returns-clause-first : goal.returns-clause-first
+returns-clause-first g c =
     let size : length c.mark_back.new.marks ≡ length c.deref_mut.result.now = omega arith in
     let whole : length c.in-Some.graph.ended.items ≡ c.in-Some.graph.ended.len = omega (arith, c.in-Some.graph.ended.ok.0) in
     let same : length c.mark_back.new.marks ≡ length c.in-Some.graph.ended.items = omega arith in
     let now = written c.in-Some.graph.ended.len c.deref-2.result.now c.mark_back.new.marks c.in-Some.graph.ended.items whole same c.deref-2.ensures.value in
-    found_by_path c.args.component.now c.args.matrix.now c.requires.settles c.args.most c.in-Some.graph (λ s is. subst (IsExplored c.args.most s) c.in-Some.is (c.in_ok-explore.ensures s is))
+    found_by_path c.args.component.now c.args.matrix.now c.requires.runs.settles c.args.most c.in-Some.graph (λ s is. subst (IsExplored c.args.most s) c.in-Some.is (c.in_ok-explore.ensures.explored s is))
     c.deref.result.now c.deref_mut.result.now c.mark_back.new.marks c.deref.ensures.value c.deref_mut.ensures.value size c.mark_back.ensures
     c.in-Some-first_unmarked.place (subst (λ xs. Some c.in-Some-first_unmarked.place ≡ position not xs) now c.in-Some-first_unmarked.ensures)
-    c.deref-in-Some-first_unmarked.result.now c.deref-in-Some-first_unmarked.ensures.value c.schedule_to.result c.schedule_to.ensures
+    {E = Halted} c.deref-in-Some-first_unmarked.result.now c.deref-in-Some-first_unmarked.ensures.value (Ok c.in_ok-schedule_to-in-Some-first_unmarked.field-0) c.in_ok-schedule_to-in-Some-first_unmarked.ensures
