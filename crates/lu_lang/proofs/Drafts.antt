@@ -21,9 +21,9 @@ use Rattle.lu_lang.specs.declared.draft.Statement.{Statement}
 use Rattle.lu_lang.specs.declared.draft.Statement.TheVariants.{Plain, Jump, JumpIfZero}
 use Rattle.lu_lang.specs.declared.fault.LangFaultKind.{LangFaultKind}
 use Rattle.lu_lang.specs.declared.fault.LangFaultKind.TheVariants.{Byte, Missing, Form, Number, Limit, Flow, Name}
-use Rattle.lu_component.specs.Component.{operation_number, AreDistinct, EndsWell, IsArray, IsComponent, IsInstr, IsOp}
+use Rattle.lu_component.specs.Component.{operation_number, AreDistinct, Component, EndsWell, IsArray, IsComponent, IsInstr, IsOp}
 use Rattle.lu_lang.specs.Draft.{OpenOp, ComponentDraft, nothing, named}
-use Rattle.lu_lang.specs.Grammar.{value, is_value, array_place, lock_place, component_line, local_line, array_line, lock_line, op_line, declaration, statement, sooner, place_fault, with_label, with_statement, placed, instr_line, labelled, are_there, is_last, ends_well, target, resolved, op_of, end_line, by_label, by_state, closed, by_words, line_of, label_in}
+use Rattle.lu_lang.specs.Grammar.{value, is_value, array_place, lock_place, component_line, local_line, array_line, lock_line, op_line, declaration, statement, sooner, place_fault, with_label, with_statement, placed, instr_line, labelled, are_there, is_last, ends_well, target, resolved, op_of, end_line, by_label, by_state, closed, by_words, declared_or_left, line_of, label_in}
 use Rattle.lu_lang.specs.Words.{keyword_in}
 use Rattle.lu_lang.specs.Sound.{IsStatement, IsBegun, IsSoundDraft}
 use Rattle.lu_text.proofs.Says.{NoneHold, said}
@@ -446,3 +446,12 @@ nothing_draft = record {
 -- what is declared at the end is a component
 pub draft_component : (d : ComponentDraft) → IsSoundDraft d → (name : Word) → IsName name → IsComponent (named d name)
 draft_component d h name is = h.declared name is
+
+-- what is declared, or what is wrong, without the draft
+abbrev pub without_draft : Result Component (LangFaultKind × ComponentDraft) → Result Component LangFaultKind
+without_draft (Ok c) = Ok c
+without_draft (Err (kind, d)) = Err kind
+
+pub told_without : (d : ComponentDraft) (r : Result Component LangFaultKind) (left : Result Component (LangFaultKind × ComponentDraft)) → left ≡ declared_or_left d r → without_draft left ≡ r
+told_without d (Ok c) left e = ap without_draft e
+told_without d (Err kind) left e = ap without_draft e

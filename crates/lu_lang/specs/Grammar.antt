@@ -383,6 +383,12 @@ declared d None begun = Err Missing
 declared d (Some name) (Some b) = Err Missing
 declared d (Some name) None = Ok (named d name)
 
+-- what is declared; or what is wrong, and the draft as it was
+abbrev pub declared_or_left : ComponentDraft → Result Component LangFaultKind
+    → Result Component (LangFaultKind × ComponentDraft)
+declared_or_left d (Ok c) = Ok c
+declared_or_left d (Err kind) = Err (kind, d)
+
 -- the text of a component
 abbrev pub component_grammar : Grammar LangFaultKind ComponentDraft Component
 component_grammar = record {

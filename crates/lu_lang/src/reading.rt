@@ -556,6 +556,44 @@ impl ComponentDraft {
         let words = words_of(alloc, text)?;
         self.take_words(alloc, &words)
     }
+
+    /// The component that the lines declare, at the end of the text; or what is wrong there, and the
+    /// draft as it was.
+    #[tactic(auto, using(crate::proofs::Drafts::draft_component))]
+    pub fn finish(self) -> Result<Component, (LangFaultKind, ComponentDraft)>
+        requires { IsSoundDraft self }
+        ensures { result ≡ spec.declared_or_left self (component_grammar.finish self) }
+    {
+        let ComponentDraft {
+            name,
+            local,
+            arrays,
+            locks,
+            operations,
+            begun,
+        } = self;
+        match (name, begun) {
+            (Some(name), None) => Ok(Component::new(
+                name,
+                // Without a line `local` each local instruction is a move of its own.
+                local.unwrap_or(0),
+                arrays,
+                locks,
+                operations,
+            )),
+            (name, begun) => {
+                let draft = ComponentDraft {
+                    name,
+                    local,
+                    arrays,
+                    locks,
+                    operations,
+                    begun,
+                };
+                Err((LangFaultKind::Missing, draft))
+            }
+        }
+    }
 }
 
 /// What is wrong at the end of the text.
@@ -569,33 +607,6 @@ pub fn end_fault(draft: &ComponentDraft) -> Option<LangFaultKind>
     }
 }
 
-/// What is declared at the end of the text, or what is wrong there.
-#[tactic(auto, using(crate::proofs::Drafts::draft_component))]
-fn finish(draft: ComponentDraft) -> Result<Component, LangFaultKind>
-    requires { IsSoundDraft draft }
-    ensures { result ≡ component_grammar.finish draft }
-{
-    let ComponentDraft {
-        name,
-        local,
-        arrays,
-        locks,
-        operations,
-        begun,
-    } = draft;
-    match (name, begun) {
-        (Some(name), None) => Ok(Component::new(
-            name,
-            // Without a line `local` each local instruction is a move of its own.
-            local.unwrap_or(0),
-            arrays,
-            locks,
-            operations,
-        )),
-        _ => Err(LangFaultKind::Missing),
-    }
-}
-
 fn read_lines(alloc: Global, lines: &[&[u8]]) -> Result<Component, LangFault>
     ensures { Gives result (meaning_of_lines component_grammar (texts lines.now)) }
 {
@@ -605,9 +616,9 @@ fn read_lines(alloc: Global, lines: &[&[u8]]) -> Result<Component, LangFault>
             return Err(Fault::At(kind, before + 1));
         }
     }
-    match finish(draft) {
+    match draft.finish() {
         Ok(component) => Ok(component),
-        Err(kind) => Err(Fault::At(kind, lines.len() + 1)),
+        Err((kind, _)) => Err(Fault::At(kind, lines.len() + 1)),
     }
 }
 

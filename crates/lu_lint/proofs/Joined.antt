@@ -1,5 +1,5 @@
 -- What is said of a bundle, part after part.
-use Rattle.std.proofs.Common.{◌≡◌, ℕ, List, [], ◌∷◌, ◌++◌, Option, refl, ap, subst, append_assoc, ◌∙◌}
+use Rattle.std.proofs.Common.{◌≡◌, ℕ, List, ◌∷◌, ◌++◌, Option, refl, ap, subst, append_assoc, ◌∙◌}
 use Rattle.lu_text.specs.Bundle.{meant_parts}
 use Rattle.lu_text.specs.Lines.{kept_lines}
 use Rattle.lu_test.specs.Matrix.{Matrix}

@@ -1,5 +1,5 @@
 -- Whatever is said of a bundle, of each of its parts the least fault is the reader's.
-use Rattle.std.proofs.Common.{◌≡◌, ℕ, ◌+◌, ◌<◌, ◌≤◌, inl, inr, true, false, Bool, cond, List, [], ◌∷◌, ◌++◌, append-nil, append_assoc, map, Option, Some, None, Result, Ok, Err, refl, sym, ap, subst, ◌∙◌, arith}
+use Rattle.std.proofs.Common.{◌≡◌, ℕ, ◌+◌, ◌<◌, ◌≤◌, inl, inr, true, false, Bool, cond, List, [], ◌∷◌, ◌++◌, append-nil, append_assoc, filter, map, Option, Some, None, Result, Ok, Err, refl, sym, ap, subst, ◌∙◌, arith}
 use Rattle.std.specs.Prelude.{All, IsPermutation, MatchBool, length, nat_le}
 use Rattle.std.specs.List.{filter_map}
 use Rattle.std.specs.List.Sorted.{IsStableByKey}
@@ -14,7 +14,6 @@ use Rattle.lu_text.specs.Lines.{kept_lines, lines_of, words_of}
 use Rattle.lu_component.specs.Component.{Component}
 use Rattle.lu_lang.proofs.Understood.{faulty_meaning}
 use Rattle.lu_lang.specs.declared.fault.LangFaultKind.{LangFaultKind}
-use Rattle.lu_lang.specs.Draft.{ComponentDraft, nothing}
 use Rattle.lu_lang.specs.Grammar.{component_grammar}
 use Rattle.lu_test.specs.declared.schedule_fault.ScheduleFault.{ScheduleFault}
 use Rattle.lu_test.specs.Matrix.{Matrix}
@@ -50,14 +49,14 @@ use Rattle.lu_lint.specs.Bundle.{PartsSaid, component_read, component_said, is_b
 use Rattle.lu_lint.specs.Component.{component_lint, jumps}
 use Rattle.lu_lint.specs.Further.{AfterMatrix, AfterThird, FourthSaid, fifth_said}
 use Rattle.lu_lint.specs.Least.{ComponentLeast, FourthLeast, FurtherLeast, LeastIsReaders, MatrixLeast, NoneSaid, PartsLeast, ReadersAreLeast, ReadsOrLeast, ReportLeast, Same, SameOrJump, ScheduleFirst, SpecificationLeast, ThirdLeast, component_fault, matrix_fault, report_fault, schedule_fault, specification_fault}
-use Rattle.lu_lint.specs.Lint.{Told, faults_in, told_here, with_words}
+use Rattle.lu_lint.specs.Lint.{Told, faults_in, told_here}
 use Rattle.lu_lint.specs.Matrix.{lint_of, matrix_lint}
 use Rattle.lu_lint.specs.Signatures.{signatures_meant}
 use Rattle.lu_lint.specs.Runs.{RunsSaid}
 use Rattle.lu_lint.specs.Said.{SaysFurther, above_next, line_below, said_faults, said_of_text, said_told}
 use Rattle.lu_lint.specs.Schedule.{AgreeOn, schedule_faults, schedule_said, schedule_told}
 use Rattle.lu_lint.specs.Third.{ReportSaid, SaidOfSome, SpecificationSaid, ThirdSaid, histories_of, histories_said, history_said, report_said, specification_said, third_of}
-use Rattle.lu_lint.specs.Warnings.{draft_behind, line_hints, warned, warnings_after}
+use Rattle.lu_lint.specs.Warnings.{holds, possible_of_lines, warned}
 use Rattle.lu_lint.proofs.Going.{component_agrees, matrix_agrees}
 use Rattle.lu_lint.proofs.KeptOrder.{IsOfKey, none_picked, picked_alike}
 use Rattle.lu_lint.proofs.LeastLines.{AreBeside, Rise, all_after, least_left, least_moved, least_of_rising, least_right, readers_left, readers_moved, readers_right, readers_said, rise_sooner}
@@ -135,16 +134,10 @@ separators_are n (line ∷ lines) = of_both 0 (separator_said n line) (separator
     go true = All-cons (λ s. part_of s.cause ≡ 0) (record { place = n; cause = Separator }) [] refl (All-nil (λ s. part_of s.cause ≡ 0))
     go false = All-nil (λ s. part_of s.cause ≡ 0)
 
-lines_are : (c : Component) (seen : List ℕ) (n : ℕ) (d : ComponentDraft) (lines : List (List ℕ)) → AreOf 0 (warnings_after c seen n d lines)
-unfolding warnings_after
-lines_are c seen n d [] = All-nil (λ s. part_of s.cause ≡ 0)
-lines_are c seen n d (line ∷ lines) =
-    of_both 0 (map (warned seen n) (line_hints c d line)) (warnings_after c (with_words seen n line) (n + 1) (draft_behind d line) lines)
-    (All-map (λ s. part_of s.cause ≡ 0) (warned seen n) (line_hints c d line) (λ k d h. refl)) (lines_are c (with_words seen n line) (n + 1) (draft_behind d line) lines)
-
 warnings_are : (c : ReadComponent) (lines : List (List ℕ)) → AreOf 0 (warnings_said c lines)
 warnings_are (read.Faulty f) lines = All-nil (λ s. part_of s.cause ≡ 0)
-warnings_are (read.Sound c) lines = lines_are c [] 1 nothing lines
+warnings_are (read.Sound c) lines =
+    All-map (λ s. part_of s.cause ≡ 0) warned (filter (λ w. holds c w.unless_named) (possible_of_lines lines)) (λ k d h. refl)
 
 matrix_are : (c : ReadComponent) (above : ℕ) (text : List ℕ) → AreOf 2 (matrix_said c above text)
 matrix_are (read.Faulty f) above text = go (nat_le (length (signatures_meant f)) 16)

@@ -1,6 +1,6 @@
 -- What the lines of a text are read as, beside the faults that are told of them.
 use Rattle.std.proofs.Common.{◌≡◌, ℕ, ◌+◌, Bool, true, false, List, [], ◌∷◌, ◌++◌, Option, Some, None, Result, Ok, Err, refl, sym, ap, subst, ◌∙◌}
-use Rattle.std.specs.Prelude.{◌==◌, ◌&&◌, IfSome, IsSome, is_none, is_some, length, not}
+use Rattle.std.specs.Prelude.{Vec, ◌==◌, ◌&&◌, IfSome, IsSome, is_none, is_some, length, not}
 use Rattle.std.specs.Option.{unwrap_or}
 use Rattle.std.specs.Result.{result_ok}
 use Rattle.lu_text.specs.declared.fault.Fault.{Fault}
@@ -21,12 +21,12 @@ use Rattle.lu_test.specs.MatrixText.{finished, grammar_by}
 use Rattle.lu_test.specs.Signatures.{Signature}
 use Rattle.lu_test.specs.MatrixText as matrix
 use Rattle.lu_lint.specs.declared.component.ReadComponent.{ReadComponent}
+use Rattle.lu_lint.specs.declared.remark.Remark.{Remark}
 use Rattle.lu_lint.specs.declared.remark.Said.{Said}
-use Rattle.lu_lint.specs.Bundle.{component_read, component_said, warnings_said}
+use Rattle.lu_lint.specs.Bundle.{LintsComponentLines, component_lines_said, component_read, component_said, warnings_said}
 use Rattle.lu_lint.specs.Component.{component_lint, read_as, read_or_left}
 use Rattle.lu_lint.specs.Component.{faulty_of_lines, read_of_lines}
-use Rattle.lu_lint.specs.Said.{said_of_lines, said_of_text}
-use Rattle.lu_lint.proofs.Going.{two_more}
+use Rattle.lu_lint.specs.Said.{SaysAndReads, said_of, said_of_text}
 use Rattle.lu_lang.proofs.Understood.{faulty_meaning}
 use Rattle.lu_text.specs.Lines.{lines_of}
 use Rattle.lu_lint.specs.Lint.{left_by}
@@ -44,11 +44,11 @@ free some true e = rw e refl
 free some false e = rw e refl
 
 -- one line more
-pub reads_on : {Kind Draft Value : Type 0} (g : Grammar Kind Draft Value) (mend : Draft → List ℕ → List (List ℕ) → Draft) (sound none : Bool) (n : ℕ) (d d1 next : Draft) (fault : Option Kind) (line : List ℕ) (behind rest : List (List ℕ)) (all : Result Value (Fault Kind))
-    → is_some fault ≡ not none → (d1, fault) ≡ going_on d (g.line d line) → next ≡ left_by mend d1 line behind fault → Reads g sound n d (line ∷ rest) all → Reads g (sound && none) (n + 1) next rest all
+pub reads_on : {Kind Draft Value : Type 0} (g : Grammar Kind Draft Value) (mend : Draft → List ℕ → List (List ℕ) → Draft) (sound none : Bool) (n : ℕ) (d d1 next : Draft) (fault : Option Kind) (line : List ℕ) (after rest : List (List ℕ)) (all : Result Value (Fault Kind))
+    → is_some fault ≡ not none → (d1, fault) ≡ going_on d (g.line d line) → next ≡ left_by mend d1 line after fault → Reads g sound n d (line ∷ rest) all → Reads g (sound && none) (n + 1) next rest all
 unfolding lines_after
-reads_on g mend false none n d d1 next fault line behind rest all is e left h = h
-reads_on {Kind = Kind} {Draft = Draft} g mend true none n d d1 next fault line behind rest all is e left h = rw (free (is_some fault) none is) (go (g.line d line) e h)
+reads_on g mend false none n d d1 next fault line after rest all is e left h = h
+reads_on {Kind = Kind} {Draft = Draft} g mend true none n d d1 next fault line after rest all is e left h = rw (free (is_some fault) none is) (go (g.line d line) e h)
   where
     go : (r : Result Draft Kind) → (d1, fault) ≡ going_on d r → then_lines (on_line n r) (λ x. lines_after g (n + 1) x rest) ≡ all → Reads g (true && is_none fault) (n + 1) next rest all
     go (Ok y) f k =
@@ -65,9 +65,9 @@ reads_on {Kind = Kind} {Draft = Draft} g mend true none n d d1 next fault line b
 abbrev pub KeepsRules : Bool → FaultyDraft → Type 0
 KeepsRules sound f = sound ≡ true → IsSoundDraft f.draft
 
-pub rules_on : (sound none : Bool) (f f1 next : FaultyDraft) (fault : Option LangFaultKind) (line : List ℕ) (behind whole rest : List (List ℕ)) → whole ≡ line ∷ rest → behind ≡ rest → is_some fault ≡ not none → (f1, fault) ≡ going_on f (faulty_grammar.line f line) → next ≡ left_by mend_faulty f1 line behind fault → KeepsRules sound f → KeepsRules (sound && none) next
-rules_on false none f f1 next fault line behind whole rest cut same is e left h k = absurd cc
-rules_on true none f f1 next fault line behind whole rest cut same is e left h k = go (line_of f.draft (meant_as f line)) refl e (sym (free (is_some fault) none is) ∙ k)
+pub rules_on : (sound none : Bool) (f f1 next : FaultyDraft) (fault : Option LangFaultKind) (line : List ℕ) (after whole rest : List (List ℕ)) → whole ≡ line ∷ rest → after ≡ rest → is_some fault ≡ not none → (f1, fault) ≡ going_on f (faulty_grammar.line f line) → next ≡ left_by mend_faulty f1 line after fault → KeepsRules sound f → KeepsRules (sound && none) next
+rules_on false none f f1 next fault line after whole rest cut same is e left h k = absurd cc
+rules_on true none f f1 next fault line after whole rest cut same is e left h k = go (line_of f.draft (meant_as f line)) refl e (sym (free (is_some fault) none is) ∙ k)
   where
     go : (r : Result ComponentDraft LangFaultKind) → line_of f.draft (meant_as f line) ≡ r → (f1, fault) ≡ going_on f (with_draft f r) → is_none fault ≡ true → IsSoundDraft next.draft
     go (Ok d) read g free =
@@ -93,15 +93,18 @@ component_done true n f left all h same = rw (← h, ← same) (go (component_gr
     go (Err kind) = refl
 
 -- what is said of a component, and what it is read as
-pub of_component : (text : List ℕ) (lines : List (List ℕ)) (c : ReadComponent) (all one two : List Said) → lines ≡ lines_of text → (one ≡ all ++ said_of_lines component_lint 0 lines) × (c ≡ read_of_lines lines) → two ≡ one ++ warnings_said c lines → (two ≡ all ++ component_said text) × (c ≡ component_read text)
-of_component text lines c all one two is e more =
-    let read : c ≡ component_read text = e.1 ∙ (ap read_of_lines is ∙ ap (λ (r : Result Component (Fault LangFaultKind)). read_or_left r (faulty_of_lines (lines_of text))) (faulty_meaning text)) in
-    let told : two ≡ all ++ (said_of_lines component_lint 0 lines ++ warnings_said c lines) = two_more all one two _ _ e.0 more in (
-      told
-          ∙ (ap (λ (x : List (List ℕ)). all ++ (said_of_lines component_lint 0 x ++ warnings_said c x)) is
+component_text : (text : List ℕ) (lines : List (List ℕ)) (c : ReadComponent) (all next : List Said) → lines ≡ lines_of text → (next ≡ all ++ component_lines_said lines) × (c ≡ read_of_lines lines) → (next ≡ all ++ component_said text) × (c ≡ component_read text)
+component_text text lines c all next is e =
+    let read : read_of_lines (lines_of text) ≡ component_read text = ap (λ (r : Result Component (Fault LangFaultKind)). read_or_left r (faulty_of_lines (lines_of text))) (faulty_meaning text) in (
+      e.0
+          ∙ (ap (λ (x : List (List ℕ)). all ++ component_lines_said x) is
           ∙ ap (λ (x : ReadComponent). all ++ (said_of_text component_lint 0 text ++ warnings_said x (lines_of text))) read),
-      read,
+      e.1 ∙ (ap read_of_lines is ∙ read),
     )
+
+pub of_component : {E Y Z : Type 0} (text : List ℕ) (lines : List (List ℕ)) (before : Vec Remark Y) (result : Result (Vec Remark Z × ReadComponent) E) → lines ≡ lines_of text → LintsComponentLines result before lines → SaysAndReads result before (component_said text) (component_read text)
+of_component text lines before (Ok (next, c)) is e = component_text text lines c (said_of before.items) (said_of next.items) is e
+of_component text lines before (Err error) is e = tt
 
 -- ---- a matrix
 

@@ -20,7 +20,7 @@ use Rattle.lu_lint.specs.declared.component.ReadComponent.{ReadComponent}
 use Rattle.lu_lint.specs.declared.component.ReadComponent.TheVariants as read
 use Rattle.lu_lint.specs.Signatures.{signatures_meant}
 use Rattle.lu_lint.specs.Said.{SaysAndReads, SaysFurther, above_next, said_of_lines, said_of_text}
-use Rattle.lu_lint.specs.Warnings.{warnings_of_lines}
+use Rattle.lu_lint.specs.Warnings.{Possible, held, warnings_of_lines}
 use Rattle.lu_lint.specs.Runs.{RunsSaid}
 
 -- ---- the lines between the parts
@@ -72,22 +72,32 @@ abbrev pub LintsMatrix : {E Y Z : Type 0} → Result (Vec Remark Z × Option Mat
 LintsMatrix result before c above text =
     SaysAndReads result before (matrix_said c above text) (matrix_read c text)
 
+-- what is said of those of these warnings that hold, where the component is read
+abbrev pub held_of : ReadComponent → List Possible → List Said
+held_of (read.Faulty f) warnings = []
+held_of (read.Sound c) warnings = held c warnings
+
 -- the warnings of a component that is read, from these lines
 abbrev pub warnings_said : ReadComponent → List (List ℕ) → List Said
 warnings_said (read.Faulty f) lines = []
 warnings_said (read.Sound c) lines = warnings_of_lines c lines
+
+-- what is said of the lines of a component
+abbrev pub component_lines_said : List (List ℕ) → List Said
+component_lines_said lines =
+    said_of_lines component_lint 0 lines ++ warnings_said (read_of_lines lines) lines
 
 -- what is said of a component
 abbrev pub component_said : List ℕ → List Said
 component_said text =
     said_of_text component_lint 0 text ++ warnings_said (component_read text) (lines_of text)
 
--- where it succeeds, the lines of a component are linted: that is said of their faults, and they are
--- read as that
+-- where it succeeds, the lines of a component are linted: that is said of them, and they are read as
+-- that
 abbrev pub LintsComponentLines : {E Y Z : Type 0} → Result (Vec Remark Z × ReadComponent) E
     → Vec Remark Y → List (List ℕ) → Type 0
 LintsComponentLines result before lines =
-    SaysAndReads result before (said_of_lines component_lint 0 lines) (read_of_lines lines)
+    SaysAndReads result before (component_lines_said lines) (read_of_lines lines)
 
 -- what is said on a matrix, before which so many lines stand: of it, of the parts after it, and
 -- by runs

@@ -3,7 +3,6 @@ use Rattle.std.specs.Prelude.{ℕ, Bool, List, [], map, Option, Some, None, Resu
 use Rattle.lu_component.specs.Component.{Component}
 use Rattle.lu_lang.specs.declared.fault.LangFaultKind.{LangFaultKind}
 use Rattle.lu_lang.specs.declared.fault.LangFaultKind.TheVariants.{Name}
-use Rattle.lu_lang.specs.Draft.{ComponentDraft}
 use Rattle.lu_lang.specs.Faulty.{FaultyDraft}
 use Rattle.lu_lang.specs.Grammar.{component_grammar}
 use Rattle.lu_text.specs.Faults.{fault_in, meaning_of_lines}
@@ -68,12 +67,6 @@ faulty_of_lines lines = draft_after component_lint component_lint.grammar.nothin
 abbrev pub read_of_lines : List (List ℕ) → ReadComponent
 read_of_lines lines =
     read_or_left (meaning_of_lines component_lint.grammar lines) (faulty_of_lines lines)
-
--- what is declared at the end of the text; or the draft, where its end has a fault
-abbrev pub declared_or_left : ComponentDraft → Result Component LangFaultKind
-    → Result Component ComponentDraft
-declared_or_left d (Ok c) = Ok c
-declared_or_left d (Err kind) = Err d
 
 -- where the lines left this, and have no fault or some
 abbrev pub read_as : FaultyDraft → Bool → ReadComponent

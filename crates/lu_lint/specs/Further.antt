@@ -1,12 +1,23 @@
 -- The parts of a bundle after its matrix.
-use Rattle.std.specs.Prelude.{◌≡◌, ℕ, List, [], ◌∷◌, ◌++◌, Option}
+use Rattle.std.specs.Prelude.{◌≡◌, ℕ, List, [], ◌∷◌, ◌++◌, Option, Result, IfOk, Vec}
 use Rattle.lu_test.specs.Matrix.{Matrix}
+use Rattle.lu_lint.specs.declared.remark.Remark.{Remark}
 use Rattle.lu_lint.specs.declared.remark.Said.{Said}
 use Rattle.lu_lint.specs.declared.remark.Cause.TheVariants.{FifthPart}
 use Rattle.lu_lint.specs.declared.third.Third.{Third}
 use Rattle.lu_lint.specs.declared.third.Third.TheVariants.{Specification, Report, History, Schedule}
-use Rattle.lu_lint.specs.Said.{SaysFurther, above_next}
+use Rattle.lu_lint.specs.Said.{SaysFurther, above_next, said_of}
 use Rattle.lu_lint.specs.Third.{SaidOfSome, ThirdSaid, histories_of, third_of}
+
+-- where it succeeds, that is said of a part that is to be this, and so many lines stand before the
+-- part after it
+abbrev pub SaysOfPart : {E Y Z : Type 0} → Result (Vec Remark Z × ℕ) E → Vec Remark Y → Third
+    → Option Matrix → ℕ → List ℕ → Type 0
+SaysOfPart result before third matrix above text =
+    IfOk result
+    (λ (next, after).
+    SaysFurther (ThirdSaid third matrix above text) (said_of before.items) (said_of next.items)
+    × (after ≡ above_next above text))
 
 -- where parts stand after the fourth, that is said of the line before them
 abbrev pub fifth_said : ℕ → List (List ℕ) → List Said

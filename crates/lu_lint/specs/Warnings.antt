@@ -1,6 +1,6 @@
 -- Warnings of a component that is read: what can be left out or goes on for ever.
-use Rattle.std.specs.Prelude.{find, ℕ, zero, suc, ◌+◌, ◌-◌, Bool, true, false, List, [], ◌∷◌, ◌++◌, length, map, filter, take, drop, Option, Some, None, slice_get, codes, ◌==◌, ◌&&◌, ◌||◌, not, nat_le, if◌then◌else◌}
-use Rattle.std.specs.List.{enumerate_from, list_all, list_any}
+use Rattle.std.specs.Prelude.{◌≡◌, find, ℕ, zero, suc, ◌+◌, ◌-◌, Bool, true, false, List, [], ◌∷◌, ◌++◌, length, map, filter, take, drop, Option, Some, None, Result, IfOk, Vec, slice_get, codes, ◌==◌, ◌&&◌, ◌||◌, not, nat_le, if◌then◌else◌}
+use Rattle.std.specs.List.{enumerate_from, filter_map, list_all, list_any}
 use Rattle.std.specs.Option.{option_map, unwrap_or}
 use Rattle.std.specs.Str.{bytes_eq}
 use Rattle.lu_text.specs.Lines.{words_of}
@@ -15,11 +15,16 @@ use Rattle.lu_lang.specs.declared.draft.Statement.TheVariants.{Plain, Jump, Jump
 use Rattle.lu_lang.specs.Draft.{OpenOp, ComponentDraft, nothing}
 use Rattle.lu_text.specs.Faults.{going_on}
 use Rattle.lu_lang.specs.Grammar.{component_grammar, label_used}
+use Rattle.lu_lint.specs.declared.remark.Position.{Position}
+use Rattle.lu_lint.specs.declared.remark.Remark.{Remark}
 use Rattle.lu_lint.specs.declared.remark.Said.{Said}
 use Rattle.lu_lint.specs.declared.remark.Cause.TheVariants.{Warning}
 use Rattle.lu_lint.specs.declared.remark.Hint.{Hint}
 use Rattle.lu_lint.specs.declared.remark.Hint.TheVariants.{UnnamedArray, UnnamedLock, UnusedLabel, NoReturn, Spin}
+use Rattle.lu_lint.specs.declared.warning.Declared.{Declared}
+use Rattle.lu_lint.specs.declared.warning.Declared.TheVariants as declared
 use Rattle.lu_lint.specs.declared.warning.FoundHint.{FoundHint}
+use Rattle.lu_lint.specs.declared.warning.PossibleWarning.{PossibleWarning}
 use Rattle.lu_lint.specs.Lint.{line_before, with_words}
 
 -- ---- an array or a lock that no instruction names
@@ -44,11 +49,21 @@ is_array_named c k = list_any (λ op. list_any (names_array k) op.code) c.operat
 abbrev pub is_lock_named : Component → ℕ → Bool
 is_lock_named c k = list_any (λ op. list_any (names_lock k) op.code) c.operations
 
+-- an instruction of the component names this
+abbrev pub is_named : Component → Declared → Bool
+is_named c (declared.Array k) = is_array_named c k
+is_named c (declared.Lock k) = is_lock_named c k
+
+-- what does not hold where an instruction names this holds of the component
+abbrev pub holds : Component → Option Declared → Bool
+holds c None = true
+holds c (Some named) = not (is_named c named)
+
 -- ---- an operation, at its `end`
 
--- a hint, which stands so many lines with words before the line
+-- a hint that holds of each component, which stands so many lines with words before the line
 abbrev pub found : ℕ → Hint → FoundHint
-found back hint = record { back = back; hint = hint }
+found back hint = record { back = back; hint = hint; unless_named = None }
 
 -- the place of a label
 abbrev pub place_named : List Label → Word → Option ℕ
@@ -63,8 +78,8 @@ holds_where row None = false
 holds_where row (Some place) = holds_at row place
 
 -- at the place after this one
-abbrev pub holds_behind : List Bool → ℕ → Bool
-holds_behind row place = holds_at (drop 1 row) place
+abbrev pub holds_after : List Bool → ℕ → Bool
+holds_after row place = holds_at (drop 1 row) place
 
 abbrev pub plain_returns : Instr → Bool → Bool
 plain_returns (Return v) next = true
@@ -72,10 +87,10 @@ plain_returns _ next = next
 
 -- a return is reached from the statement at this place, where this row says from which others
 abbrev pub returns_by : OpenOp → List Bool → ℕ → Statement → Bool
-returns_by b row place (Plain instr) = plain_returns instr (holds_behind row place)
+returns_by b row place (Plain instr) = plain_returns instr (holds_after row place)
 returns_by b row place (Jump label) = holds_where row (place_named b.labels label)
 returns_by b row place (JumpIfZero v label) =
-    holds_where row (place_named b.labels label) || holds_behind row place
+    holds_where row (place_named b.labels label) || holds_after row place
 
 abbrev pub next_returns : OpenOp → List Bool → List Bool
 next_returns b row = map (λ s. returns_by b row s.0 s.1) (enumerate_from 0 b.statements)
@@ -171,41 +186,93 @@ end_hints b = return_hints b ++ (label_hints b ++ spin_hints b)
 
 -- ---- lines
 
-abbrev pub unless : Bool → Hint → List FoundHint
-unless named hint = if named then [] else found 0 hint ∷ []
+-- a hint at the declaration of this
+abbrev pub declared_hint : Hint → Declared → FoundHint
+declared_hint hint named = record { back = 0; hint = hint; unless_named = Some named }
 
 -- by the first word of a line, where an operation is open or none
-abbrev pub state_hints : Component → ComponentDraft → Option OpenOp → Word → List FoundHint
-state_hints c d None word =
-    if bytes_eq word (codes "word") then unless (is_array_named c (length d.arrays)) UnnamedArray
+abbrev pub state_hints : ComponentDraft → Option OpenOp → Word → List FoundHint
+state_hints d None word =
+    if bytes_eq word (codes "word") then declared_hint UnnamedArray (declared.Array (length d.arrays)) ∷ []
     else (if bytes_eq word (codes "lock")
-    then unless (is_lock_named c (length d.locks)) UnnamedLock
+    then declared_hint UnnamedLock (declared.Lock (length d.locks)) ∷ []
     else [])
-state_hints c d (Some b) word = if bytes_eq word (codes "end") then end_hints b else []
+state_hints d (Some b) word = if bytes_eq word (codes "end") then end_hints b else []
 
-abbrev pub words_hints : Component → ComponentDraft → List Word → List FoundHint
-words_hints c d [] = []
-words_hints c d (word ∷ words) = state_hints c d d.begun word
+abbrev pub words_hints : ComponentDraft → List Word → List FoundHint
+words_hints d [] = []
+words_hints d (word ∷ words) = state_hints d d.begun word
 
 -- the hints at a line after this draft
-abbrev pub line_hints : Component → ComponentDraft → List ℕ → List FoundHint
-line_hints c d line = words_hints c d (words_of line)
+abbrev pub line_hints : ComponentDraft → List ℕ → List FoundHint
+line_hints d line = words_hints d (words_of line)
 
--- what is said of a hint at line n
-abbrev pub warned : List ℕ → ℕ → FoundHint → Said
-warned seen n f = record { place = line_before seen n f.back; cause = Warning f.hint }
+-- A warning on a line, which holds of a component where no instruction of it names that.
+pub record Possible : Type 0 where
+  pub place : ℕ
+  pub hint : Hint
+  pub unless_named : Option Declared
+
+-- of a hint at line n
+abbrev pub possible : List ℕ → ℕ → FoundHint → Possible
+possible seen n f =
+    record { place = line_before seen n f.back; hint = f.hint; unless_named = f.unless_named }
 
 -- the draft after a line, which has no fault
-abbrev pub draft_behind : ComponentDraft → List ℕ → ComponentDraft
-draft_behind d line = (going_on d (component_grammar.line d line)).0
+abbrev pub next_draft : ComponentDraft → List ℕ → ComponentDraft
+next_draft d line = (going_on d (component_grammar.line d line)).0
 
--- the warnings of these lines, of which the first is line n
-unfoldable pub warnings_after : Component → List ℕ → ℕ → ComponentDraft → List (List ℕ) → List Said
-warnings_after c seen n d [] = []
-warnings_after c seen n d (line ∷ lines) =
-    map (warned seen n) (line_hints c d line)
-    ++ warnings_after c (with_words seen n line) (n + 1) (draft_behind d line) lines
+-- those of these lines, of which the first is line n
+unfoldable pub possible_after : List ℕ → ℕ → ComponentDraft → List (List ℕ) → List Possible
+possible_after seen n d [] = []
+possible_after seen n d (line ∷ lines) =
+    map (possible seen n) (line_hints d line)
+    ++ possible_after (with_words seen n line) (n + 1) (next_draft d line) lines
+
+-- those of the lines of a component
+abbrev pub possible_of_lines : List (List ℕ) → List Possible
+possible_of_lines lines = possible_after [] 1 nothing lines
+
+-- what is said of one
+abbrev pub warned : Possible → Said
+warned w = record { place = w.place; cause = Warning w.hint }
+
+-- what is said of those that hold of this component
+abbrev pub held : Component → List Possible → List Said
+held c warnings = map warned (filter (λ w. holds c w.unless_named) warnings)
 
 -- the warnings of the lines of this component
 abbrev pub warnings_of_lines : Component → List (List ℕ) → List Said
-warnings_of_lines c lines = warnings_after c [] 1 nothing lines
+warnings_of_lines c lines = held c (possible_of_lines lines)
+
+-- ---- with their words
+
+-- a warning without its words
+abbrev pub without_words : PossibleWarning → Possible
+without_words w = record { place = w.place; hint = w.hint; unless_named = w.unless_named }
+
+-- where it succeeds, these are found too, after those before
+abbrev pub FindsAlso : {E Y Z : Type 0} → Result (Vec PossibleWarning Z) E → Vec PossibleWarning Y
+    → List Possible
+    → Type 0
+FindsAlso result before found =
+    IfOk result (λ next. map without_words next.items ≡ map without_words before.items ++ found)
+
+-- of a hint at a line that stands here
+abbrev pub found_at : Position → FoundHint → Possible
+found_at at f = possible at.seen.items at.line f
+
+-- those of a line after this draft, where no line before it has a fault
+abbrev pub found_if : Bool → Position → ComponentDraft → List ℕ → List Possible
+found_if sound at d line = if sound then map (found_at at) (line_hints d line) else []
+
+-- the remark of one that holds of this component
+abbrev pub remark_if : Component → PossibleWarning → Option Remark
+remark_if c w =
+    if holds c w.unless_named
+    then Some (record { said = warned (without_words w); words = w.words })
+    else None
+
+-- the remarks of those that hold of this component
+abbrev pub remarks_held : Component → List PossibleWarning → List Remark
+remarks_held c warnings = filter_map (remark_if c) warnings

@@ -1,20 +1,20 @@
 //! The faults of a component's text.
 
-ghost use Rattle.std.specs.Prelude.{◌≡◌, true, IfOk, Some};
-ghost use Rattle.lu_lang.specs.Grammar.{component_grammar};
+ghost use Rattle.std.specs.Prelude.{◌≡◌, true, IfOk, Some, map};
 ghost use Rattle.lu_lang.specs.Sound.{IsSoundDraft};
-ghost use Rattle.lu_lint.specs.Bundle.{LintsComponentLines, component_read, component_said, warnings_said};
+ghost use Rattle.lu_lint.specs.Bundle.{LintsComponentLines, component_read, component_said, held_of};
 ghost use Rattle.lu_lint.specs.Component as spec;
 ghost use Rattle.lu_text.specs.Results.{HasItems};
 ghost use Rattle.lu_lint.specs.Lint.{told_there};
 ghost use Rattle.lu_lint.specs.Said.{SaysAlso, SaysAndReads, said_told};
+ghost use Rattle.lu_lint.specs.Warnings.{without_words};
 ghost use Rattle.lu_lint.specs.declared.remark.FaultKind.TheVariants as part;
 ghost use Rattle.lu_text.specs.Lines.{texts};
 
 use crate::remark::{
     Cause, FaultKind, Position, Remark, Said, line_before, line_below, with_remark, with_words,
 };
-use crate::warning::with_warnings;
+use crate::warning::{PossibleWarning, remarks_held, with_warnings};
 use crate::words::Wording;
 use lu_component::Component;
 use lu_lang::{
@@ -186,39 +186,6 @@ pub(crate) enum ReadComponent {
     Faulty(FaultyDraft),
 }
 
-/// What is declared at the end of the text; or the draft, where its end has a fault.
-#[tactic(auto, using(lu_lang::proofs::Drafts::draft_component))]
-fn component_of(draft: ComponentDraft) -> Result<Component, ComponentDraft>
-    requires { IsSoundDraft draft }
-    ensures { result ≡ spec.declared_or_left draft (component_grammar.finish draft) }
-{
-    let ComponentDraft {
-        name,
-        local,
-        arrays,
-        locks,
-        operations,
-        begun,
-    } = draft;
-    match (name, begun) {
-        (Some(name), None) => Ok(Component::new(
-            name,
-            local.unwrap_or(0),
-            arrays,
-            locks,
-            operations,
-        )),
-        (name, begun) => Err(ComponentDraft {
-            name,
-            local,
-            arrays,
-            locks,
-            operations,
-            begun,
-        }),
-    }
-}
-
 /// What the text is read as, of which the lines leave this draft, and have no fault or some.
 fn read_as(draft: FaultyDraft, sound: bool) -> ReadComponent
     requires { sound ≡ true → IsSoundDraft draft.draft }
@@ -228,13 +195,33 @@ fn read_as(draft: FaultyDraft, sound: bool) -> ReadComponent
         return ReadComponent::Faulty(draft);
     }
     let FaultyDraft { draft, meant } = draft;
-    match component_of(draft) {
+    match draft.finish() {
         Ok(component) => ReadComponent::Sound(component),
-        Err(draft) => ReadComponent::Faulty(FaultyDraft { draft, meant }),
+        Err((_, draft)) => ReadComponent::Faulty(FaultyDraft { draft, meant }),
     }
 }
 
-/// The remarks with those on these lines of a component, and what the lines are read as.
+/// The remarks with those of these warnings that hold of the component, where it is read.
+fn with_held(
+    alloc: Global,
+    mut all: Vec<Remark>,
+    component: &ReadComponent,
+    warnings: Vec<PossibleWarning>,
+) -> Result<Vec<Remark>, AllocError>
+    ensures { SaysAlso result all (held_of component.now (map without_words warnings.items)) }
+{
+    match component {
+        ReadComponent::Faulty(_) => Ok(all),
+        ReadComponent::Sound(component) => {
+            let mut held = remarks_held(alloc, component, warnings)?;
+            all.append(&mut held)?;
+            Ok(all)
+        }
+    }
+}
+
+/// The remarks with those on these lines of a component, each of which is read once, and what the
+/// lines are read as.
 fn read_lines<W: Wording>(
     alloc: Global,
     wording: &W,
@@ -245,6 +232,7 @@ fn read_lines<W: Wording>(
 {
     let mut draft = FaultyDraft::new(alloc);
     let mut sound = true;
+    let mut warnings = Vec::new(alloc);
     let mut seen = Vec::new(alloc);
     for (before, text) in lines.iter().enumerate() {
         let at = Position {
@@ -252,11 +240,12 @@ fn read_lines<W: Wording>(
             line: before + 1,
             seen,
         };
+        warnings = with_warnings(alloc, wording, warnings, &at, &draft.draft, sound, text)?;
         let (next, fault) = read_or_fault(alloc, draft, text)?;
         sound &= fault.is_none();
-        let (_, behind) = lines.split_at(before + 1);
+        let (_, after) = lines.split_at(before + 1);
         all = with_line(alloc, wording, all, &at, &next, fault, text)?;
-        let backs = backs_beside(alloc, &next, fault, text, behind)?;
+        let backs = backs_beside(alloc, &next, fault, text, after)?;
         all = with_jumps(
             alloc,
             wording,
@@ -266,7 +255,7 @@ fn read_lines<W: Wording>(
             LangFaultKind::Name,
             &backs,
         )?;
-        draft = left_by(alloc, next, fault, text, behind)?;
+        draft = left_by(alloc, next, fault, text, after)?;
         seen = with_words(alloc, at.seen, before + 1, text)?;
     }
     let at = Position {
@@ -275,23 +264,9 @@ fn read_lines<W: Wording>(
         seen,
     };
     let all = with_end(alloc, wording, all, &at, &draft)?;
-    Ok((all, read_as(draft, sound)))
-}
-
-/// The remarks with the warnings of these lines of a component, where it is read.
-fn with_warnings_of<W: Wording>(
-    alloc: Global,
-    wording: &W,
-    all: Vec<Remark>,
-    component: &ReadComponent,
-    lines: &[&[u8]],
-) -> Result<Vec<Remark>, AllocError>
-    ensures { SaysAlso result all (warnings_said component.now (texts lines.now)) }
-{
-    match component {
-        ReadComponent::Faulty(_) => Ok(all),
-        ReadComponent::Sound(component) => with_warnings(alloc, wording, component, all, lines),
-    }
+    let component = read_as(draft, sound);
+    let all = with_held(alloc, all, &component, warnings)?;
+    Ok((all, component))
 }
 
 /// The remarks with those on the text of a component, which begins the bundle, and what the text is
@@ -310,7 +285,5 @@ pub(crate) fn with_component<W: Wording>(
     ensures { SaysAndReads result all (component_said text.now) (component_read text.now) }
 {
     let lines = lines_of(alloc, text)?;
-    let (all, component) = read_lines(alloc, wording, all, &lines)?;
-    let all = with_warnings_of(alloc, wording, all, &component, &lines)?;
-    Ok((all, component))
+    read_lines(alloc, wording, all, &lines)
 }

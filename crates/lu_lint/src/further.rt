@@ -1,15 +1,14 @@
 //! The parts of a bundle after its matrix.
 
-ghost use Rattle.std.specs.Prelude.{◌≡◌, ◌∷◌};
 ghost use Rattle.lu_text.specs.Lines.{texts};
 ghost use Rattle.lu_lint.specs.Further as spec;
-ghost use Rattle.lu_lint.specs.Further.{AfterMatrix, AfterThird, FourthSaid};
+ghost use Rattle.lu_lint.specs.Further.{AfterMatrix, AfterThird, FourthSaid, SaysOfPart};
 ghost use Rattle.lu_lint.specs.Said.{SaysAlso, SaysSuch};
 
 use crate::bundle::above_next;
 use crate::histories::with_histories;
 use crate::remark::{Cause, Remark, Said, with_remark};
-use crate::third::{Third, third_of, with_specification_of, with_third};
+use crate::third::{Third, third_of, with_third};
 use crate::words::Wording;
 use lu_test::Matrix;
 use std::alloc::{AllocError, Global};
@@ -37,26 +36,26 @@ fn with_fifth<W: Wording>(
     }
 }
 
-/// The remarks with those on a fourth part, and on the line after it where parts stand there.
-fn with_fourth_part<W: Wording>(
+/// The remarks with those on a part that is to be this, and how many lines of the bundle stand before
+/// the part after it.
+fn with_part<W: Wording>(
     alloc: Global,
     wording: &W,
     all: Vec<Remark>,
+    third: Third,
     matrix: &Option<Matrix>,
     above: usize,
     text: &[u8],
-    parts: &[&[u8]],
-) -> Result<Vec<Remark>, AllocError>
-    ensures { SaysSuch result all (FourthSaid matrix.now above (text.now ∷ texts parts.now)) }
+) -> Result<(Vec<Remark>, usize), AllocError>
+    ensures { SaysOfPart result all third matrix.now above text.now }
 {
-    let all = with_specification_of(alloc, wording, all, matrix, above, text)?;
-    let above = above_next(alloc, above, text)?;
-    // For the proof: what this returns is looked at before it is returned.
-    let all = with_fifth(alloc, wording, all, above, parts)?;
-    Ok(all)
+    let all = with_third(alloc, wording, all, third, matrix, above, text)?;
+    let after = above_next(alloc, above, text)?;
+    Ok((all, after))
 }
 
-/// The remarks with those on the parts after a schedule or a report.
+/// The remarks with those on the parts after a schedule or a report: a specification, and on the line
+/// after it where parts stand there.
 fn with_fourth<W: Wording>(
     alloc: Global,
     wording: &W,
@@ -67,10 +66,14 @@ fn with_fourth<W: Wording>(
 ) -> Result<Vec<Remark>, AllocError>
     ensures { SaysSuch result all (FourthSaid matrix.now above (texts parts.now)) }
 {
-    match parts.split_first() {
-        None => Ok(all),
-        Some((text, others)) => with_fourth_part(alloc, wording, all, matrix, above, text, others),
-    }
+    let Some((text, others)) = parts.split_first() else {
+        return Ok(all);
+    };
+    let third = Third::Specification;
+    let (all, after) = with_part(alloc, wording, all, third, matrix, above, text)?;
+    // For the proof: what this returns is looked at before it is returned.
+    let all = with_fifth(alloc, wording, all, after, others)?;
+    Ok(all)
 }
 
 /// The remarks with those on the parts after a third part that is this.
@@ -95,26 +98,6 @@ fn with_after<W: Wording>(
     }
 }
 
-/// The remarks with those on a third part and on the parts after it.
-fn with_third_part<W: Wording>(
-    alloc: Global,
-    wording: &W,
-    all: Vec<Remark>,
-    matrix: &Option<Matrix>,
-    above: usize,
-    text: &[u8],
-    parts: &[&[u8]],
-) -> Result<Vec<Remark>, AllocError>
-    ensures { SaysSuch result all (AfterMatrix matrix.now above (text.now ∷ texts parts.now)) }
-{
-    let third = third_of(alloc, text)?;
-    let all = with_third(alloc, wording, all, third, matrix, above, text)?;
-    let above = above_next(alloc, above, text)?;
-    // For the proof: what this returns is looked at before it is returned.
-    let all = with_after(alloc, wording, all, third, matrix, above, parts)?;
-    Ok(all)
-}
-
 /// The remarks with those on the parts after a matrix that is read or not.
 pub(crate) fn with_further<W: Wording>(
     alloc: Global,
@@ -126,8 +109,12 @@ pub(crate) fn with_further<W: Wording>(
 ) -> Result<Vec<Remark>, AllocError>
     ensures { SaysSuch result all (AfterMatrix matrix.now above (texts parts.now)) }
 {
-    match parts.split_first() {
-        None => Ok(all),
-        Some((text, others)) => with_third_part(alloc, wording, all, matrix, above, text, others),
-    }
+    let Some((text, others)) = parts.split_first() else {
+        return Ok(all);
+    };
+    let third = third_of(alloc, text)?;
+    let (all, after) = with_part(alloc, wording, all, third, matrix, above, text)?;
+    // For the proof: what this returns is looked at before it is returned.
+    let all = with_after(alloc, wording, all, third, matrix, after, others)?;
+    Ok(all)
 }

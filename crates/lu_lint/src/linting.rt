@@ -49,8 +49,8 @@ fn with_second<W: Wording>(
     ensures { SaysSuch result all (OnMatrix serial component.now above text.now (texts parts.now)) }
 {
     let (all, matrix) = with_matrix(alloc, wording, all, component, above, text)?;
-    let behind = above_next(alloc, above, text)?;
-    let all = with_further(alloc, wording, all, &matrix, behind, parts)?;
+    let after = above_next(alloc, above, text)?;
+    let all = with_further(alloc, wording, all, &matrix, after, parts)?;
     // For the proof: what this returns is looked at before it is returned.
     let all = with_runs(alloc, wording, all, component, &matrix, serial, above, text)?;
     Ok(all)

@@ -4,17 +4,19 @@ ghost use Rattle.std.specs.Prelude.{◌≡◌, take};
 ghost use Rattle.lu_text.specs.Results.{HasItems};
 ghost use Rattle.lu_lint.specs.Items.{Extends};
 ghost use Rattle.lu_lint.specs.Signatures as spec;
+ghost use Rattle.lu_lint.specs.Signatures.{signature_once};
 
 use lu_component::{MOST_OPS, Op, operation_number};
-use lu_lang::{FaultyDraft, OpenOp};
+use lu_lang::FaultyDraft;
 use lu_test::Signature;
 use lu_text::Name;
 use std::alloc::{AllocError, Global};
 
-fn is_open_operation(begun: &Option<OpenOp>, name: &[u8]) -> bool
-    ensures { result ≡ spec.is_open_operation begun.now name.now }
+/// Whether the operation that is open has this name.
+fn is_open(faulty: &FaultyDraft, name: &[u8]) -> bool
+    ensures { result ≡ spec.is_open faulty.now name.now }
 {
-    match begun {
+    match &faulty.draft.begun {
         None => false,
         Some(op) => op.name.is(name),
     }
@@ -23,7 +25,7 @@ fn is_open_operation(begun: &Option<OpenOp>, name: &[u8]) -> bool
 /// The signature of an operation. How many arguments it takes is not known where a line that begins
 /// it has a fault.
 fn signature_in<'a>(faulty: &FaultyDraft, name: &'a Name, args: u8) -> Signature<'a>
-    ensures { result ≡ spec.signature_in faulty.now.meant name.entry.now args }
+    ensures { result ≡ spec.signature_in faulty.now name.entry.now args }
 {
     let arity = if faulty.is_unsure(name.as_bytes()) {
         None
@@ -36,13 +38,11 @@ fn signature_in<'a>(faulty: &FaultyDraft, name: &'a Name, args: u8) -> Signature
 /// The signatures with that of the open operation.
 fn with_open<'a>(
     mut signatures: Vec<Signature<'a>>,
-    faulty: &FaultyDraft,
-    begun: &'a Option<OpenOp>,
+    faulty: &'a FaultyDraft,
 ) -> Result<Vec<Signature<'a>>, AllocError>
-    ensures { Extends result signatures.entry
-        (spec.open_signature faulty.now.meant begun.entry.now) }
+    ensures { Extends result signatures.entry (spec.open_signature faulty.entry.now) }
 {
-    match begun {
+    match &faulty.draft.begun {
         None => Ok(signatures),
         Some(op) => {
             signatures.push(signature_in(faulty, &op.name, op.args))?;
@@ -55,15 +55,13 @@ fn with_open<'a>(
 fn with_once<'a>(
     mut signatures: Vec<Signature<'a>>,
     faulty: &FaultyDraft,
-    begun: &Option<OpenOp>,
     op: &'a Op,
-    behind: &[Op],
+    after: &[Op],
 ) -> Result<Vec<Signature<'a>>, AllocError>
-    ensures { Extends result signatures.entry
-        (spec.signature_once faulty.now.meant begun.now op.entry.now behind.now) }
+    ensures { Extends result signatures.entry (signature_once faulty.now op.entry.now after.now) }
 {
     let name = op.name.as_bytes();
-    if operation_number(behind, name).is_some() || is_open_operation(begun, name) {
+    if operation_number(after, name).is_some() || is_open(faulty, name) {
         return Ok(signatures);
     }
     signatures.push(signature_in(faulty, &op.name, op.args))?;
@@ -73,20 +71,18 @@ fn with_once<'a>(
 /// Those of these operations and of the open one: of each name the last.
 fn signatures_from<'a>(
     alloc: Global,
-    faulty: &FaultyDraft,
-    begun: &'a Option<OpenOp>,
+    faulty: &'a FaultyDraft,
     ops: &'a [Op],
 ) -> Result<Vec<Signature<'a>>, AllocError>
-    ensures { HasItems result
-        (spec.signatures_from faulty.now.meant begun.entry.now ops.entry.now) }
+    ensures { HasItems result (spec.signatures_from faulty.entry.now ops.entry.now) }
 {
     let mut signatures = Vec::new(alloc);
     for (before, op) in ops.iter().enumerate() {
-        let (_, behind) = ops.split_at(before + 1);
-        signatures = with_once(signatures, faulty, begun, op, behind)?;
+        let (_, after) = ops.split_at(before + 1);
+        signatures = with_once(signatures, faulty, op, after)?;
     }
     // For the proof: what this returns is looked at before it is returned.
-    let signatures = with_open(signatures, faulty, begun)?;
+    let signatures = with_open(signatures, faulty)?;
     Ok(signatures)
 }
 
@@ -115,5 +111,5 @@ pub(crate) fn signatures_meant<'a>(
     ensures { HasItems result (spec.signatures_meant faulty.entry.now) }
 {
     let ops = first_of(&faulty.draft.operations);
-    signatures_from(alloc, faulty, &faulty.draft.begun, ops)
+    signatures_from(alloc, faulty, ops)
 }

@@ -192,7 +192,7 @@ fn with_specification<W: Wording>(
 }
 
 /// The remarks with those on a specification, where there is a matrix.
-pub(crate) fn with_specification_of<W: Wording>(
+fn with_specification_of<W: Wording>(
     alloc: Global,
     wording: &W,
     all: Vec<Remark>,

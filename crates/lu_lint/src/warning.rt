@@ -1,27 +1,52 @@
-//! Warnings of a component that is read.
+//! Warnings of a component: they are found line by line as it is read, and hold where it has no
+//! fault.
 
-ghost use Rattle.std.specs.Prelude.{◌≡◌, false, IfOk, Some, None, length, map, take, drop};
+ghost use Rattle.std.specs.Prelude.{◌≡◌, ◌∷◌, [], false, Some, None, length, map, take, drop};
 ghost use Rattle.std.specs.List.{list_all, list_any};
 ghost use Rattle.lu_lang.specs.declared.draft.Statement.TheVariants.{Plain};
 ghost use Rattle.lu_lang.specs.Grammar.{label_used};
 ghost use Rattle.lu_text.specs.Results.{HasItems};
-ghost use Rattle.lu_lint.specs.Said.{SaysAlso};
 ghost use Rattle.lu_lint.specs.Warnings as spec;
-ghost use Rattle.lu_lint.specs.Warnings.{warnings_of_lines};
+ghost use Rattle.lu_lint.specs.Warnings.{FindsAlso};
 ghost use Rattle.lu_text.specs.Lines.{texts};
 
-use crate::remark::{Cause, Hint, Position, Remark, Said, line_before, with_remark, with_words};
+use crate::remark::{Cause, Hint, Position, Remark, Said, line_before};
 use crate::words::Wording;
 use lu_component::{Arithmetic, Component, Instr};
 use lu_lang::{ComponentDraft, Label, OpenOp, Statement};
 use lu_text::words_of;
 use std::alloc::{AllocError, Global};
 
+/// What an instruction may name.
+#[derive(Clone, Copy, Drop)]
+pub(crate) enum Declared {
+    /// The array of this number, from 0.
+    Array(usize),
+
+    /// The lock of this number, from 0.
+    Lock(usize),
+}
+
 /// A hint, which stands so many lines with words before a line.
 #[derive(Clone, Copy, Drop)]
 pub(crate) struct FoundHint {
     pub back: usize,
     pub hint: Hint,
+
+    /// It does not hold where an instruction names this.
+    pub unless_named: Option<Declared>,
+}
+
+/// A warning that a component may have, of which not all lines are read.
+#[derive(Drop)]
+pub(crate) struct PossibleWarning {
+    /// The line that it stands on.
+    place: usize,
+    hint: Hint,
+
+    /// It does not hold where an instruction of the component names this.
+    unless_named: Option<Declared>,
+    words: String,
 }
 
 fn names_array(array: usize, instr: &Instr) -> bool
@@ -110,7 +135,7 @@ fn holds_named(row: &[bool], op: &OpenOp, name: &[u8]) -> bool
 }
 
 /// What a row says from its second place on.
-fn behind(row: &[bool]) -> &[bool]
+fn after_first(row: &[bool]) -> &[bool]
     ensures { result.now ≡ drop 1 row.now }
 {
     match row {
@@ -120,10 +145,10 @@ fn behind(row: &[bool]) -> &[bool]
 }
 
 /// Whether it is so at the place after this one.
-fn holds_behind(row: &[bool], place: usize) -> bool
-    ensures { result ≡ spec.holds_behind row.now place }
+fn holds_after(row: &[bool], place: usize) -> bool
+    ensures { result ≡ spec.holds_after row.now place }
 {
-    holds_at(behind(row), place)
+    holds_at(after_first(row), place)
 }
 
 fn plain_returns(instr: Instr, next: bool) -> bool
@@ -141,10 +166,10 @@ fn returns_by(op: &OpenOp, row: &[bool], place: usize, statement: &Statement) ->
     ensures { result ≡ spec.returns_by op.now row.now place statement.now }
 {
     match statement {
-        Statement::Plain(instr) => plain_returns(*instr, holds_behind(row, place)),
+        Statement::Plain(instr) => plain_returns(*instr, holds_after(row, place)),
         Statement::Jump(label) => holds_named(row, op, label.as_bytes()),
         Statement::JumpIfZero(_, label) => {
-            holds_named(row, op, label.as_bytes()) || holds_behind(row, place)
+            holds_named(row, op, label.as_bytes()) || holds_after(row, place)
         }
     }
 }
@@ -186,6 +211,7 @@ fn return_hints(alloc: Global, op: &OpenOp) -> Result<Vec<FoundHint>, AllocError
         hints.push(FoundHint {
             back: op.statements.len() + 1,
             hint: Hint::NoReturn,
+            unless_named: None,
         })?;
     }
     Ok(hints)
@@ -227,6 +253,7 @@ fn label_hints(alloc: Global, op: &OpenOp) -> Result<Vec<FoundHint>, AllocError>
         .map(|label| FoundHint {
             back: all.saturating_sub(usize::from(label.place)),
             hint: Hint::UnusedLabel,
+            unless_named: None,
         })
         .collect(alloc)
 }
@@ -318,8 +345,8 @@ fn only_try(statements: &[Statement]) -> bool
 fn between(statements: &[Statement], from: usize, count: usize) -> &[Statement]
     ensures { result.now ≡ take count (drop from statements.now) }
 {
-    let (_, behind) = statements.split_at(from.min(statements.len()));
-    let (front, _) = behind.split_at(count.min(behind.len()));
+    let (_, rest) = statements.split_at(from.min(statements.len()));
+    let (front, _) = rest.split_at(count.min(rest.len()));
     front
 }
 
@@ -367,6 +394,7 @@ fn spin_hints(alloc: Global, op: &OpenOp) -> Result<Vec<FoundHint>, AllocError>
         .map(|(place, _)| FoundHint {
             back: all.saturating_sub(place),
             hint: Hint::Spin,
+            unless_named: None,
         })
         .collect(alloc)
 }
@@ -383,32 +411,37 @@ fn end_hints(alloc: Global, op: &OpenOp) -> Result<Vec<FoundHint>, AllocError>
     Ok(hints)
 }
 
-/// The hint, unless what it is about is named.
-fn unless(alloc: Global, named: bool, hint: Hint) -> Result<Vec<FoundHint>, AllocError>
-    ensures { HasItems result (spec.unless named hint) }
+/// A hint at the declaration of this.
+fn declared_hint(
+    alloc: Global,
+    hint: Hint,
+    declared: Declared,
+) -> Result<Vec<FoundHint>, AllocError>
+    ensures { HasItems result (spec.declared_hint hint declared ∷ []) }
 {
     let mut hints = Vec::new(alloc);
-    if !named {
-        hints.push(FoundHint { back: 0, hint })?;
-    }
+    hints.push(FoundHint {
+        back: 0,
+        hint,
+        unless_named: Some(declared),
+    })?;
     Ok(hints)
 }
 
 /// The hints at a declaration.
 fn outside_hints(
     alloc: Global,
-    component: &Component,
     draft: &ComponentDraft,
     word: &[u8],
 ) -> Result<Vec<FoundHint>, AllocError>
-    ensures { HasItems result (spec.state_hints component.now draft.now None word.now) }
+    ensures { HasItems result (spec.state_hints draft.now None word.now) }
 {
     if word == b"word".as_slice() {
-        let named = is_array_named(component, draft.arrays.len());
-        unless(alloc, named, Hint::UnnamedArray)
+        let array = Declared::Array(draft.arrays.len());
+        declared_hint(alloc, Hint::UnnamedArray, array)
     } else if word == b"lock".as_slice() {
-        let named = is_lock_named(component, draft.locks.len());
-        unless(alloc, named, Hint::UnnamedLock)
+        let lock = Declared::Lock(draft.locks.len());
+        declared_hint(alloc, Hint::UnnamedLock, lock)
     } else {
         Ok(Vec::new(alloc))
     }
@@ -417,14 +450,13 @@ fn outside_hints(
 /// The hints at a line that begins with this word.
 fn state_hints(
     alloc: Global,
-    component: &Component,
     draft: &ComponentDraft,
     word: &[u8],
 ) -> Result<Vec<FoundHint>, AllocError>
-    ensures { HasItems result (spec.state_hints component.now draft.now draft.now.begun word.now) }
+    ensures { HasItems result (spec.state_hints draft.now draft.now.begun word.now) }
 {
     match &draft.begun {
-        None => outside_hints(alloc, component, draft, word),
+        None => outside_hints(alloc, draft, word),
         Some(op) => {
             if word == b"end".as_slice() {
                 end_hints(alloc, op)
@@ -437,92 +469,141 @@ fn state_hints(
 
 fn words_hints(
     alloc: Global,
-    component: &Component,
     draft: &ComponentDraft,
     words: &[&[u8]],
 ) -> Result<Vec<FoundHint>, AllocError>
-    ensures { HasItems result (spec.words_hints component.now draft.now (texts words.now)) }
+    ensures { HasItems result (spec.words_hints draft.now (texts words.now)) }
 {
     match words.split_first() {
         None => Ok(Vec::new(alloc)),
-        Some((word, _)) => state_hints(alloc, component, draft, word),
+        Some((word, _)) => state_hints(alloc, draft, word),
     }
 }
 
 /// The hints at a line after this draft.
 fn line_hints(
     alloc: Global,
-    component: &Component,
     draft: &ComponentDraft,
     text: &[u8],
 ) -> Result<Vec<FoundHint>, AllocError>
-    ensures { HasItems result (spec.line_hints component.now draft.now text.now) }
+    ensures { HasItems result (spec.line_hints draft.now text.now) }
 {
     let words = words_of(alloc, text)?;
-    words_hints(alloc, component, draft, &words)
+    words_hints(alloc, draft, &words)
 }
 
-/// The remarks with these warnings, found at a line.
+/// The warnings with one more.
+#[tactic(auto, using(crate::proofs::Warned::one_more))]
+fn with_warning(
+    mut warnings: Vec<PossibleWarning>,
+    warning: PossibleWarning,
+) -> Result<Vec<PossibleWarning>, AllocError>
+    ensures { FindsAlso result warnings (spec.without_words warning ∷ []) }
+{
+    warnings.push(warning)?;
+    Ok(warnings)
+}
+
+/// The warnings with these, found at a line after this draft.
 fn with_found<W: Wording>(
     alloc: Global,
     wording: &W,
-    mut all: Vec<Remark>,
+    mut warnings: Vec<PossibleWarning>,
     at: &Position,
     draft: &ComponentDraft,
     text: &[u8],
     hints: &[FoundHint],
-) -> Result<Vec<Remark>, AllocError>
-    ensures { SaysAlso result all (map (spec.warned at.now.seen.items at.now.line) hints.now) }
+) -> Result<Vec<PossibleWarning>, AllocError>
+    ensures { FindsAlso result warnings (map (spec.found_at at.now) hints.now) }
 {
     for found in hints {
         let words = wording.warning(alloc, draft, text, found.hint, found.back)?;
-        let said = Said {
+        let warning = PossibleWarning {
             place: line_before(&at.seen, at.line, found.back),
-            cause: Cause::Warning(found.hint),
+            hint: found.hint,
+            unless_named: found.unless_named,
+            words,
         };
-        all = with_remark(all, said, words)?;
+        warnings = with_warning(warnings, warning)?;
     }
-    Ok(all)
+    Ok(warnings)
 }
 
-/// The draft after a line, which has no fault.
-fn draft_behind(
+/// The warnings with those that this line may have after this draft, where no line before it has a
+/// fault.
+///
+/// # Errors
+///
+/// There is no memory for the warnings.
+pub(crate) fn with_warnings<W: Wording>(
     alloc: Global,
-    mut draft: ComponentDraft,
+    wording: &W,
+    warnings: Vec<PossibleWarning>,
+    at: &Position,
+    draft: &ComponentDraft,
+    sound: bool,
     text: &[u8],
-) -> Result<ComponentDraft, AllocError>
-    ensures { IfOk result (λ next. next ≡ spec.draft_behind draft text.now) }
+) -> Result<Vec<PossibleWarning>, AllocError>
+    ensures { FindsAlso result warnings (spec.found_if sound at.now draft.now text.now) }
 {
-    draft.line(alloc, text)?;
-    Ok(draft)
+    if !sound {
+        return Ok(warnings);
+    }
+    let hints = line_hints(alloc, draft, text)?;
+    with_found(alloc, wording, warnings, at, draft, text, &hints)
 }
 
-/// The remarks with the warnings of the lines of this component, which begins the bundle.
+/// Whether an instruction of the component names this.
+fn is_named(component: &Component, declared: Declared) -> bool
+    ensures { result ≡ spec.is_named component.now declared }
+{
+    match declared {
+        Declared::Array(array) => is_array_named(component, array),
+        Declared::Lock(lock) => is_lock_named(component, lock),
+    }
+}
+
+/// Whether a warning holds of the component that does not hold where an instruction names this.
+fn holds(component: &Component, unless_named: Option<Declared>) -> bool
+    ensures { result ≡ spec.holds component.now unless_named }
+{
+    match unless_named {
+        None => true,
+        Some(declared) => !is_named(component, declared),
+    }
+}
+
+/// The remark of a warning, where it holds of the component.
+fn remark_if(component: &Component, warning: PossibleWarning) -> Option<Remark>
+    ensures { result ≡ spec.remark_if component.now warning }
+{
+    if !holds(component, warning.unless_named) {
+        return None;
+    }
+    let said = Said {
+        place: warning.place,
+        cause: Cause::Warning(warning.hint),
+    };
+    Some(Remark {
+        said,
+        words: warning.words,
+    })
+}
+
+/// The remarks of those warnings that hold of the component.
 ///
 /// # Errors
 ///
 /// There is no memory for the remarks.
-pub(crate) fn with_warnings<W: Wording>(
+pub(crate) fn remarks_held(
     alloc: Global,
-    wording: &W,
     component: &Component,
-    mut all: Vec<Remark>,
-    lines: &[&[u8]],
+    warnings: Vec<PossibleWarning>,
 ) -> Result<Vec<Remark>, AllocError>
-    ensures { SaysAlso result all (warnings_of_lines component.now (texts lines.now)) }
+    ensures { HasItems result (spec.remarks_held component.now warnings.items) }
 {
-    let mut draft = ComponentDraft::new(alloc);
-    let mut seen = Vec::new(alloc);
-    for (before, text) in lines.iter().enumerate() {
-        let at = Position {
-            above: 0,
-            line: before + 1,
-            seen,
-        };
-        let hints = line_hints(alloc, component, &draft, text)?;
-        all = with_found(alloc, wording, all, &at, &draft, text, &hints)?;
-        draft = draft_behind(alloc, draft, text)?;
-        seen = with_words(alloc, at.seen, before + 1, text)?;
-    }
-    Ok(all)
+    warnings
+        .into_iter()
+        .filter_map(|warning| remark_if(component, warning))
+        .collect(alloc)
 }

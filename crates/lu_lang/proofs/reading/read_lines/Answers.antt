@@ -1,7 +1,7 @@
 use Rattle.std.proofs.Common.{refl, arith, ◌+◌, length}
 use Rattle.lu_text.proofs.Reading.{done_so, ends_untaken, goes_on_taken, taken, text_more, texts_end}
 use Rattle.lu_lang.specs.Grammar.{component_grammar}
-use Rattle.lu_lang.proofs.Drafts.{line_keeps, nothing_draft}
+use Rattle.lu_lang.proofs.Drafts.{line_keeps, nothing_draft, told_without, without_draft}
 use Rattle.lu_lang.proofs.reading.read_lines.Goals as goal
 
 pub loop-before-init : goal.loop-before-init
@@ -28,9 +28,9 @@ finish-requires c = c.loop-before.invariant.sound
 pub returns-in-Ok : goal.returns-in-Ok
 returns-in-Ok c =
     let read = rw (texts_end c.args.lines.now c.loop-before.before (omega arith)) at c.loop-before.invariant.read in
-    rw c.in-Ok.is at (done_so component_grammar (c.loop-before.before + 1) (length c.args.lines.now + 1) c.loop-before.draft c.finish.result _ (omega arith) c.finish.ensures read)
+    rw c.in-Ok.is at (done_so component_grammar (c.loop-before.before + 1) (length c.args.lines.now + 1) c.loop-before.draft (without_draft c.finish.result) _ (omega arith) (told_without _ _ _ c.finish.ensures) read)
 
-pub returns-in-Err : goal.returns-in-Err
-returns-in-Err c =
+pub returns : goal.returns
+returns c =
     let read = rw (texts_end c.args.lines.now c.loop-before.before (omega arith)) at c.loop-before.invariant.read in
-    rw c.in-Err.is at (done_so component_grammar (c.loop-before.before + 1) (length c.args.lines.now + 1) c.loop-before.draft c.finish.result _ (omega arith) c.finish.ensures read)
+    rw c.in-Err.is at (done_so component_grammar (c.loop-before.before + 1) (length c.args.lines.now + 1) c.loop-before.draft (without_draft c.finish.result) _ (omega arith) (told_without _ _ _ c.finish.ensures) read)

@@ -1,4 +1,4 @@
-use Rattle.std.proofs.Common.{◌+◌, ◌∙◌, length, refl, arith}
+use Rattle.std.proofs.Common.{◌+◌, length, refl, arith}
 use Rattle.lu_text.proofs.Reading.{text_more, texts_end}
 use Rattle.lu_test.specs.MatrixText.{grammar_by}
 use Rattle.lu_test.proofs.Threads.{nothing_room}

@@ -1,7 +1,6 @@
 use Rattle.std.proofs.Common.{◌≡◌, ◌++◌, map, take}
-use Rattle.lu_lint.specs.Said.{said_of}
-use Rattle.lu_lint.specs.Warnings.{warned}
+use Rattle.lu_lint.specs.Warnings.{found_at, without_words}
 use Rattle.lu_lint.proofs.warning.with_found.Given as goal
 
 abbrev pub invariant-loop-found : goal.invariant-loop-found
-invariant-loop-found over l = said_of l.all.items ≡ said_of l.initial.all.items ++ map (warned l.at.seen.items l.at.line) (take l.found-index l.hints)
+invariant-loop-found over l = map without_words l.warnings.items ≡ map without_words l.initial.warnings.items ++ map (found_at l.at) (take l.found-index l.hints)
