@@ -1,6 +1,6 @@
 -- Where a cut has a livelock, and where it has none.
-use Rattle.std.proofs.Common.{arith, ◌≡◌, ℕ, zero, suc, ◌+◌, ◌-◌, List, [], ◌∷◌, ◌++◌, length, take, Option, Some, None, Result, Ok, Err, refl, subst, inl, inr}
-use Rattle.std.specs.Prelude.{IfOk}
+use Rattle.std.proofs.Common.{arith, ◌≡◌, ◌↔◌, Bool, true, false, not, ℕ, zero, suc, ◌+◌, ◌-◌, List, [], ◌∷◌, ◌++◌, length, take, Option, Some, None, Result, Ok, Err, refl, subst, inl, inr}
+use Rattle.std.specs.Prelude.{IfOk, IsTrue}
 use Rattle.std.proofs.lemmas.Bool.{cases_lt}
 use Rattle.std.proofs.lemmas.List.{length_push}
 use Rattle.lu_component.specs.Component.{Component}
@@ -116,12 +116,7 @@ module _ (c : Component) (matrix : Matrix) (limits : Limits) (settles : Settles 
 
 -- ---- what is known after it
 
-pub next_lost : (c : Component) (limits : Limits) (matrix : Matrix) (old : SoFar) → IsLost old → IsNext c limits old matrix old
-next_lost c limits matrix Clear lost = absurd lost
-next_lost c limits matrix (Unclear smaller r) lost = absurd lost
-next_lost c limits matrix (Lost smaller u) lost = refl
-
-pub next_cut : (c : Component) (limits : Limits) (matrix : Matrix) (old : SoFar) (livelock : Option (List Move)) (standing : Standing) → IsLivelockIfAny c limits matrix livelock → IsStanding c limits matrix standing → IsNext c limits old matrix (so_far_after old matrix livelock standing)
+next_cut : (c : Component) (limits : Limits) (matrix : Matrix) (old : SoFar) (livelock : Option (List Move)) (standing : Standing) → IsLivelockIfAny c limits matrix livelock → IsStanding c limits matrix standing → IsNext c limits old matrix (so_far_after old matrix livelock standing)
 next_cut c limits matrix (Lost smaller u) livelock standing has stands = refl
 next_cut c limits matrix (Unclear smaller q) None standing has stands = (refl, has)
 next_cut c limits matrix (Unclear smaller q) (Some u) standing has stands = (refl, has)
@@ -129,6 +124,13 @@ next_cut c limits matrix Clear None FullPass has stands = (has, inl stands)
 next_cut c limits matrix Clear None Proved has stands = (has, inr stands)
 next_cut c limits matrix Clear None (Open r) has stands = (refl, has, stands.0, stands.1)
 next_cut c limits matrix Clear (Some u) standing has stands = (refl, has)
+
+-- so it is where one is sought unless a cut before has one
+pub next_sought : (c : Component) (limits : Limits) (matrix : Matrix) (old : SoFar) (lost : Bool) (livelock : Option (List Move)) (standing : Standing) → (IsTrue lost ↔ IsLost old) → (not lost ≡ true → IsLivelockIfAny c limits matrix livelock) → IsStanding c limits matrix standing → IsNext c limits old matrix (so_far_after old matrix livelock standing)
+next_sought c limits matrix old false livelock standing is has stands = next_cut c limits matrix old livelock standing (has refl) stands
+next_sought c limits matrix (Lost smaller u) true livelock standing is has stands = refl
+next_sought c limits matrix (Unclear smaller q) true livelock standing is has stands = absurd (is.0 refl)
+next_sought c limits matrix Clear true livelock standing is has stands = absurd (is.0 refl)
 
 pub proved_none : (c : Component) (matrix : Matrix) (limits : Limits) → IsProved c matrix limits → FromEachStart c matrix (λ s. NoOffence s limits.serial)
 proved_none c matrix limits proved s at = (proved s at).0

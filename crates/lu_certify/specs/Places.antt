@@ -11,7 +11,6 @@ use Rattle.lu_graph.specs.declared.ending.Ending.{Ending}
 use Rattle.lu_graph.specs.declared.ending.Ending.TheVariants.{Badly, TooMany, Well}
 use Rattle.lu_report.specs.Limits.{most_moves}
 use Rattle.lu_replay.specs.Reports.{IsReport}
-use Rattle.lu_parallel.specs.Ranges.{Options}
 use Rattle.lu_refute.specs.Linearizable.{AreLengths}
 use Rattle.lu_certify.specs.declared.certificate.Certificate.{Certificate}
 use Rattle.lu_certify.specs.declared.certificate.Certificate.TheVariants.{Linearizable, Livelock, NotLinearizable, Undecided}
@@ -24,7 +23,7 @@ use Rattle.lu_certify.specs.declared.judged.Standing.{Standing}
 use Rattle.lu_certify.specs.declared.judged.Standing.TheVariants.{FullPass, Open, Proved}
 use Rattle.lu_certify.specs.declared.told.Told.{Told}
 use Rattle.lu_certify.specs.declared.told.Told.TheVariants.{AllGood, BadAfter, Nothing}
-use Rattle.lu_certify.specs.Certificates.{AreBeginnings, Fails, FailsAfter, HasNoLivelock, HasReport, IsClear, IsFailingReport, IsFullPass, IsLivelock, IsProved, limits_of}
+use Rattle.lu_certify.specs.Certificates.{AreBeginnings, Fails, FailsAfter, HasNoLivelock, HasReport, IsClear, IsFailingReport, IsFullPass, IsLivelock, IsProved}
 
 -- how many cuts there are
 abbrev pub cut_count : List (List Call) → ℕ
@@ -73,10 +72,6 @@ IsStanding c limits matrix (Open r) =
 abbrev pub IsJudged : Component → Limits → Matrix → Judged → Type 0
 IsJudged c limits matrix (Failing r) = IsFailingReport c limits matrix r
 IsJudged c limits matrix (Stands standing) = IsStanding c limits matrix standing
-
--- within the bounds of a check's options
-abbrev pub IsJudgedWithin : Component → Options → ℕ → Matrix → Judged → Type 0
-IsJudgedWithin c choice nodes matrix judged = IsJudged c (limits_of choice nodes) matrix judged
 
 -- what its nodes tell, or none where they tell nothing; where that is not tried, none
 abbrev pub IsJudgedFirst : Bool → Component → Limits → Matrix → Option Judged → Type 0
@@ -137,12 +132,6 @@ abbrev pub SeeksLivelock : {E : Type 0} → Component → Matrix → Limits → 
     → Result (Option (List Move)) E → Type 0
 SeeksLivelock c matrix limits standing result =
     IsStanding c limits matrix standing → IfOk result (IsLivelockIfAny c limits matrix)
-
--- this is known after a cut that stands so
-abbrev pub PassesCut : {E : Type 0} → Component → SoFar → Matrix → Limits → Standing
-    → Result SoFar E → Type 0
-PassesCut c old matrix limits standing result =
-    IsStanding c limits matrix standing → IfOk result (IsNext c limits old matrix)
 
 -- ---- at the end
 

@@ -6,65 +6,23 @@ ghost use Rattle.lu_report.specs.Limits.{IsSerialBound, most_moves};
 ghost use Rattle.lu_certify.specs.declared.so_far.SoFar.TheVariants.{Clear};
 ghost use Rattle.lu_certify.specs.Certificates.{AreBeginnings, IsCertificate, NamesCutOf};
 ghost use Rattle.lu_certify.specs.Laws.{Decides};
-ghost use Rattle.lu_certify.specs.Places.{IsConcluded, IsWithoutOffence, PassesCut, SeeksLivelock};
+ghost use Rattle.lu_certify.specs.Looking.{AreKnown};
+ghost use Rattle.lu_certify.specs.Places.{IsConcluded, IsWithoutOffence};
 
 use crate::certificate::Certificate;
 use crate::cuts::{count_cuts, cut_at};
-use crate::judged::{Judged, Standing};
-use crate::judging::{judge, may_spin};
+use crate::judging::may_spin;
+use crate::known::take;
 use crate::limits::Limits;
+use crate::looked::Looked;
+use crate::looking::looked_or_look;
+use crate::progress::{Progress, Untold};
 use crate::so_far::SoFar;
 use lu_component::Component;
-use lu_graph::first_lost;
-use lu_report::Finding;
 use lu_serial::{Learnt, learn};
 use lu_spec::Spec;
-use lu_test::{Matrix, Schedule};
+use lu_test::Matrix;
 use std::alloc::{AllocError, Global};
-
-/// The first schedule that leads to a state from which none ends, if there is one; none where a
-/// serial run offends or no schedule was cut.
-fn seek_livelock(
-    alloc: Global,
-    component: &Component,
-    cut: &Matrix,
-    standing: &Standing,
-    limits: Limits,
-) -> Result<Option<Schedule>, AllocError>
-    requires { CanRun component.now cut.now }
-    ensures { SeeksLivelock component.now cut.now limits standing.now result }
-{
-    let report = match standing {
-        Standing::FullPass => return Ok(None),
-        Standing::Proved => return first_lost(alloc, component, cut, limits.nodes),
-        Standing::Open(report) => report,
-    };
-    match report.finding() {
-        Finding::SerialCut(_) => Ok(None),
-        Finding::Nondeterministic { .. } => Ok(None),
-        Finding::Fail { .. } => Ok(None),
-        Finding::Pass(_) => first_lost(alloc, component, cut, limits.nodes),
-    }
-}
-
-/// What is known after this cut, which stands so.
-pub(crate) fn pass_cut(
-    alloc: Global,
-    component: &Component,
-    cut: Matrix,
-    standing: Standing,
-    so_far: SoFar,
-    limits: Limits,
-) -> Result<SoFar, AllocError>
-    requires { CanRun component.now cut }
-    ensures { PassesCut component.now so_far cut limits standing result }
-{
-    if so_far.is_lost() {
-        return Ok(so_far);
-    }
-    let livelock = seek_livelock(alloc, component, &cut, &standing, limits)?;
-    Ok(so_far.after(cut, livelock, standing))
-}
 
 /// All beginnings of the serial histories. Asks that no serial run offends.
 fn own_spec(
@@ -109,6 +67,49 @@ pub(crate) fn conclude(
     }
 }
 
+/// The certificate of the component on the matrix, where this is known of some cuts already, each at
+/// its place. The others are looked at on the calling thread.
+pub(crate) fn certify_knowing<P: Progress>(
+    alloc: Global,
+    component: &Component,
+    matrix: &Matrix,
+    limits: Limits,
+    known: Vec<Option<Looked>>,
+    progress: &P,
+) -> Result<Certificate, AllocError>
+    requires of { CanRun component.now matrix.now }
+    requires bound { limits.bound ≤ most_moves }
+    requires serial { IsSerialBound limits.serial }
+    requires known { AreKnown component.now matrix.now limits known.items }
+    ensures certificate { IfOk result (IsCertificate component.now matrix.now limits) }
+    ensures decides { IfOk result (Decides component.now matrix.now) }
+    ensures of { IfOk result (NamesCutOf component.now) }
+{
+    let cuts = count_cuts(matrix);
+    let spins = may_spin(component);
+    let mut known = known;
+    let mut so_far = SoFar::Clear;
+    for place in 0..cuts {
+        let cut = cut_at(alloc, matrix, place)?;
+        let taken = take(&mut known, place);
+        let is_sought = !so_far.is_lost();
+        match looked_or_look(
+            alloc, component, &cut, taken, spins, is_sought, limits, progress,
+        )? {
+            Looked::Failing(report) => {
+                return Ok(Certificate::NotLinearizable {
+                    matrix: cut,
+                    report,
+                });
+            }
+            Looked::Stands { standing, livelock } => {
+                so_far = so_far.after(cut, livelock, standing);
+            }
+        }
+    }
+    conclude(alloc, component, matrix, limits.serial, so_far)
+}
+
 /// Whether the component is linearizable on the matrix by some deterministic set of serial
 /// histories, decided by its cuts, in the lexicographic order of their lengths, thread 0's first:
 /// each thread makes some of its first calls (Burckhardt, Dern, Musuvathi and Tan, 2010). A cut is
@@ -137,22 +138,5 @@ pub fn certify(
     ensures decides { IfOk result (Decides component.now matrix.now) }
     ensures of { IfOk result (NamesCutOf component.now) }
 {
-    let end = count_cuts(matrix);
-    let spins = may_spin(component);
-    let mut so_far = SoFar::Clear;
-    for place in 0..end {
-        let cut = cut_at(alloc, matrix, place)?;
-        match judge(alloc, component, &cut, spins, limits)? {
-            Judged::Failing(report) => {
-                return Ok(Certificate::NotLinearizable {
-                    matrix: cut,
-                    report,
-                });
-            }
-            Judged::Stands(standing) => {
-                so_far = pass_cut(alloc, component, cut, standing, so_far, limits)?;
-            }
-        }
-    }
-    conclude(alloc, component, matrix, limits.serial, so_far)
+    certify_knowing(alloc, component, matrix, limits, Vec::new(alloc), &Untold)
 }

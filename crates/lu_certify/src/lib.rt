@@ -11,17 +11,25 @@
 //! let certificate = certify(alloc, &component, &matrix, limits)?;
 //! ```
 //!
-//! [`certify`] does all on the calling thread. [`certify_by_workers`] has each cut checked by as
-//! many workers as its options say.
+//! [`certify`] does all on the calling thread. [`certify_by_workers`] has as many workers as its
+//! options say. [`certify_with_progress`] tells meanwhile how far it has come.
 #![tactic(auto)]
 
 mod certificate;
 mod certifying;
+mod claims;
+mod cut_watch;
 mod cuts;
 mod judged;
 mod judging;
+mod known;
 pub mod laws;
 mod limits;
+mod livelock;
+mod looked;
+mod looking;
+mod progress;
+mod sharing;
 mod so_far;
 mod told;
 mod workers;
@@ -30,4 +38,5 @@ pub use certificate::Certificate;
 pub use certifying::certify;
 pub use limits::Limits;
 pub use lu_graph::DEFAULT_NODES;
-pub use workers::certify_by_workers;
+pub use progress::{Progress, Untold};
+pub use workers::{certify_by_workers, certify_with_progress};

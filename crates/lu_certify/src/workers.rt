@@ -1,18 +1,21 @@
-//! Certificates by checks with workers.
+//! Certificates by workers.
 
 ghost use Rattle.std.specs.Prelude.{◌≡◌, IfErr, IfOk};
 ghost use Rattle.lu_machine.specs.Starts.{CanRun};
 ghost use Rattle.lu_parallel.specs.declared.fault.CheckFault.TheVariants.{Memory};
 ghost use Rattle.lu_certify.specs.Certificates.{IsCertificateWithin, NamesCutOf};
 ghost use Rattle.lu_certify.specs.Laws.{Decides};
-ghost use Rattle.lu_certify.specs.Places.{IsJudgedWithin};
+ghost use Rattle.lu_certify.specs.Looking.{IsLookedWithin};
 
 use crate::certificate::Certificate;
-use crate::certifying::{certify, conclude, pass_cut};
+use crate::certifying::{certify_knowing, conclude};
 use crate::cuts::{count_cuts, cut_at};
-use crate::judged::Judged;
-use crate::judging::{judge_checked, judge_first, may_spin};
+use crate::judging::may_spin;
 use crate::limits::Limits;
+use crate::looked::Looked;
+use crate::looking::look_after_check;
+use crate::progress::{Progress, Untold};
+use crate::sharing::look_by_workers;
 use crate::so_far::SoFar;
 use lu_component::Component;
 use lu_parallel::{CheckFault, Gate, Options, check};
@@ -22,34 +25,115 @@ use std::sync::Wait;
 use std::thread::Threads;
 
 /// What is found of the cut, checked by as many workers as the options say.
-fn judge_by_workers<R: Threads + Wait, G: Gate>(
+fn check_cut<R: Threads + Wait, G: Gate, P: Progress>(
     rt: &R,
     alloc: Global,
     gate: &G,
+    progress: &P,
     component: &Component,
     cut: &Matrix,
-    nodes_first: bool,
+    is_sought: bool,
     options: Options,
     nodes: u32,
-) -> Result<Judged, CheckFault>
+) -> Result<Looked, CheckFault>
     requires { CanRun component.now cut.now }
-    ensures { IfOk result (IsJudgedWithin component.now options nodes cut.now) }
+    ensures { IfOk result (IsLookedWithin component.now is_sought options nodes cut.now) }
 {
     let limits = Limits::of(options, nodes);
-    match judge_first(alloc, nodes_first, component, cut, limits)? {
-        Some(judged) => Ok(judged),
-        None => {
-            let report = check(rt, alloc, gate, component, cut, options)?;
-            let judged = judge_checked(alloc, component, cut, report, nodes_first, limits)?;
-            Ok(judged)
+    let report = check(rt, alloc, gate, component, cut, options)?;
+    Ok(look_after_check(alloc, component, cut, report, is_sought, limits, progress)?)
+}
+
+/// The certificate, by as many workers as the options say.
+fn certify_cuts<R: Threads + Wait, G: Gate, P: Progress>(
+    rt: &R,
+    alloc: Global,
+    gate: &G,
+    progress: &P,
+    component: &Component,
+    matrix: &Matrix,
+    options: Options,
+    nodes: u32,
+) -> Result<Certificate, CheckFault>
+    requires { CanRun component.now matrix.now }
+    ensures certificate { IfOk result (IsCertificateWithin component.now matrix.now options nodes) }
+    ensures decides { IfOk result (Decides component.now matrix.now) }
+    ensures of { IfOk result (NamesCutOf component.now) }
+    ensures alone { IfErr result (λ fault. options.workers ≡ 1 → fault ≡ Memory) }
+{
+    let limits = Limits::of(options, nodes);
+    let cuts = count_cuts(matrix);
+    if options.workers() == 1 {
+        let none = Vec::new(alloc);
+        return Ok(certify_knowing(alloc, component, matrix, limits, none, progress)?);
+    }
+    if may_spin(component) {
+        let workers = options.workers();
+        let known = look_by_workers(rt, alloc, progress, component, matrix, limits, workers)?;
+        return Ok(certify_knowing(alloc, component, matrix, limits, known, progress)?);
+    }
+    let mut so_far = SoFar::Clear;
+    for place in 0..cuts {
+        let cut = cut_at(alloc, matrix, place)?;
+        let is_sought = !so_far.is_lost();
+        match check_cut(
+            rt, alloc, gate, progress, component, &cut, is_sought, options, nodes,
+        )? {
+            Looked::Failing(report) => {
+                return Ok(Certificate::NotLinearizable {
+                    matrix: cut,
+                    report,
+                });
+            }
+            Looked::Stands { standing, livelock } => {
+                so_far = so_far.after(cut, livelock, standing);
+            }
         }
+    }
+    Ok(conclude(alloc, component, matrix, limits.serial, so_far)?)
+}
+
+/// Whether the answer is that it is not known.
+fn is_undecided(answer: &Result<Certificate, CheckFault>) -> bool {
+    match answer {
+        Ok(certificate) => certificate.is_undecided(),
+        Err(_) => false,
     }
 }
 
-/// The same certificate, where each cut is checked by as many workers as the options say, and has at
-/// most so many nodes: it is the same for any number of workers and any depth. With one worker all
-/// is done on the calling thread, as by [`certify`]. More of them pass the gate at each piece of each
-/// cut, and the calling thread waits until they are done, before the next cut.
+/// The same certificate as by [`certify_by_workers`]. It tells meanwhile how far it has come.
+///
+/// # Errors
+///
+/// As those of [`certify_by_workers`].
+pub fn certify_with_progress<R: Threads + Wait, G: Gate, P: Progress>(
+    rt: &R,
+    alloc: Global,
+    gate: &G,
+    progress: &P,
+    component: &Component,
+    matrix: &Matrix,
+    options: Options,
+    nodes: u32,
+) -> Result<Certificate, CheckFault>
+    requires { CanRun component.now matrix.now }
+    ensures certificate { IfOk result (IsCertificateWithin component.now matrix.now options nodes) }
+    ensures decides { IfOk result (Decides component.now matrix.now) }
+    ensures of { IfOk result (NamesCutOf component.now) }
+    ensures alone { IfErr result (λ fault. options.workers ≡ 1 → fault ≡ Memory) }
+{
+    progress.begin(count_cuts(matrix));
+    let answer = certify_cuts(rt, alloc, gate, progress, component, matrix, options, nodes);
+    progress.end(is_undecided(&answer));
+    answer
+}
+
+/// The same certificate as by [`certify`](crate::certify), where so many workers as the options say
+/// go through the cuts, each of which has at most so many nodes: it is the same for any number of
+/// workers and any depth. With one worker all is done on the calling thread. More of them share the
+/// cuts where threads may spin, each cut as a whole, and there may be as many nodes of each; else
+/// they share the pieces of each cut, one cut after the other, and pass the gate at each piece. The
+/// calling thread waits until they are done.
 ///
 /// # Errors
 ///
@@ -70,27 +154,5 @@ pub fn certify_by_workers<R: Threads + Wait, G: Gate>(
     ensures of { IfOk result (NamesCutOf component.now) }
     ensures alone { IfErr result (λ fault. options.workers ≡ 1 → fault ≡ Memory) }
 {
-    if options.workers() == 1 {
-        let certificate = certify(alloc, component, matrix, Limits::of(options, nodes))?;
-        return Ok(certificate);
-    }
-    let limits = Limits::of(options, nodes);
-    let end = count_cuts(matrix);
-    let spins = may_spin(component);
-    let mut so_far = SoFar::Clear;
-    for place in 0..end {
-        let cut = cut_at(alloc, matrix, place)?;
-        match judge_by_workers(rt, alloc, gate, component, &cut, spins, options, nodes)? {
-            Judged::Failing(report) => {
-                return Ok(Certificate::NotLinearizable {
-                    matrix: cut,
-                    report,
-                });
-            }
-            Judged::Stands(standing) => {
-                so_far = pass_cut(alloc, component, cut, standing, so_far, limits)?;
-            }
-        }
-    }
-    Ok(conclude(alloc, component, matrix, limits.serial, so_far)?)
+    certify_with_progress(rt, alloc, gate, &Untold, component, matrix, options, nodes)
 }

@@ -8,7 +8,7 @@ ghost use Rattle.lu_grain.specs.Laws.{DecidesAlike};
 ghost use Rattle.lu_grain.specs.Longer.{IsMadeWithin};
 
 use crate::copies::with_local;
-use lu_certify::{Certificate, certify_by_workers};
+use lu_certify::{Certificate, Progress, Untold, certify_with_progress};
 use lu_component::Component;
 use lu_parallel::{CheckFault, Gate, Options};
 use lu_test::Matrix;
@@ -16,8 +16,36 @@ use std::alloc::Global;
 use std::sync::Wait;
 use std::thread::Threads;
 
-/// The same certificate as by [`certify_longer`](crate::certify_longer), where each cut is checked
-/// by as many workers as the options say.
+/// The same certificate as by [`certify_longer_by_workers`]. It tells meanwhile how far it has come.
+///
+/// # Errors
+///
+/// As those of [`certify_longer_by_workers`].
+pub fn certify_longer_with_progress<R: Threads + Wait, G: Gate, P: Progress>(
+    rt: &R,
+    alloc: Global,
+    gate: &G,
+    progress: &P,
+    component: &Component,
+    matrix: &Matrix,
+    local: u8,
+    options: Options,
+    nodes: u32,
+) -> Result<Certificate, CheckFault>
+    requires of { CanRun component.now matrix.now }
+    requires longer { component.now.local ≤ local }
+    requires few { local ≤ 16 }
+    ensures certificate { IfOk result (IsMadeWithin local component.now matrix.now options nodes) }
+    ensures decides { IfOk result (DecidesAlike component.now matrix.now) }
+    ensures of { IfOk result (NamesCutOf component.now) }
+    ensures alone { IfErr result (λ fault. options.workers ≡ 1 → fault ≡ Memory) }
+{
+    let longer = with_local(alloc, component, local)?;
+    certify_with_progress(rt, alloc, gate, progress, &longer, matrix, options, nodes)
+}
+
+/// The same certificate as by [`certify_longer`](crate::certify_longer), by as many workers as the
+/// options say.
 ///
 /// # Errors
 ///
@@ -41,6 +69,7 @@ pub fn certify_longer_by_workers<R: Threads + Wait, G: Gate>(
     ensures of { IfOk result (NamesCutOf component.now) }
     ensures alone { IfErr result (λ fault. options.workers ≡ 1 → fault ≡ Memory) }
 {
-    let longer = with_local(alloc, component, local)?;
-    certify_by_workers(rt, alloc, gate, &longer, matrix, options, nodes)
+    certify_longer_with_progress(
+        rt, alloc, gate, &Untold, component, matrix, local, options, nodes,
+    )
 }

@@ -5,12 +5,12 @@ use Rattle.lu_certify.specs.Places.{IsJudgedFirst, IsLeftOpen}
 use Rattle.lu_certify.proofs.Behind.{open_never_clear, open_never_fails, tried_either}
 use Rattle.lu_certify.proofs.judging.judge_checked.Goals as goal
 
-pub returns-in-None : goal.returns-in-None
-returns-in-None c =
+pub returns-in-None-clause-judged : goal.returns-in-None-clause-judged
+returns-in-None-clause-judged g c =
     let passes : IsFailure c.args.report.finding → ⊥ = search rules in
     let less : IsFullPass c.args.report.finding → ⊥ = search rules in
     let then : not c.args.was_tried ≡ true → IsLeftOpen c.args.component.now c.args.limits c.args.cut.now =
-    subst (λ (o : Option Judged). IsJudgedFirst (not c.args.was_tried) c.args.component.now c.args.limits c.args.cut.now o) c.in-None.is c.in_ok-judged.ensures in
+    subst (λ (o : Option Judged). IsJudgedFirst (not c.args.was_tried) c.args.component.now c.args.limits c.args.cut.now o) c.in-None.is c.in_ok-judged.ensures.judged in
     let left = tried_either (IsLeftOpen c.args.component.now c.args.limits c.args.cut.now) c.args.was_tried c.requires.tried then in (
       c.requires.report,
       open_never_clear c.args.component.now c.args.cut.now c.args.limits c.requires.of.settles c.args.report c.requires.report less left,

@@ -2,10 +2,10 @@ use Rattle.std.proofs.Common.{inr, subst}
 use Rattle.lu_certify.specs.Places.{IsTold}
 use Rattle.lu_certify.proofs.judging.judge_first.Goals as goal
 
-pub returns-in_ok-report-in-BadAfter : goal.returns-in_ok-report-in-BadAfter
-returns-in_ok-report-in-BadAfter c =
+pub returns-in_ok-report-in-BadAfter-clause-judged : goal.returns-in_ok-report-in-BadAfter-clause-judged
+returns-in_ok-report-in-BadAfter-clause-judged g c =
     inr (
       c.in-BadAfter.moves,
-      subst (IsTold c.args.component.now c.args.limits c.args.cut.now) c.in-BadAfter.is c.in_ok-tell_by_nodes.ensures,
+      subst (IsTold c.args.component.now c.args.limits c.args.cut.now) c.in-BadAfter.is c.in_ok-tell_by_nodes.ensures.told,
       c.in_ok-report-in-BadAfter.ensures,
     )

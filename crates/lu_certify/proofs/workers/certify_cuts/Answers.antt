@@ -1,12 +1,14 @@
-use Rattle.std.proofs.Common.{rules, arith, ◌≡◌, ◌≤◌, sym, subst}
-use Rattle.lu_certify.specs.declared.limits.Limits.{Limits}
+use Rattle.std.proofs.Common.{rules, arith, ◌≡◌, ◌≤◌, not, sym, subst}
 use Rattle.lu_certify.specs.declared.certificate.Certificate.TheVariants.{NotLinearizable}
+use Rattle.lu_certify.specs.declared.limits.Limits.{Limits}
 use Rattle.lu_certify.specs.declared.so_far.SoFar.TheVariants.{Clear}
 use Rattle.lu_certify.specs.Certificates.{IsFailingReport, limits_of}
-use Rattle.lu_certify.specs.Places.{IsJudged, IsNext, IsStanding, IsWithoutOffence, cut_count}
+use Rattle.lu_certify.specs.Looking.{IsLooked}
+use Rattle.lu_certify.specs.Places.{IsNext, IsWithoutOffence, cut_count}
+use Rattle.lu_certify.proofs.Livelocks.{next_sought}
 use Rattle.lu_certify.proofs.One.{decided}
 use Rattle.lu_certify.proofs.Rounds.{concluded, cut_runs, first_here, known_next, names_cut, none_known, none_more, none_offends, none_yet}
-use Rattle.lu_certify.proofs.workers.certify_by_workers.Goals as goal
+use Rattle.lu_certify.proofs.workers.certify_cuts.Goals as goal
 
 pub loop-place-init : goal.loop-place-init
 loop-place-init g c = record {
@@ -15,25 +17,22 @@ loop-place-init g c = record {
 }
 
 pub cut_at-requires : goal.cut_at-requires
-cut_at-requires g c = omega (arith, c.count_cuts-end.ensures)
+cut_at-requires g c = omega (arith, c.count_cuts-cuts.ensures)
 
-pub judge_by_workers-requires : goal.judge_by_workers-requires
-judge_by_workers-requires g c = (
+pub check_cut-requires : goal.check_cut-requires
+check_cut-requires g c = (
   search rules,
-  cut_runs c.args.component.now c.args.matrix.now c.loop-place.place c.in_ok-cut.cut c.requires c.in_ok-cut.ensures,
+  (search rules, cut_runs c.args.component.now c.args.matrix.now c.loop-place.place c.in_ok-cut.cut c.requires c.in_ok-cut.ensures),
 )
-
-pub pass_cut-requires : goal.pass_cut-requires
-pass_cut-requires g c = cut_runs c.args.component.now c.args.matrix.now c.loop-place.place c.in_ok-cut.cut c.requires c.in_ok-cut.ensures
 
 pub returns-in-Failing-clause-certificate : goal.returns-in-Failing-clause-certificate
 returns-in-Failing-clause-certificate g c =
-    let fails : IsFailingReport c.args.component.now (limits_of c.args.options c.args.nodes) c.in_ok-cut.cut c.in-Failing.report = subst (IsJudged c.args.component.now (limits_of c.args.options c.args.nodes) c.in_ok-cut.cut) c.in-Failing.is c.in_ok-report.ensures in
+    let fails : IsFailingReport c.args.component.now (limits_of c.args.options c.args.nodes) c.in_ok-cut.cut c.in-Failing.report = subst (IsLooked (not c.is_lost-is_sought.result) c.args.component.now (limits_of c.args.options c.args.nodes) c.in_ok-cut.cut) c.in-Failing.is c.in_ok-report.ensures in
     first_here c.args.component.now c.args.matrix.now (limits_of c.args.options c.args.nodes) c.requires.settles c.loop-place.place c.in_ok-cut.cut c.in_ok-cut.ensures c.in-Failing.report c.loop-place.invariant.none fails
 
 pub returns-in-Failing-clause-decides : goal.returns-in-Failing-clause-decides
 returns-in-Failing-clause-decides g c =
-    let fails : IsFailingReport c.args.component.now (limits_of c.args.options c.args.nodes) c.in_ok-cut.cut c.in-Failing.report = subst (IsJudged c.args.component.now (limits_of c.args.options c.args.nodes) c.in_ok-cut.cut) c.in-Failing.is c.in_ok-report.ensures in
+    let fails : IsFailingReport c.args.component.now (limits_of c.args.options c.args.nodes) c.in_ok-cut.cut c.in-Failing.report = subst (IsLooked (not c.is_lost-is_sought.result) c.args.component.now (limits_of c.args.options c.args.nodes) c.in_ok-cut.cut) c.in-Failing.is c.in_ok-report.ensures in
     decided c.args.component.now c.args.matrix.now (limits_of c.args.options c.args.nodes) c.requires.settles (NotLinearizable c.in_ok-cut.cut c.in-Failing.report)
     (first_here c.args.component.now c.args.matrix.now (limits_of c.args.options c.args.nodes) c.requires.settles c.loop-place.place c.in_ok-cut.cut c.in_ok-cut.ensures c.in-Failing.report c.loop-place.invariant.none fails)
 
@@ -42,32 +41,34 @@ returns-in-Failing-clause-of g c = (cut_runs c.args.component.now c.args.matrix.
 
 pub loop-place-preserved : goal.loop-place-preserved
 loop-place-preserved g c =
-    let stands : IsStanding c.args.component.now (limits_of c.args.options c.args.nodes) c.in_ok-cut.cut c.in-Stands.standing =
-    subst (IsJudged c.args.component.now (limits_of c.args.options c.args.nodes) c.in_ok-cut.cut) c.in-Stands.is c.in_ok-report.ensures in
+    let is = subst (IsLooked (not c.is_lost-is_sought.result) c.args.component.now (limits_of c.args.options c.args.nodes) c.in_ok-cut.cut) c.in-Stands.is c.in_ok-report.ensures in
+    let next : IsNext c.args.component.now (limits_of c.args.options c.args.nodes) c.loop-place.so_far c.in_ok-cut.cut c.after-so_far.result =
+    subst (IsNext c.args.component.now (limits_of c.args.options c.args.nodes) c.loop-place.so_far c.in_ok-cut.cut) (sym c.after-so_far.ensures)
+    (next_sought c.args.component.now (limits_of c.args.options c.args.nodes) c.in_ok-cut.cut c.loop-place.so_far c.is_lost-is_sought.result c.in-Stands.livelock c.in-Stands.standing c.is_lost-is_sought.ensures is.1 is.0) in
     record {
-      none = none_more c.args.component.now c.args.matrix.now (limits_of c.args.options c.args.nodes) c.requires.settles c.loop-place.place c.in_ok-cut.cut c.in_ok-cut.ensures c.loop-place.invariant.none c.in-Stands.standing stands;
-      known = known_next c.args.component.now c.args.matrix.now (limits_of c.args.options c.args.nodes) c.requires.settles c.loop-place.place c.in_ok-cut.cut c.in_ok-cut.ensures c.loop-place.so_far c.in_ok-so_far-in-Stands.so_far (subst (λ (x : Limits). IsStanding c.args.component.now x c.in_ok-cut.cut c.in-Stands.standing → IsNext c.args.component.now x c.loop-place.so_far c.in_ok-cut.cut c.in_ok-so_far-in-Stands.so_far) c.of-limits.ensures.limits c.in_ok-so_far-in-Stands.ensures stands) c.loop-place.invariant.known;
+      none = none_more c.args.component.now c.args.matrix.now (limits_of c.args.options c.args.nodes) c.requires.settles c.loop-place.place c.in_ok-cut.cut c.in_ok-cut.ensures c.loop-place.invariant.none c.in-Stands.standing is.0;
+      known = known_next c.args.component.now c.args.matrix.now (limits_of c.args.options c.args.nodes) c.requires.settles c.loop-place.place c.in_ok-cut.cut c.in_ok-cut.ensures c.loop-place.so_far c.after-so_far.result next c.loop-place.invariant.known;
     }
 
 pub conclude-requires-clause-none : goal.conclude-requires-clause-none
 conclude-requires-clause-none g c =
-    let all : cut_count c.args.matrix.now.threads ≤ c.loop-place.place = omega (arith, c.count_cuts-end.ensures, c.loop-place-test.false) in
+    let all : cut_count c.args.matrix.now.threads ≤ c.loop-place.place = omega (arith, c.count_cuts-cuts.ensures, c.loop-place-test.false) in
     subst (λ (x : Limits). c.loop-place.so_far ≡ Clear → IsWithoutOffence c.args.component.now c.args.matrix.now x.serial) (sym c.of-limits.ensures.limits)
     (none_offends c.args.component.now c.args.matrix.now (limits_of c.args.options c.args.nodes) c.loop-place.place c.loop-place.so_far all c.loop-place.invariant.known)
 
 pub returns-clause-certificate : goal.returns-clause-certificate
 returns-clause-certificate g c =
-    let all : cut_count c.args.matrix.now.threads ≤ c.loop-place.place = omega (arith, c.count_cuts-end.ensures, c.loop-place-test.false) in
+    let all : cut_count c.args.matrix.now.threads ≤ c.loop-place.place = omega (arith, c.count_cuts-cuts.ensures, c.loop-place-test.false) in
     concluded c.args.component.now c.args.matrix.now (limits_of c.args.options c.args.nodes) c.loop-place.place c.loop-place.so_far all c.loop-place.invariant.none c.loop-place.invariant.known c.in_ok-conclude.field-0 c.in_ok-conclude.ensures
 
 pub returns-clause-decides : goal.returns-clause-decides
 returns-clause-decides g c =
-    let all : cut_count c.args.matrix.now.threads ≤ c.loop-place.place = omega (arith, c.count_cuts-end.ensures, c.loop-place-test.false) in
+    let all : cut_count c.args.matrix.now.threads ≤ c.loop-place.place = omega (arith, c.count_cuts-cuts.ensures, c.loop-place-test.false) in
     decided c.args.component.now c.args.matrix.now (limits_of c.args.options c.args.nodes) c.requires.settles c.in_ok-conclude.field-0
     (concluded c.args.component.now c.args.matrix.now (limits_of c.args.options c.args.nodes) c.loop-place.place c.loop-place.so_far all c.loop-place.invariant.none c.loop-place.invariant.known c.in_ok-conclude.field-0 c.in_ok-conclude.ensures)
 
 pub returns-clause-of : goal.returns-clause-of
 returns-clause-of g c =
-    let all : cut_count c.args.matrix.now.threads ≤ c.loop-place.place = omega (arith, c.count_cuts-end.ensures, c.loop-place-test.false) in
+    let all : cut_count c.args.matrix.now.threads ≤ c.loop-place.place = omega (arith, c.count_cuts-cuts.ensures, c.loop-place-test.false) in
     names_cut c.args.component.now c.args.matrix.now (limits_of c.args.options c.args.nodes) c.in_ok-conclude.field-0 c.requires.of
     (concluded c.args.component.now c.args.matrix.now (limits_of c.args.options c.args.nodes) c.loop-place.place c.loop-place.so_far all c.loop-place.invariant.none c.loop-place.invariant.known c.in_ok-conclude.field-0 c.in_ok-conclude.ensures)

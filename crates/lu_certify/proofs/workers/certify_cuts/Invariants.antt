@@ -1,6 +1,6 @@
 use Rattle.lu_certify.specs.Certificates.{limits_of}
 use Rattle.lu_certify.proofs.Rounds.{IsKnown, NoneFailsBefore}
-use Rattle.lu_certify.proofs.workers.certify_by_workers.Given as goal
+use Rattle.lu_certify.proofs.workers.certify_cuts.Given as goal
 
 abbrev pub invariant-loop-place : goal.invariant-loop-place
 invariant-loop-place g l = record {
