@@ -1,8 +1,10 @@
-//! The program `lineup`: its arguments, standard input and output, and the exit status.
+//! The program `lineup`: its arguments, standard input and output, and the exit status. On a
+//! terminal it shows on standard error how far a certificate has come.
 #![tactic(auto)]
 
-use lu_cli::{Counted, run};
+use lu_cli::{Counted, Terminal, run_with_progress};
 use std::io;
+use std::io::IsTerminal;
 use std::process::ExitCode;
 
 /// Prints a refusal, and returns its status, or 4 where it could not be printed.
@@ -25,7 +27,8 @@ fn main(rt: HostRuntime) -> ExitCode {
         Ok(words) => words,
         Err(_) => return refuse(&rt, "refused memory\n", 4),
     };
+    let terminal = Terminal::new(&rt, !rt.stderr().is_terminal());
     let mut input = Counted::new(rt.reader());
     let mut output = Counted::new(io::writer(&rt));
-    ExitCode::from(run(&rt, &words, &mut input, &mut output))
+    ExitCode::from(run_with_progress(&rt, &terminal, &words, &mut input, &mut output))
 }

@@ -10,9 +10,9 @@ use crate::answer::{Answer, show_certificate};
 use crate::refusal::Refusal;
 use crate::request::CertifyOptions;
 use crate::texts::read_texts;
-use lu_certify::Limits;
+use lu_certify::{Limits, Progress};
 use lu_component::Component;
-use lu_grain::{certify_longer, certify_longer_by_workers};
+use lu_grain::{certify_longer, certify_longer_with_progress};
 use lu_parallel::OpenGate;
 use lu_test::Matrix;
 use lu_text::exactly_two;
@@ -30,8 +30,9 @@ fn certified_local(asked: CertifyOptions, component: &Component) -> u8
 }
 
 /// What the checks of all cuts of the matrix say.
-fn certify_matrix<X: AllocGlobal + Threads + Wait>(
+fn certify_matrix<X: AllocGlobal + Threads + Wait, P: Progress>(
     rt: &X,
+    progress: &P,
     component: &Component,
     matrix: &Matrix,
     asked: CertifyOptions,
@@ -41,10 +42,11 @@ fn certify_matrix<X: AllocGlobal + Threads + Wait>(
 {
     let local = certified_local(asked, component);
     let (alloc, options) = (rt.alloc(), asked.options);
-    let certificate = certify_longer_by_workers(
+    let certificate = certify_longer_with_progress(
         rt,
         alloc,
         &OpenGate,
+        progress,
         component,
         matrix,
         local,
@@ -54,9 +56,10 @@ fn certify_matrix<X: AllocGlobal + Threads + Wait>(
     Ok(show_certificate(alloc, component, &certificate)?)
 }
 
-/// `lineup certify`: component and matrix.
-pub(crate) fn answer_certify<X: AllocGlobal + Threads + Wait>(
+/// `lineup certify`: component and matrix. It tells meanwhile how far it has come.
+pub(crate) fn answer_certify<X: AllocGlobal + Threads + Wait, P: Progress>(
     rt: &X,
+    progress: &P,
     asked: CertifyOptions,
     parts: &[&[u8]],
 ) -> Result<Answer, Refusal>
@@ -64,7 +67,7 @@ pub(crate) fn answer_certify<X: AllocGlobal + Threads + Wait>(
 {
     let (component, matrix) = exactly_two(parts).ok_or(Refusal::Parts)?;
     let case = read_texts(rt.alloc(), component, matrix)?;
-    certify_matrix(rt, &case.component, &case.matrix, asked)
+    certify_matrix(rt, progress, &case.component, &case.matrix, asked)
 }
 
 /// What the checks of all cuts of the matrix say, made on the calling thread.

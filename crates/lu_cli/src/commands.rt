@@ -25,6 +25,7 @@ use crate::serial::answer_serial;
 use crate::shown::answer_shown;
 use crate::shrink::answer_shrink;
 use crate::spec::answer_spec;
+use lu_certify::Progress;
 use std::alloc::Global;
 use std::sync::Wait;
 use std::thread::Threads;
@@ -63,9 +64,11 @@ pub(crate) fn carry_out_alone(
     }
 }
 
-/// The answer to a command and the parts of a bundle, or why it is refused.
-pub(crate) fn carry_out<X: AllocGlobal + Threads + Wait>(
+/// The answer to a command and the parts of a bundle, or why it is refused. A certificate tells
+/// meanwhile how far it has come.
+pub(crate) fn carry_out<X: AllocGlobal + Threads + Wait, P: Progress>(
     rt: &X,
+    progress: &P,
     command: BundleCommand,
     parts: &[&[u8]],
 ) -> Result<Answer, Refusal>
@@ -74,7 +77,7 @@ pub(crate) fn carry_out<X: AllocGlobal + Threads + Wait>(
     match command {
         BundleCommand::Check(options) => answer_check(rt, options, parts),
         BundleCommand::CheckAgainst(options) => answer_check_against(rt, options, parts),
-        BundleCommand::Certify(asked) => answer_certify(rt, asked, parts),
+        BundleCommand::Certify(asked) => answer_certify(rt, progress, asked, parts),
         _ => carry_out_alone(rt.alloc(), command, parts),
     }
 }

@@ -31,6 +31,7 @@ mod shown;
 mod shrink;
 mod spec;
 mod table;
+mod terminal;
 mod texts;
 mod told;
 mod trace;
@@ -39,9 +40,11 @@ pub use answer::Answer;
 pub use args::read_request;
 pub use compiling::strings_of;
 pub use counted::Counted;
-pub use program::{answer_alone, answer_request, run};
+pub use lu_certify::{Progress, Untold};
+pub use program::{answer_alone, answer_request, run, run_with_progress};
 pub use request::{
     ArgsFault, BundleCommand, CampaignOptions, CampaignPart, CampaignThreads, CertifyOptions,
     Request, Showing, TraceStart,
 };
+pub use terminal::Terminal;
 pub use texts::{Case, Fault, check_texts, check_texts_against, read_texts};

@@ -19,6 +19,7 @@ use crate::linting::answer_lint;
 use crate::output::write_text;
 use crate::refusal::or_refusal;
 use crate::request::{ArgsFault, BundleCommand, Request};
+use lu_certify::{Progress, Untold};
 use lu_report::Bounds;
 use lu_text::bundle_parts;
 use std::alloc::{AllocError, Global};
@@ -46,8 +47,9 @@ impl From<AllocError> for Failure {
 }
 
 /// The answer to a request, and to a bundle that is not too long.
-fn answer_bundle<X: AllocGlobal + Threads + Wait>(
+fn answer_bundle<X: AllocGlobal + Threads + Wait, P: Progress>(
     rt: &X,
+    progress: &P,
     request: Request,
     bundle: &[u8],
 ) -> Result<Answer, AllocError>
@@ -59,14 +61,15 @@ fn answer_bundle<X: AllocGlobal + Threads + Wait>(
         Request::Lint(bounds) => answer_lint(rt.alloc(), bounds, bundle),
         Request::Bundle(command) => {
             let parts = bundle_parts(rt.alloc(), bundle)?;
-            or_refusal(rt.alloc(), carry_out(rt, command, &parts))
+            or_refusal(rt.alloc(), carry_out(rt, progress, command, &parts))
         }
     }
 }
 
 /// The answer to a request, and to what is read for it.
-fn answer_read<X: AllocGlobal + Threads + Wait, R: Read>(
+fn answer_read<X: AllocGlobal + Threads + Wait, P: Progress, R: Read>(
     rt: &X,
+    progress: &P,
     request: Request,
     input: &mut Counted<R>,
 ) -> Result<Answer, Failure>
@@ -77,7 +80,7 @@ fn answer_read<X: AllocGlobal + Threads + Wait, R: Read>(
     ensures unfailed { IsErrOf result Failure.Device ⊎ IsUnfailed input.old input.new }
 {
     match read_input(rt.alloc(), input) {
-        Ok(bundle) => Ok(answer_bundle(rt, request, &bundle)?),
+        Ok(bundle) => Ok(answer_bundle(rt, progress, request, &bundle)?),
         Err(InputFault::TooLong) => Ok(refused(rt.alloc(), "B2")?),
         Err(InputFault::Device) => Err(Failure::Device),
         Err(InputFault::Memory) => Err(Failure::Memory),
@@ -85,8 +88,9 @@ fn answer_read<X: AllocGlobal + Threads + Wait, R: Read>(
 }
 
 /// The answer to what is asked for, and to what is read for it: for the help nothing is read.
-fn answer_in<X: AllocGlobal + Threads + Wait, R: Read>(
+fn answer_in<X: AllocGlobal + Threads + Wait, P: Progress, R: Read>(
     rt: &X,
+    progress: &P,
     request: Request,
     input: &mut Counted<R>,
 ) -> Result<Answer, Failure>
@@ -98,13 +102,14 @@ fn answer_in<X: AllocGlobal + Threads + Wait, R: Read>(
 {
     match request {
         Request::Help => Ok(answer_help(rt.alloc())?),
-        Request::Lint(_) | Request::Bundle(_) => answer_read(rt, request, input),
+        Request::Lint(_) | Request::Bundle(_) => answer_read(rt, progress, request, input),
     }
 }
 
 /// The answer to the words of a command line and to what is read for them.
-fn answer_for<X: AllocGlobal + Threads + Wait, S: AsStr, R: Read>(
+fn answer_for<X: AllocGlobal + Threads + Wait, P: Progress, S: AsStr, R: Read>(
     rt: &X,
+    progress: &P,
     words: &[S],
     input: &mut Counted<R>,
 ) -> Result<Answer, Failure>
@@ -118,7 +123,7 @@ fn answer_for<X: AllocGlobal + Threads + Wait, S: AsStr, R: Read>(
     ensures unfailed { IsErrOf result Failure.Device ⊎ IsUnfailed input.old input.new }
 {
     match read_request(rt.alloc(), words) {
-        Ok(request) => answer_in(rt, request, input),
+        Ok(request) => answer_in(rt, progress, request, input),
         Err(ArgsFault::Refused) => Ok(refuse_command(rt.alloc())?),
         Err(ArgsFault::Memory) => Err(Failure::Memory),
     }
@@ -137,8 +142,10 @@ fn refuse_command(alloc: Global) -> Result<Answer, AllocError>
 /// memory, the start of a worker's thread or a device failed. No call of the reader or the writer
 /// that failed is tried again; both counts of failures have to be below 2^64 - 1. A check with two
 /// workers or more waits for them.
-pub fn run<X: AllocGlobal + Threads + Wait, S: AsStr, R: Read, W: Write>(
+/// A certificate tells `progress` meanwhile how far it has come.
+pub fn run_with_progress<X: AllocGlobal + Threads + Wait, P: Progress, S: AsStr, R: Read, W: Write>(
     rt: &X,
+    progress: &P,
     words: &[S],
     input: &mut Counted<R>,
     output: &mut Counted<W>,
@@ -160,11 +167,31 @@ pub fn run<X: AllocGlobal + Threads + Wait, S: AsStr, R: Read, W: Write>(
     // And it is told only then.
     ensures blamed { TellsElse W.contents input output result }
 {
-    match answer_for(rt, words, input) {
+    match answer_for(rt, progress, words, input) {
         Ok(answer) => say(output, answer.text.as_str(), answer.status),
         Err(Failure::Memory) => say(output, "refused memory\n", 4),
         Err(Failure::Device) => say(output, "refused device\n", 4),
     }
+}
+
+/// As [`run_with_progress`], where nobody is told how far a certificate has come.
+pub fn run<X: AllocGlobal + Threads + Wait, S: AsStr, R: Read, W: Write>(
+    rt: &X,
+    words: &[S],
+    input: &mut Counted<R>,
+    output: &mut Counted<W>,
+) -> u8
+    requires reads { input.old.failures < 2 ^ 64 - 1 }
+    requires writes { output.old.failures < 2 ^ 64 - 1 }
+    ensures answer { SaysAnswer S.text words.now R.remaining input W.contents output result }
+    ensures refused { SaysNoCommand S.text words.now W.contents output result }
+    ensures early { request_said S.text words.now ≡ None → input.new ≡ input.old }
+    ensures idle { request_said S.text words.now ≡ Some Help → input.new ≡ input.old }
+    ensures unwritten { output.old.failures < output.new.failures → result ≡ 4 }
+    ensures unread { TellsUnread W.contents input output result }
+    ensures blamed { TellsElse W.contents input output result }
+{
+    run_with_progress(rt, &Untold, words, input, output)
 }
 
 /// Writes a text, and returns this status, or 4 where a write failed.

@@ -2,7 +2,7 @@ use Rattle.std.proofs.Common.{◌≡◌, ◌<◌, Err, inr, refl, ap, ◌∙◌,
 use Rattle.lu_cli.specs.Outcomes.{Answer, no_memory}
 use Rattle.lu_cli.specs.Program.{IsAnswerToRead}
 use Rattle.lu_cli.proofs.Sayings.{memory_else, said, said_else, words_else}
-use Rattle.lu_cli.proofs.program.run.Goals as goal
+use Rattle.lu_cli.proofs.program.run_with_progress.Goals as goal
 
 pub returns-in-Ok-clause-answer : goal.returns-in-Ok-clause-answer
 returns-in-Ok-clause-answer g c = λ request e reads writes.
