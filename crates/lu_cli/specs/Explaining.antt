@@ -7,6 +7,7 @@ use Rattle.lu_test.specs.declared.schedule.Move.{Move}
 use Rattle.lu_test.specs.declared.schedule_fault.ScheduleFault.{ScheduleFault}
 use Rattle.lu_test.specs.ScheduleText.{schedule_of, IsScheduleUnlessMemory}
 use Rattle.lu_test.specs.Matrix.{Matrix}
+use Rattle.lu_machine.specs.declared.test.Test.{Test}
 use Rattle.lu_report.specs.Parts.{Report}
 use Rattle.lu_report.specs.declared.fault.ReportFaultKind.{ReportFaultKind}
 use Rattle.lu_report.specs.Forms.{Spells, IsFault}
@@ -74,9 +75,9 @@ IsExplainedText by limits c m text =
     ToTarget text (λ t. IsExplainedSerially by (limits_for limits t) c m t)
 
 -- the results are so
-abbrev pub ExplainsText : Presenting → Bounds → Component → Matrix → List ℕ
-    → Result Answer Refusal → Type 0
-ExplainsText by limits c m text = Answered (IsExplainedText by limits c m text)
+abbrev pub ExplainsText : Presenting → Bounds → Test → List ℕ → Result Answer Refusal → Type 0
+ExplainsText by limits test text =
+    Answered (IsExplainedText by limits test.component.now test.matrix.now text)
 
 abbrev pub IsExplainAfter : Presentation → Bounds → List (List ℕ) → Answer → Type 0
 IsExplainAfter by limits parts =
@@ -97,9 +98,9 @@ abbrev pub IsExplainedAgainstText : Wording → Component → Matrix → List �
 IsExplainedAgainstText how c m text spec =
     ToTarget text (λ t. ToGiven m spec (λ members. IsExplainedTarget (in_words Words how) members c m t))
 
-abbrev pub ExplainsAgainst : Wording → Component → Matrix → List ℕ → List ℕ
-    → Result Answer Refusal → Type 0
-ExplainsAgainst how c m text spec = Answered (IsExplainedAgainstText how c m text spec)
+abbrev pub ExplainsAgainst : Wording → Test → List ℕ → List ℕ → Result Answer Refusal → Type 0
+ExplainsAgainst how test text spec =
+    Answered (IsExplainedAgainstText how test.component.now test.matrix.now text spec)
 
 abbrev pub IsAnswerToExplainAgainst : List (List ℕ) → Answer → Type 0
 IsAnswerToExplainAgainst parts =

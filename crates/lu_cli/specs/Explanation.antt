@@ -7,6 +7,7 @@ use Rattle.lu_test.specs.Matrix.{Matrix}
 use Rattle.lu_machine.specs.declared.event.Event.{Event}
 use Rattle.lu_machine.specs.declared.event.Status.{Status}
 use Rattle.lu_machine.specs.States.{State}
+use Rattle.lu_machine.specs.declared.test.Test.{Test}
 use Rattle.lu_machine.specs.Starts.{FromEachStart, IsStart}
 use Rattle.lu_history.specs.declared.serial.SerialOp.{SerialOp}
 use Rattle.lu_serial.specs.Offences.{IsSetOf}
@@ -146,49 +147,55 @@ IsExplainedSerially by limits c m explained =
     BySerialRuns c m limits.serial (λ members. IsExplainedTarget by members c m explained)
 
 -- so it is of the result, where there is one
-abbrev pub ExplainsSerially : {E : Type 0} → Presenting → Bounds → Component → Matrix → Target
+abbrev pub ExplainsSerially : {E : Type 0} → Presenting → Bounds → Test → Target
     → Result Answer E → Type 0
-ExplainsSerially by limits c m explained result =
-    IfOk result (IsExplainedSerially by limits c m explained)
+ExplainsSerially by limits test explained result =
+    IfOk result (IsExplainedSerially by limits test.component.now test.matrix.now explained)
 
 -- ---- by the serial histories of a tree, which `members` gives
 
 -- the schedule leads to what is shown
-abbrev pub IsPlayed : Component → Matrix → ShownSchedule → Type 0
-IsPlayed c m run = PlaysToStatus c m run.schedule.now run.shown.now.history run.shown.now.status
+abbrev pub IsPlayed : Test → ShownSchedule → Type 0
+IsPlayed test run =
+    PlaysToStatus test.component.now test.matrix.now run.schedule.now run.shown.now.history
+    run.shown.now.status
 
 -- the answer, where there is one, explains the history of an ended schedule
-abbrev pub ExplainsRun : {T E : Type 0} → (T → List (List SerialOp)) → T → Component → Matrix
-    → ShownSchedule → Result Answer E → Type 0
-ExplainsRun members tree c m run result =
-    IfOk result (IsExplainedHistory (members tree) c m run.schedule.now run.shown.now.history)
+abbrev pub ExplainsRun : {T E : Type 0} → (T → List (List SerialOp)) → T → Test → ShownSchedule
+    → Result Answer E → Type 0
+ExplainsRun members tree test run result =
+    IfOk result (IsExplainedHistory (members tree) test.component.now test.matrix.now
+    run.schedule.now run.shown.now.history)
 
 -- it is a picture of it in these words
-abbrev pub PicturesRun : {T E : Type 0} → Wording → (T → List (List SerialOp)) → T → Component
-    → Matrix → ShownSchedule → Result Answer E → Type 0
-PicturesRun how members tree c m run result =
-    IfOk result (IsPicturedHistory how (members tree) c m run.schedule.now run.shown.now.history)
+abbrev pub PicturesRun : {T E : Type 0} → Wording → (T → List (List SerialOp)) → T → Test
+    → ShownSchedule → Result Answer E → Type 0
+PicturesRun how members tree test run result =
+    IfOk result (IsPicturedHistory how (members tree) test.component.now test.matrix.now
+    run.schedule.now run.shown.now.history)
 
 -- it presents it so
-abbrev pub Presents : {T E : Type 0} → Presenting → (T → List (List SerialOp)) → T → Component
-    → Matrix → ShownSchedule → Result Answer E → Type 0
-Presents by members tree c m run result =
-    IfOk result (IsPresentedHistory by (members tree) c m run.schedule.now run.shown.now.history)
+abbrev pub Presents : {T E : Type 0} → Presenting → (T → List (List SerialOp)) → T → Test
+    → ShownSchedule → Result Answer E → Type 0
+Presents by members tree test run result =
+    IfOk result (IsPresentedHistory by (members tree) test.component.now test.matrix.now
+    run.schedule.now run.shown.now.history)
 
 -- it explains a schedule
-abbrev pub ExplainsSchedule : {T E : Type 0} → Presenting → (T → List (List SerialOp)) → T
-    → Component → Matrix → List Move → Result Answer E → Type 0
-ExplainsSchedule by members tree c m u result =
-    IfOk result (IsExplainedSchedule by (members tree) c m u)
+abbrev pub ExplainsSchedule : {T E : Type 0} → Presenting → (T → List (List SerialOp)) → T → Test
+    → List Move → Result Answer E → Type 0
+ExplainsSchedule by members tree test u result =
+    IfOk result (IsExplainedSchedule by (members tree) test.component.now test.matrix.now u)
 
 -- the schedule of a finding
-abbrev pub ExplainsFinding : {T E : Type 0} → Presenting → (T → List (List SerialOp)) → T
-    → Component → Matrix → Finding → Result Answer E → Type 0
-ExplainsFinding by members tree c m f result =
-    IfOk result (ToFinding (IsExplainedSchedule by (members tree) c m) f)
+abbrev pub ExplainsFinding : {T E : Type 0} → Presenting → (T → List (List SerialOp)) → T → Test
+    → Finding → Result Answer E → Type 0
+ExplainsFinding by members tree test f result =
+    IfOk result (ToFinding
+    (IsExplainedSchedule by (members tree) test.component.now test.matrix.now) f)
 
 -- a schedule, or that of a report
-abbrev pub ExplainsTarget : {T E : Type 0} → Presenting → (T → List (List SerialOp)) → T
-    → Component → Matrix → Target → Result Answer E → Type 0
-ExplainsTarget by members tree c m explained result =
-    IfOk result (IsExplainedTarget by (members tree) c m explained)
+abbrev pub ExplainsTarget : {T E : Type 0} → Presenting → (T → List (List SerialOp)) → T → Test
+    → Target → Result Answer E → Type 0
+ExplainsTarget by members tree test explained result =
+    IfOk result (IsExplainedTarget by (members tree) test.component.now test.matrix.now explained)

@@ -5,6 +5,7 @@ use Rattle.lu_text.specs.Words.{exactly_two}
 use Rattle.lu_component.specs.Component.{Component}
 use Rattle.lu_test.specs.declared.schedule.Move.{Move}
 use Rattle.lu_test.specs.Matrix.{Matrix}
+use Rattle.lu_machine.specs.declared.test.Test.{Test}
 use Rattle.lu_machine.specs.Starts.{CanRun}
 use Rattle.lu_report.specs.declared.report.Finding.{Finding}
 use Rattle.lu_report.specs.Parts.{Report, shown_schedule}
@@ -41,6 +42,12 @@ failure text = record { text = text; status = 1 }
 abbrev pub IsFindingExplained : Presenting → Component → Matrix → Finding → Answer → Type 0
 IsFindingExplained by c m f =
     BySerialRuns c m most_moves (λ members. ToFinding (IsExplainedSchedule by members c m) f)
+
+-- so it is of the result, where there is one
+abbrev pub ExplainsFindingSerially : {E : Type 0} → Presenting → Test → Finding
+    → Result Answer E → Type 0
+ExplainsFindingSerially by test f result =
+    IfOk result (IsFindingExplained by test.component.now test.matrix.now f)
 
 -- in these words, or by marks in a picture
 abbrev pub in_words : Presentation → Wording → Presenting

@@ -2,7 +2,6 @@
 
 ghost use Rattle.std.specs.Prelude.{◌<◌, ◌≡◌, IfErr, IfOk};
 ghost use Rattle.lu_text.specs.Lines.{texts};
-ghost use Rattle.lu_machine.specs.Starts.{CanRun};
 ghost use Rattle.lu_cli.specs.Refusals.{Answered};
 ghost use Rattle.lu_cli.specs.Explaining as spec;
 ghost use Rattle.lu_cli.specs.Explaining.{ExplainsAgainst, ExplainsText, IsAnswerToExplainAgainst, IsExplainAfter, IsAnswerToExplain, IsTarget, IsTargetRefusal, view_of as spec_of_view};
@@ -13,10 +12,10 @@ use crate::failing::{View, answer_failing};
 use crate::refusal::Refusal;
 use crate::shown::shown_parts;
 use crate::told::read_told;
-use lu_component::Component;
+use lu_machine::Test;
 use lu_report::{Bounds, read_report};
 use lu_spec::read_given_spec;
-use lu_test::{Matrix, read_schedule};
+use lu_test::read_schedule;
 use lu_text::{exactly_four, exactly_two};
 use lu_trace::Wording;
 use std::alloc::Global;
@@ -79,7 +78,11 @@ fn explain_after(
     let told = read_told(alloc, component, matrix)?;
     let how = told.wording();
     let by = Presenting { by, how };
-    explain_text(alloc, &told.component, &told.matrix, bounds, target, by)
+    let test = Test {
+        component: &told.component,
+        matrix: &told.matrix,
+    };
+    explain_text(alloc, test, bounds, target, by)
 }
 
 /// The bounds by which it is explained: a report has its own bound of serial runs.
@@ -98,40 +101,36 @@ fn bounds_for(bounds: Bounds, target: &Target) -> Bounds
 /// The text of a schedule or of a report, explained by the serial runs.
 fn explain_text(
     alloc: Global,
-    component: &Component,
-    matrix: &Matrix,
+    test: Test<'_>,
     bounds: Bounds,
     target: &[u8],
     by: Presenting<'_>,
 ) -> Result<Answer, Refusal>
-    requires { CanRun component.now matrix.now }
-    ensures { ExplainsText by.entry bounds component.now matrix.now target.now result }
+    ensures { ExplainsText by.entry bounds test.entry target.now result }
 {
     let target = read_target(alloc, target)?;
     let bounds = bounds_for(bounds, &target);
-    Ok(explain_serially(alloc, component, matrix, bounds, &target, by)?)
+    Ok(explain_serially(alloc, test, bounds, &target, by)?)
 }
 
 /// The text of a schedule or of a report, explained by a specification.
 fn explain_against(
     alloc: Global,
     how: Wording<'_>,
-    component: &Component,
-    matrix: &Matrix,
+    test: Test<'_>,
     target: &[u8],
     spec: &[u8],
 ) -> Result<Answer, Refusal>
-    requires { CanRun component.now matrix.now }
-    ensures { ExplainsAgainst how.entry component.now matrix.now target.now spec.now result }
+    ensures { ExplainsAgainst how.entry test.entry target.now spec.now result }
 {
     let target = read_target(alloc, target)?;
-    let specification = read_given_spec(alloc, matrix, spec)?;
+    let specification = read_given_spec(alloc, test.matrix, spec)?;
     let tree = &specification.tree();
     let by = Presenting {
         by: Presentation::Words,
         how,
     };
-    Ok(explain(alloc, component, matrix, tree, &target, by)?)
+    Ok(explain(alloc, test, tree, &target, by)?)
 }
 
 /// `lineup explain --spec`: component, matrix, a schedule or a report, and specification.
@@ -141,12 +140,9 @@ pub(crate) fn answer_explain_against(alloc: Global, parts: &[&[u8]]) -> Result<A
     let (component, matrix, target, specification) = exactly_four(parts).ok_or(Refusal::Parts)?;
     let told = read_told(alloc, component, matrix)?;
     let how = told.wording();
-    explain_against(
-        alloc,
-        how,
-        &told.component,
-        &told.matrix,
-        target,
-        specification,
-    )
+    let test = Test {
+        component: &told.component,
+        matrix: &told.matrix,
+    };
+    explain_against(alloc, how, test, target, specification)
 }

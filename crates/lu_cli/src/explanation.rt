@@ -1,23 +1,21 @@
 //! Why the history of a schedule has no serial witness.
 
 ghost use Rattle.std.specs.Prelude.{◌<◌, ◌≡◌, IfOk};
-ghost use Rattle.lu_machine.specs.Starts.{CanRun};
 ghost use Rattle.lu_report.specs.Parts.{IsOfOffence};
 ghost use Rattle.lu_test.specs.ScheduleText.{schedule_text};
-ghost use Rattle.lu_cli.specs.Failing.{IsFindingExplained};
+ghost use Rattle.lu_cli.specs.Failing.{ExplainsFindingSerially};
 ghost use Rattle.lu_cli.specs.Explanation as spec;
 ghost use Rattle.lu_cli.specs.Explanation.{ExplainsFinding, ExplainsRun, ExplainsSchedule, ExplainsSerially, ExplainsTarget, IsLeastPending, IsPlayed, IsShownExplanation, IsShownThread, PicturesRun, Presents};
 
 use crate::answer::{Answer, infeasible};
 use crate::drawing::draw;
-use lu_component::Component;
 use lu_explain::{Explanation, event_moves, explain as explain_history, write_explanations};
 use lu_history::{History, HistoryFault};
-use lu_machine::Status;
+use lu_machine::{Status, Test};
 use lu_replay::{Replay, ReplayFault, replay, set_or_offence};
 use lu_report::{Bounds, Finding, MOST_MOVES, Report};
 use lu_serial::learn;
-use lu_test::{Matrix, Schedule, write_schedule};
+use lu_test::{Schedule, write_schedule};
 use lu_trace::Wording;
 use lu_trie::SerialTree;
 use lu_witness::{Verdict, verdict};
@@ -88,15 +86,14 @@ struct ShownSchedule<'a> {
 /// The history of an ended schedule, explained by the serial histories of a tree.
 fn explain_by<T: SerialTree>(
     alloc: Global,
-    component: &Component,
-    matrix: &Matrix,
+    test: Test<'_>,
     tree: &T,
     run: ShownSchedule<'_>,
 ) -> Result<Answer, AllocError>
-    requires run { CanRun component.now matrix.now }
-    requires shows { IsPlayed component.now matrix.now run }
-    ensures { ExplainsRun T.members tree.now component.now matrix.now run.entry result }
+    requires { IsPlayed test run }
+    ensures { ExplainsRun T.members tree.now test.entry run.entry result }
 {
+    let Test { component, matrix } = test;
     let ShownSchedule { schedule, shown } = run;
     let moves = event_moves(alloc, component, matrix, schedule)?;
     let text = write_explanations(alloc, component, matrix, tree, &shown.history, &moves)?;
@@ -144,14 +141,13 @@ fn explanation_shown<T: SerialTree>(tree: &T, history: &History) -> Result<Expla
 fn picture_by<T: SerialTree>(
     alloc: Global,
     how: Wording<'_>,
-    component: &Component,
-    matrix: &Matrix,
+    test: Test<'_>,
     tree: &T,
     run: ShownSchedule<'_>,
 ) -> Result<Answer, AllocError>
-    requires { CanRun component.now matrix.now }
-    ensures { PicturesRun how.entry T.members tree.now component.now matrix.now run.entry result }
+    ensures { PicturesRun how.entry T.members tree.now test.entry run.entry result }
 {
+    let Test { component, matrix } = test;
     let ShownSchedule { schedule, shown } = run;
     let explanation = explanation_shown(tree, &shown.history)?;
     draw(alloc, how, component, matrix, schedule, Some(&explanation))
@@ -160,19 +156,17 @@ fn picture_by<T: SerialTree>(
 /// The history of an ended schedule, explained in words or in a picture.
 fn present<T: SerialTree>(
     alloc: Global,
-    component: &Component,
-    matrix: &Matrix,
+    test: Test<'_>,
     tree: &T,
     run: ShownSchedule<'_>,
     by: Presenting<'_>,
 ) -> Result<Answer, AllocError>
-    requires of { CanRun component.now matrix.now }
-    requires shows { IsPlayed component.now matrix.now run }
-    ensures { Presents by.entry T.members tree.now component.now matrix.now run.entry result }
+    requires { IsPlayed test run }
+    ensures { Presents by.entry T.members tree.now test.entry run.entry result }
 {
     match by.by {
-        Presentation::Words => explain_by(alloc, component, matrix, tree, run),
-        Presentation::Picture => picture_by(alloc, by.how, component, matrix, tree, run),
+        Presentation::Words => explain_by(alloc, test, tree, run),
+        Presentation::Picture => picture_by(alloc, by.how, test, tree, run),
     }
 }
 
@@ -192,28 +186,19 @@ fn tell_offence(alloc: Global, finding: &Finding) -> Result<Answer, AllocError>
 /// A schedule, explained by the serial histories of a tree, or where it is infeasible.
 fn explain_schedule<T: SerialTree>(
     alloc: Global,
-    component: &Component,
-    matrix: &Matrix,
+    test: Test<'_>,
     tree: &T,
     schedule: &Schedule,
     by: Presenting<'_>,
 ) -> Result<Answer, AllocError>
-    requires { CanRun component.now matrix.now }
-    ensures { ExplainsSchedule by.entry T.members tree.now component.now matrix.now schedule.now result }
+    ensures { ExplainsSchedule by.entry T.members tree.now test.entry schedule.now result }
 {
-    match replay(alloc, component, matrix, schedule) {
+    match replay(alloc, test.component, test.matrix, schedule) {
         Ok(shown) => match shown.status {
             Status::Running => say(alloc, "running", ""),
             Status::Complete | Status::Stuck => {
                 let shown = &shown;
-                present(
-                    alloc,
-                    component,
-                    matrix,
-                    tree,
-                    ShownSchedule { schedule, shown },
-                    by,
-                )
+                present(alloc, test, tree, ShownSchedule { schedule, shown }, by)
             }
         },
         Err(ReplayFault::Infeasible(index)) => infeasible(alloc, index),
@@ -224,21 +209,17 @@ fn explain_schedule<T: SerialTree>(
 /// The schedule of a finding, explained by the serial histories of a tree, where it is a failure.
 fn explain_finding<T: SerialTree>(
     alloc: Global,
-    component: &Component,
-    matrix: &Matrix,
+    test: Test<'_>,
     tree: &T,
     finding: &Finding,
     by: Presenting<'_>,
 ) -> Result<Answer, AllocError>
-    requires { CanRun component.now matrix.now }
-    ensures { ExplainsFinding by.entry T.members tree.now component.now matrix.now finding.now result }
+    ensures { ExplainsFinding by.entry T.members tree.now test.entry finding.now result }
 {
     match finding {
         Finding::SerialCut(schedule) => say_with(alloc, "serial-cut", schedule),
         Finding::Nondeterministic { schedule, .. } => say_with(alloc, "nondeterministic", schedule),
-        Finding::Fail { schedule, .. } => {
-            explain_schedule(alloc, component, matrix, tree, schedule, by)
-        }
+        Finding::Fail { schedule, .. } => { explain_schedule(alloc, test, tree, schedule, by) }
         Finding::Pass(_) => say(alloc, "pass", ""),
     }
 }
@@ -246,22 +227,16 @@ fn explain_finding<T: SerialTree>(
 /// A schedule or that of a report, explained by the serial histories of a tree.
 pub(crate) fn explain<T: SerialTree>(
     alloc: Global,
-    component: &Component,
-    matrix: &Matrix,
+    test: Test<'_>,
     tree: &T,
     target: &Target,
     by: Presenting<'_>,
 ) -> Result<Answer, AllocError>
-    requires { CanRun component.now matrix.now }
-    ensures { ExplainsTarget by.entry T.members tree.now component.now matrix.now target.now result }
+    ensures { ExplainsTarget by.entry T.members tree.now test.entry target.now result }
 {
     match target {
-        Target::Schedule(schedule) => {
-            explain_schedule(alloc, component, matrix, tree, schedule, by)
-        }
-        Target::Report(report) => {
-            explain_finding(alloc, component, matrix, tree, report.finding(), by)
-        }
+        Target::Schedule(schedule) => { explain_schedule(alloc, test, tree, schedule, by) }
+        Target::Report(report) => { explain_finding(alloc, test, tree, report.finding(), by) }
     }
 }
 
@@ -269,16 +244,14 @@ pub(crate) fn explain<T: SerialTree>(
 /// that one of these offends.
 pub(crate) fn explain_finding_serially(
     alloc: Global,
-    component: &Component,
-    matrix: &Matrix,
+    test: Test<'_>,
     finding: &Finding,
     by: Presenting<'_>,
 ) -> Result<Answer, AllocError>
-    requires { CanRun component.now matrix.now }
-    ensures { IfOk result (IsFindingExplained by.entry component.now matrix.now finding.now) }
+    ensures { ExplainsFindingSerially by.entry test.entry finding.now result }
 {
-    match set_or_offence(learn(alloc, alloc, component, matrix, MOST_MOVES)?) {
-        Ok(set) => explain_finding(alloc, component, matrix, &&set, finding, by),
+    match set_or_offence(learn(alloc, alloc, test.component, test.matrix, MOST_MOVES)?) {
+        Ok(set) => explain_finding(alloc, test, &&set, finding, by),
         Err(offence) => tell_offence(alloc, &offence),
     }
 }
@@ -286,17 +259,15 @@ pub(crate) fn explain_finding_serially(
 /// A schedule or that of a report, explained by the serial runs, or that one of these offends.
 pub(crate) fn explain_serially(
     alloc: Global,
-    component: &Component,
-    matrix: &Matrix,
+    test: Test<'_>,
     bounds: Bounds,
     target: &Target,
     by: Presenting<'_>,
 ) -> Result<Answer, AllocError>
-    requires { CanRun component.now matrix.now }
-    ensures { ExplainsSerially by.entry bounds component.now matrix.now target.now result }
+    ensures { ExplainsSerially by.entry bounds test.entry target.now result }
 {
-    match set_or_offence(learn(alloc, alloc, component, matrix, bounds.serial())?) {
-        Ok(set) => explain(alloc, component, matrix, &&set, target, by),
+    match set_or_offence(learn(alloc, alloc, test.component, test.matrix, bounds.serial())?) {
+        Ok(set) => explain(alloc, test, &&set, target, by),
         Err(offence) => tell_offence(alloc, &offence),
     }
 }

@@ -19,6 +19,7 @@ use crate::told::read_told;
 use crate::trace::trace;
 use lu_certify::{Certificate, DEFAULT_NODES, Limits, certify};
 use lu_component::Component;
+use lu_machine::Test;
 use lu_report::{Finding, MOST_MOVES, Report};
 use lu_test::{Matrix, Schedule};
 use lu_trace::Wording;
@@ -133,6 +134,10 @@ fn show_failing(
     ensures { ShowsFailure view how.entry component.now cut.now report.now schedule.now result }
 {
     let finding = report.finding();
+    let test = Test {
+        component,
+        matrix: cut,
+    };
     match view {
         View::Explanation => {
             let text = write_both(alloc, component, cut, report)?;
@@ -140,7 +145,7 @@ fn show_failing(
                 by: Presentation::Words,
                 how,
             };
-            let why = explain_finding_serially(alloc, component, cut, finding, by)?;
+            let why = explain_finding_serially(alloc, test, finding, by)?;
             show_run(
                 alloc,
                 how,
@@ -156,7 +161,7 @@ fn show_failing(
                 by: Presentation::Picture,
                 how,
             };
-            let picture = explain_finding_serially(alloc, component, cut, finding, by)?;
+            let picture = explain_finding_serially(alloc, test, finding, by)?;
             Ok(failure(picture.text))
         }
         View::Trace(_) | View::Picture => {

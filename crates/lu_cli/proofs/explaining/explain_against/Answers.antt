@@ -15,13 +15,13 @@ use Rattle.lu_cli.proofs.explaining.explain_against.Goals as goal
 pub returns-in_err-target : goal.returns-in_err-target
 returns-in_err-target c =
     let p = err_from_is_err_and c.from_residual.result c.from_residual.ensures.1 in
-    rw (p.1, p.2) (target_refused c.args.target.now (λ t. ToGiven c.args.matrix.now c.args.spec.now (λ members. IsExplainedTarget (in_words Words c.args.how) members c.args.component.now c.args.matrix.now t)) c.in_err-target.field-0.0 c.in_err-target.ensures.refused)
+    rw (p.1, p.2) (target_refused c.args.target.now (λ t. ToGiven c.args.test.matrix.now c.args.spec.now (λ members. IsExplainedTarget (in_words Words c.args.how) members c.args.test.component.now c.args.test.matrix.now t)) c.in_err-target.field-0.0 c.in_err-target.ensures.refused)
 
 pub returns-in_err-specification : goal.returns-in_err-specification
 returns-in_err-specification c =
     let p = err_from_is_err_and c.from_residual-in_err-specification.result c.from_residual-in_err-specification.ensures.1 in
-    let component = c.args.component.now in
-    let matrix = c.args.matrix.now in
+    let component = c.args.test.component.now in
+    let matrix = c.args.test.matrix.now in
     let text = c.args.spec.now in
     let fault = c.in_err-specification.field-0.0 in
     let t = c.in_ok-target.target in
@@ -32,8 +32,8 @@ returns-in_err-specification c =
 
 pub returns : goal.returns
 returns c =
-    let component = c.args.component.now in
-    let matrix = c.args.matrix.now in
+    let component = c.args.test.component.now in
+    let matrix = c.args.test.matrix.now in
     let text = c.args.spec.now in
     let t = c.in_ok-target.target in
     target_answered c.args.target.now (λ x. ToGiven matrix text (λ members. IsExplainedTarget (in_words Words c.args.how) members component matrix x)) t c.in_ok-target.ensures.read c.in_ok-explain.field-0

@@ -5,16 +5,13 @@ use Rattle.lu_serial.specs.Offences.{IsSetOf}
 use Rattle.lu_cli.specs.Explanation.{IsExplainedTarget, IsExplainedSerially, IsOffenceOf, ToFinding}
 use Rattle.lu_cli.proofs.explanation.explain_serially.Goals as goal
 
-pub explain-requires : goal.explain-requires
-explain-requires c = c.requires
-
 pub returns-in-Ok : goal.returns-in-Ok
 returns-in-Ok c =
-    let component = c.args.component.now in
-    let matrix = c.args.matrix.now in
+    let component = c.args.test.component.now in
+    let matrix = c.args.test.matrix.now in
     let target = c.args.target.now in
     let serial = c.args.bounds.serial in
-    let there = start_there component matrix c.requires.settles in
+    let there = start_there component matrix c.args.test.can_run.settles in
     let set = c.in-Ok.ensures.set there.0 c.serial.result (c.in_ok-learn.ensures.learnt there.0 there.1) in
     let own : IsSetOf there.0 serial c.in-Ok.set = rw (← c.serial.ensures.serial) set in
     IfOk-weaker c.explain.result (IsExplainedTarget c.args.by c.in-Ok.set component matrix target) (IsExplainedSerially c.args.by c.args.bounds component matrix target)
@@ -22,8 +19,8 @@ returns-in-Ok c =
 
 pub returns-in-Err : goal.returns-in-Err
 returns-in-Err c =
-    let component = c.args.component.now in
-    let matrix = c.args.matrix.now in
+    let component = c.args.test.component.now in
+    let matrix = c.args.test.matrix.now in
     let target = c.args.target.now in
     let serial = c.args.bounds.serial in
     let offends : IsOffenceOf component matrix serial c.in-Err.offence = (c.in-Err.ensures.serial, λ bound s start. (let finding = c.in-Err.ensures.offence s bound c.serial.result (c.in_ok-learn.ensures.learnt s start) in rw (← c.serial.ensures.serial) finding)) in
