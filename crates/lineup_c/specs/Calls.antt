@@ -80,9 +80,9 @@ TellsState component matrix schedule most old new count =
     (numbers : List ℕ) × IsStateOf component matrix schedule most numbers
     × (new ≡ filled numbers old) × (count ≡ length numbers)
 
--- with the status 0 these are told
-abbrev pub TellsStateIf : ℕ → List ℕ → List ℕ → List ℕ → ℕ → List ℕ → List ℕ → ℕ → Type 0
-TellsStateIf status component matrix schedule most old new count =
+-- with the status 0 these are told of the run
+abbrev pub TellsRun : ℕ → List ℕ → List ℕ → List ℕ → ℕ → List ℕ → List ℕ → ℕ → Type 0
+TellsRun status component matrix schedule most old new count =
     status ≡ 0 → TellsState component matrix schedule most old new count
 
 -- ---- in memory, unless they are refused

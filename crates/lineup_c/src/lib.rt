@@ -12,7 +12,7 @@ mod playing;
 mod room;
 mod stack;
 
-ghost use Rattle.lineup_c.specs.Calls.{TellsAnswer, TellsStateIf};
+ghost use Rattle.lineup_c.specs.Calls.{TellsAnswer, TellsRun};
 
 use crate::answering::answer_line;
 use crate::numbers::number_of;
@@ -51,9 +51,9 @@ pub extern "C" fn lineup_answer(
     }
 }
 
-/// Says where the first moves of a schedule lead, at most so many: `schedule` is the text of a
-/// schedule, or of a report that shows one. Puts the numbers into the room `numbers`, as many of
-/// them as fit, and how many they are into `count`. Returns 0; or 1 where a move is not feasible,
+/// Says where the first moves of a schedule lead, at most so many: `shown` is the text of a
+/// schedule, or of a report that shows one. Puts the numbers into the room, as many of them as fit,
+/// and how many they are into `count`. Returns 0; or 1 where a move is not feasible,
 /// whose place from 0 is then the one number; or 2 where a text is refused, without a number
 /// (`lineup_answer` with `replay` says why); or 4 where memory was refused.
 #[unsafe(no_mangle)]
@@ -61,22 +61,21 @@ pub extern "C" fn lineup_state(
     alloc: Global,
     component: &[u8],
     matrix: &[u8],
-    schedule: &[u8],
+    shown: &[u8],
     moves: usize,
-    numbers: &mut [u32],
+    room: &mut [u32],
     count: &mut usize,
 ) -> u8
-    ensures { TellsStateIf result component.now matrix.now schedule.now moves numbers.old
-        numbers.new count.new }
+    ensures { TellsRun result component.now matrix.now shown.now moves room.old room.new count.new }
 {
     *count = 0;
-    match state_of(alloc, component, matrix, schedule, moves) {
+    match state_of(alloc, component, matrix, shown, moves) {
         Ok(state) => {
-            *count = fill_numbers(numbers, &state);
+            *count = fill_numbers(room, &state);
             0
         }
         Err(StateFault::Infeasible(place)) => {
-            *count = fill_numbers(numbers, &[number_of(place)]);
+            *count = fill_numbers(room, &[number_of(place)]);
             1
         }
         Err(StateFault::Refused) => 2,
