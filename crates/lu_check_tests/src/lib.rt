@@ -6,6 +6,8 @@ mod boards;
 #[cfg(test)]
 mod campaigns;
 #[cfg(test)]
+mod certificates;
+#[cfg(test)]
 mod checks;
 #[cfg(test)]
 mod reports;

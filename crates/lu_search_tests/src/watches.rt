@@ -7,6 +7,7 @@ ghost use Rattle.lu_tree.specs.Tables.{AreRunTables};
 use crate::serial_runs::set_of;
 use crate::trees::{assert_bad, assert_clean, beginning};
 use lu_fixtures::{Fixture, ROWS, fixture_of};
+use lu_graph::{Ending, Halted, ends_well_watched, first_lost_watched};
 use lu_machine::Test;
 use lu_test::Schedule;
 use lu_tree::{Found, SearchSpace, Tables, Unwatched, Watch, search_watched, search_with};
@@ -133,6 +134,33 @@ fn assert_asked(
     Ok(())
 }
 
+/// How all schedules of the matrix end, by its nodes.
+fn ending_watched(
+    rt: &(impl AllocGlobal + Abort),
+    matrix: &[u8],
+    watch: &mut Patience,
+) -> Result<Result<Ending, Halted>, Fail>
+    requires { watch.old.stopped ≡ false }
+{
+    let packed = packed(rt, matrix)?;
+    let case = fixture_of(rt, ROWS.as_bytes(), matrix)?;
+    let (component, matrix) = (&case.component, &case.matrix);
+    Ok(ends_well_watched(rt.alloc(), component, matrix, &&packed, 256, 1000, watch))
+}
+
+/// The first schedule of the matrix to a state from which none ends.
+fn lost_watched(
+    rt: &(impl AllocGlobal + Abort),
+    matrix: &[u8],
+    watch: &mut Patience,
+) -> Result<Result<Option<Schedule>, Halted>, Fail>
+    requires { watch.old.stopped ≡ false }
+{
+    let case = fixture_of(rt, ROWS.as_bytes(), matrix)?;
+    let (component, matrix) = (&case.component, &case.matrix);
+    Ok(first_lost_watched(rt.alloc(), component, matrix, 1000, watch))
+}
+
 const EXCHANGES: &[u8] = b"thread cinc\nthread cinc\n";
 
 const SPINS: &[u8] = b"thread spin\nthread spin\n";
@@ -152,6 +180,37 @@ fn a_watch_is_asked_after_each_64(rt: HostRuntime) -> Result<(), Fail> {
 fn a_watch_is_asked_of_what_is_counted(rt: HostRuntime) -> Result<(), Fail> {
     assert_asked(&rt, SPINS, NO_CALLS, 12, (0, 4096), 64)?;
     assert_abandoned(&rt, SPINS, NO_CALLS, 12, 64)
+}
+
+/// Once more where no node is left.
+#[test]
+fn a_watch_is_asked_before_each_node(rt: HostRuntime) -> Result<(), Fail> {
+    let mut watch = stops_at(0);
+    let ending = ending_watched(&rt, EXCHANGES, &mut watch)?;
+    assert!(&rt; matches!(ending, Ok(Ending::Well)));
+    assert!(&rt; watch.asked == 0, "{}", watch.asked);
+    for last in [1, 5] {
+        let mut watch = stops_at(last);
+        let ending = ending_watched(&rt, EXCHANGES, &mut watch)?;
+        assert!(&rt; matches!(ending, Err(Halted::Stopped)));
+        assert!(&rt; watch.asked == last, "{last}");
+    }
+    Ok(())
+}
+
+#[test]
+fn a_watch_is_asked_before_each_state(rt: HostRuntime) -> Result<(), Fail> {
+    let mut watch = stops_at(0);
+    let lost = lost_watched(&rt, EXCHANGES, &mut watch)?;
+    assert!(&rt; matches!(lost, Ok(None)));
+    assert!(&rt; watch.asked == 0, "{}", watch.asked);
+    for last in [1, 5] {
+        let mut watch = stops_at(last);
+        let lost = lost_watched(&rt, EXCHANGES, &mut watch)?;
+        assert!(&rt; matches!(lost, Err(Halted::Stopped)));
+        assert!(&rt; watch.asked == last, "{last}");
+    }
+    Ok(())
 }
 
 /// Matrices, with the least bad schedule of each and why it is bad: an increment is lost; only
