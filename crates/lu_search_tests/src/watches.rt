@@ -182,13 +182,13 @@ fn a_watch_is_asked_of_what_is_counted(rt: HostRuntime) -> Result<(), Fail> {
     assert_abandoned(&rt, SPINS, NO_CALLS, 12, 64)
 }
 
-/// Once more where no node is left.
+/// Two increments by compare-and-swap have 45 nodes. The watch is asked once more where none is left.
 #[test]
 fn a_watch_is_asked_before_each_node(rt: HostRuntime) -> Result<(), Fail> {
     let mut watch = stops_at(0);
     let ending = ending_watched(&rt, EXCHANGES, &mut watch)?;
     assert!(&rt; matches!(ending, Ok(Ending::Well)));
-    assert!(&rt; watch.asked == 0, "{}", watch.asked);
+    assert!(&rt; watch.asked == 46, "{}", watch.asked);
     for last in [1, 5] {
         let mut watch = stops_at(last);
         let ending = ending_watched(&rt, EXCHANGES, &mut watch)?;
@@ -198,12 +198,13 @@ fn a_watch_is_asked_before_each_node(rt: HostRuntime) -> Result<(), Fail> {
     Ok(())
 }
 
+/// They have 87 states, which histories and dead registers do not tell apart.
 #[test]
 fn a_watch_is_asked_before_each_state(rt: HostRuntime) -> Result<(), Fail> {
     let mut watch = stops_at(0);
     let lost = lost_watched(&rt, EXCHANGES, &mut watch)?;
     assert!(&rt; matches!(lost, Ok(None)));
-    assert!(&rt; watch.asked == 0, "{}", watch.asked);
+    assert!(&rt; watch.asked == 88, "{}", watch.asked);
     for last in [1, 5] {
         let mut watch = stops_at(last);
         let lost = lost_watched(&rt, EXCHANGES, &mut watch)?;
