@@ -198,7 +198,7 @@ fn a_watch_is_asked_before_each_node(rt: HostRuntime) -> Result<(), Fail> {
     Ok(())
 }
 
-/// They have 87 states, which histories and dead registers do not tell apart.
+/// They have 87 states, of which histories are no part.
 #[test]
 fn a_watch_is_asked_before_each_state(rt: HostRuntime) -> Result<(), Fail> {
     let mut watch = stops_at(0);
