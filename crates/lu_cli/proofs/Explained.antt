@@ -25,7 +25,7 @@ use Rattle.lu_cli.specs.declared.explanation.Target.TheVariants as target
 use Rattle.lu_cli.specs.declared.refusal.Refusal.{Refusal}
 use Rattle.lu_cli.specs.declared.refusal.Refusal.TheVariants as refusal
 use Rattle.lu_cli.specs.Refusals.{refusal_answer, schedule_answer}
-use Rattle.lu_cli.specs.Explaining.{IsTarget, IsTargetRefusal, ToTarget, is_report}
+use Rattle.lu_cli.specs.Explain.{IsTarget, IsTargetRefusal, ToTarget, is_report}
 use Rattle.lu_cli.specs.Outcomes.{Answer}
 use Rattle.lu_cli.specs.Reading.{ToReport, ToSchedule}
 use Rattle.lu_cli.specs.Shown.{IsTextOfSchedule, IsShownRefusal, ToShown, or_schedule}

@@ -2,7 +2,7 @@
 use Rattle.std.proofs.Common.{◌≡◌, ℕ, List, [], ◌∷◌, ◌++◌, refl, sym}
 use Rattle.std.proofs.lemmas.List.{append-nil, append_assoc}
 use Rattle.lu_source_lint.specs.declared.message.SourceMessage.{SourceMessage}
-use Rattle.lu_cli.specs.Linting.{AddsMessage, AddsMessages, TellsEach, message_line}
+use Rattle.lu_cli.specs.Lint.{AddsMessage, AddsMessages, TellsEach, message_line}
 
 -- one line more
 told_more : (messages : List SourceMessage) (m : SourceMessage) (text words : List ℕ) → TellsEach messages text → TellsEach (messages ++ m ∷ []) (text ++ message_line m words)

@@ -63,7 +63,7 @@ use Rattle.lu_cli.specs.declared.request.BundleCommand.TheVariants.{Replay, Trac
 use Rattle.lu_trace.specs.declared.wording.Wording.{Wording}
 use Rattle.lu_source_text.specs.Begins.{is_source}
 use Rattle.lu_source_text.specs.declared.fault.SourceFaultKind.{SourceFaultKind}
-use Rattle.lu_cli.specs.Linting.{IsFaulted, IsLint, IsLinted, IsLintedAfter, IsLintedBy, IsSourceLinted, below_source}
+use Rattle.lu_cli.specs.Lint.{IsFaulted, IsLint, IsLinted, IsLintedAfter, IsLintedBy, IsSourceLinted, below_source}
 use Rattle.lu_cli.specs.Telling.{IsWordingOf}
 use Rattle.lu_cli.specs.declared.explanation.Presentation.{Presentation}
 use Rattle.lu_cli.specs.declared.explanation.Presenting.{Presenting}
@@ -71,19 +71,19 @@ use Rattle.lu_cli.specs.declared.explanation.Presentation.TheVariants.{Words, Pi
 use Rattle.lu_explain.specs.Explanations.{Explanation}
 use Rattle.lu_lint.specs.Said.{is_fault}
 use Rattle.std.specs.List.{list_any}
-use Rattle.lu_cli.specs.Drawing.{IsDrawnExplained}
+use Rattle.lu_cli.specs.Pictures.{IsDrawnExplained}
 use Rattle.lu_cli.specs.declared.explanation.Target.{Target}
 use Rattle.lu_cli.specs.declared.explanation.Target.TheVariants as target
-use Rattle.lu_cli.specs.Explaining.{IsAnswerToExplainAgainst, IsExplainAfter, IsAnswerToExplain, IsExplainedAgainstText, IsExplainedText, ToTarget, is_report, limits_for, view_of}
+use Rattle.lu_cli.specs.Explain.{IsAnswerToExplainAgainst, IsExplainAfter, IsAnswerToExplain, IsExplainedAgainstText, IsExplainedText, ToTarget, is_report, limits_for, view_of}
 use Rattle.lu_cli.specs.Explanation.{IsExplainedTarget, IsExplainedHistory, IsExplainedSchedule, IsExplainedSerially, IsPicturedHistory, IsPresentedAs, IsPresentedHistory, ToEnded, ToFinding, status_by, unexplained}
 use Rattle.lu_recorded.specs.declared.recorded.Recorded.{Recorded}
 use Rattle.lu_recorded.specs.Codes.{recorded_code_of}
-use Rattle.lu_cli.specs.Judging.{IsAnswerToJudgeAgainst, IsAnswerToJudge, IsJudgedAgainstTexts, IsJudgedByMembers, IsJudgedSerially, IsJudgedTexts, four_parts, three_parts}
+use Rattle.lu_cli.specs.Judge.{IsAnswerToJudgeAgainst, IsAnswerToJudge, IsJudgedAgainstTexts, IsJudgedByMembers, IsJudgedSerially, IsJudgedTexts, four_parts, three_parts}
 use Rattle.lu_cli.specs.Reading.{ToComponent, ToGiven, ToMatrix, ToParts, ToRecorded, ToReport, ToSchedule, ToSettled, ToSpec, ToTexts, ToTold, ToValue}
 use Rattle.lu_source_text.specs.Kinds.{code_of as source_code_of}
 use Rattle.lu_source_text.specs.Readers.{component_meant}
-use Rattle.lu_cli.specs.Compiling.{IsAnswerToCompile, IsCompiledBundle}
-use Rattle.lu_cli.specs.Conforming.{IsAnswerToConform, IsConformed, IsConformedTexts}
+use Rattle.lu_cli.specs.Compile.{IsAnswerToCompile, IsCompiledBundle}
+use Rattle.lu_cli.specs.Conform.{IsAnswerToConform, IsConformed, IsConformedTexts}
 use Rattle.lu_conform.specs.declared.shown.Conformance.TheVariants.{Conforms, NoneShows, Undecided as Undetermined}
 use Rattle.lu_cli.specs.declared.request.CertifyOptions.{CertifyOptions}
 use Rattle.lu_cli.specs.declared.request.Showing.{Showing}
@@ -93,11 +93,11 @@ use Rattle.lu_cli.specs.Help.{help_answer}
 use Rattle.lu_report.specs.Limits.{Bounds}
 use Rattle.lu_cli.specs.declared.failing.RunView.{RunView}
 use Rattle.lu_cli.specs.declared.failing.RunView.TheVariants as run
-use Rattle.lu_cli.specs.Campaigning.{IsAnswerToAlike, IsCheckedPart, IsAnswerToTrial, IsCheckedWhole, IsCampaignAlike, IsCampaignByThreads, IsCampaignOfMatrix, IsCertifiedPart, IsCertifiedNumbers, IsCountAnswer, IsCheckedNumbers, IsSurveyedNumbers, IsSurveyedPart, IsTriedAll, IsTriedPart, ShowsCertified, found_answer, lists_of, survey_status}
+use Rattle.lu_cli.specs.Campaign.{IsAnswerToAlike, IsCheckedPart, IsAnswerToTrial, IsCheckedWhole, IsCampaignAlike, IsCampaignByThreads, IsCampaignOfMatrix, IsCertifiedPart, IsCertifiedNumbers, IsCountAnswer, IsCheckedNumbers, IsSurveyedNumbers, IsSurveyedPart, IsTriedAll, IsTriedPart, ShowsCertified, found_answer, lists_of, survey_status}
 use Rattle.lu_cli.specs.Certify.{IsCertified}
 use Rattle.lu_cli.specs.Check.{IsCheckedAgainstText, IsAnswerToCheckAgainst, IsChecked, IsCheckedAgainst}
 use Rattle.lu_cli.specs.Commands.{IsAnswerToCommand}
-use Rattle.lu_cli.specs.Comparing.{IsAnswerToCampaignAgainst, IsComparedAlike, IsComparedByThreads, IsComparedMatrix, IsComparedPart, IsComparedNumbers, ToTrusted, comparison_answer}
+use Rattle.lu_cli.specs.CampaignAgainst.{IsAnswerToCampaignAgainst, IsComparedAlike, IsComparedByThreads, IsComparedMatrix, IsComparedPart, IsComparedNumbers, ToTrusted, comparison_answer}
 use Rattle.lu_cli.specs.Outcomes.{Answer, no_command, no_device, no_memory, refused}
 use Rattle.lu_cli.specs.Program.{Answers, IsAnswerToRead, IsAnswerToInput, IsAnswerToBundle, Tells, ToInput}
 use Rattle.lu_cli.specs.Refute.{IsAnswerToRefute, IsRefuted, IsRefutedTexts}

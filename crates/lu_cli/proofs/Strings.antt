@@ -7,7 +7,7 @@ use Rattle.std.proofs.lemmas.List.Elements.{All-drop}
 use Rattle.lu_text.specs.Lines.{texts}
 use Rattle.lu_text.proofs.Reading.{text_more, texts_end}
 use denote.Ref.{Bor}
-use Rattle.lu_cli.specs.Compiling.{behind, lent_after, part_text}
+use Rattle.lu_cli.specs.Compile.{behind, lent_after, part_text}
 
 module _ (words : List (Bor (List ℕ))) (i : ℕ) where
   -- one word more

@@ -1,15 +1,15 @@
 -- What is answered to each command.
 use Rattle.std.specs.Prelude.{ℕ, List}
-use Rattle.lu_cli.specs.Explaining.{IsAnswerToExplain, IsAnswerToExplainAgainst}
+use Rattle.lu_cli.specs.Explain.{IsAnswerToExplain, IsAnswerToExplainAgainst}
 use Rattle.lu_cli.specs.declared.failing.RunView.TheVariants as run
-use Rattle.lu_cli.specs.Judging.{IsAnswerToJudge, IsAnswerToJudgeAgainst}
-use Rattle.lu_cli.specs.Compiling.{IsAnswerToCompile}
-use Rattle.lu_cli.specs.Conforming.{IsAnswerToConform}
+use Rattle.lu_cli.specs.Judge.{IsAnswerToJudge, IsAnswerToJudgeAgainst}
+use Rattle.lu_cli.specs.Compile.{IsAnswerToCompile}
+use Rattle.lu_cli.specs.Conform.{IsAnswerToConform}
 use Rattle.lu_cli.specs.Outcomes.{Answer}
-use Rattle.lu_cli.specs.Campaigning.{IsAnswerToCampaign}
+use Rattle.lu_cli.specs.Campaign.{IsAnswerToCampaign}
 use Rattle.lu_cli.specs.Certify.{IsAnswerToCertify}
 use Rattle.lu_cli.specs.Check.{IsAnswerToCheck, IsAnswerToCheckAgainst}
-use Rattle.lu_cli.specs.Comparing.{IsAnswerToCampaignAgainst}
+use Rattle.lu_cli.specs.CampaignAgainst.{IsAnswerToCampaignAgainst}
 use Rattle.lu_cli.specs.Refute.{IsAnswerToRefute}
 use Rattle.lu_cli.specs.Replay.{IsAnswerToReplay}
 use Rattle.lu_cli.specs.Serial.{IsAnswerToSerial}

@@ -28,7 +28,7 @@ use Rattle.lu_machine.specs.declared.event.Status.TheVariants.{Running, Complete
 use Rattle.lu_explain.specs.Blocks.{IsTextFor, run_of}
 use Rattle.lu_explain.specs.EventMoves.{AreEventMoves}
 use Rattle.lu_cli.specs.Outcomes.{Answer, infeasible}
-use Rattle.lu_cli.specs.Drawing.{IsDrawnExplained}
+use Rattle.lu_cli.specs.Pictures.{IsDrawnExplained}
 use Rattle.lu_cli.specs.declared.explanation.Presentation.{Presentation}
 use Rattle.lu_cli.specs.declared.explanation.Presentation.TheVariants.{Words, Picture}
 use Rattle.lu_cli.specs.declared.explanation.Presenting.{Presenting}

@@ -22,7 +22,7 @@ use Rattle.lu_cli.specs.declared.failing.RunView.{RunView}
 use Rattle.lu_cli.specs.declared.failing.RunView.TheVariants as run
 use Rattle.lu_cli.specs.Shows.{two_texts, ShowsCertificate, with_schedule}
 use Rattle.lu_cli.specs.Outcomes.{Answer}
-use Rattle.lu_cli.specs.Drawing.{IsDrawn}
+use Rattle.lu_cli.specs.Pictures.{IsDrawn}
 use Rattle.lu_cli.specs.Explanation.{BySerialRuns, IsExplainedSchedule, ToFinding}
 use Rattle.lu_cli.specs.Reading.{ToTold}
 use Rattle.lu_cli.specs.Trace.{IsTraced}

@@ -2,7 +2,7 @@
 use Rattle.std.specs.Prelude.{◌≡◌, ℕ, List, length, MatchBool, codes, nat_lt, Option, IfSome, Some, ◌⊎◌, None, ◌≢◌}
 use Rattle.std.specs.Io.KnownBytes.{Appends}
 use Rattle.lu_cli.specs.declared.counted.Counted.{Counted}
-use Rattle.lu_cli.specs.Linting.{IsLint}
+use Rattle.lu_cli.specs.Lint.{IsLint}
 use Rattle.lu_text.specs.Bundle.{bundle_parts}
 use Rattle.lu_cli.specs.Args.{request_said}
 use Rattle.lu_cli.specs.Counted.{AppendsCounted, IsUnfailed, Lent, new_of, old_of, GoesWell}

@@ -18,7 +18,7 @@ use Rattle.lu_cli.specs.declared.failing.RunView.TheVariants as run
 use Rattle.lu_cli.specs.Failing.{AloneOr, view_of_failure}
 use Rattle.lu_cli.specs.Refusals.{Answered}
 use Rattle.lu_cli.specs.Outcomes.{Answer, refused}
-use Rattle.lu_cli.specs.Drawing.{IsDrawn}
+use Rattle.lu_cli.specs.Pictures.{IsDrawn}
 use Rattle.lu_cli.specs.Reading.{ToSchedule, ToParts, ToTold}
 use Rattle.lu_cli.specs.Trace.{IsTraced}
 

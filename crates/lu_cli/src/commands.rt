@@ -5,18 +5,18 @@ ghost use Rattle.lu_cli.specs.Refusals.{Answered};
 ghost use Rattle.lu_cli.specs.Commands as spec;
 
 use crate::answer::Answer;
-use crate::campaigning::answer_campaign;
+use crate::campaign::answer_campaign;
+use crate::campaign_against::answer_campaign_against;
 use crate::certify::{answer_certify, answer_certify_alone};
 use crate::check::{
     answer_check, answer_check_against, answer_check_against_alone, answer_check_alone,
 };
-use crate::comparing::answer_campaign_against;
-use crate::compiling::answer_compile;
-use crate::conforming::answer_conform;
-use crate::explaining::{answer_explain, answer_explain_against};
+use crate::compile::answer_compile;
+use crate::conform::answer_conform;
+use crate::explain::{answer_explain, answer_explain_against};
 use crate::explanation::Presentation;
 use crate::failing::RunView;
-use crate::judging::{answer_judge, answer_judge_against};
+use crate::judge::{answer_judge, answer_judge_against};
 use crate::refusal::Refusal;
 use crate::refute::answer_refute;
 use crate::replay::answer_replay;

@@ -8,7 +8,7 @@ ghost use Rattle.lu_cli.specs.Explanation as spec;
 ghost use Rattle.lu_cli.specs.Explanation.{ExplainsFinding, ExplainsRun, ExplainsSchedule, ExplainsSerially, ExplainsTarget, IsLeastPending, IsPlayed, IsShownExplanation, IsShownThread, PicturesRun, Presents};
 
 use crate::answer::{Answer, infeasible};
-use crate::drawing::draw;
+use crate::pictures::draw;
 use lu_explain::{Explanation, event_moves, explain as explain_history, write_explanations};
 use lu_history::{History, HistoryFault};
 use lu_machine::{Status, Test};

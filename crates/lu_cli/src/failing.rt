@@ -11,8 +11,8 @@ ghost use Rattle.lu_cli.specs.Failing.{CanRunCut, ShowsFailure, ShowsRunBelow};
 ghost use Rattle.lu_cli.specs.Reading.{ToTold};
 
 use crate::answer::{Answer, show_certificate, show_schedule, write_both};
-use crate::drawing::draw;
 use crate::explanation::{Presentation, Presenting, explain_finding_serially};
+use crate::pictures::draw;
 use crate::refusal::Refusal;
 use crate::request::TraceStart;
 use crate::told::read_told;

@@ -15,7 +15,7 @@ use crate::commands::{carry_out, carry_out_alone};
 use crate::counted::Counted;
 use crate::help::answer_help;
 use crate::input::{InputFault, MOST_BYTES, read_input};
-use crate::linting::answer_lint;
+use crate::lint::answer_lint;
 use crate::output::write_text;
 use crate::refusal::or_refusal;
 use crate::request::{ArgsFault, BundleCommand, Request};

@@ -8,8 +8,8 @@ ghost use Rattle.lu_cli.specs.Shown as spec;
 ghost use Rattle.lu_cli.specs.Shown.{AreShownParts, IsOfReport, IsShownRefusal, IsTextOfSchedule, ShowsRunOf, ShowsText};
 
 use crate::answer::Answer;
-use crate::drawing::draw;
 use crate::failing::{RunView, answer_failing};
+use crate::pictures::draw;
 use crate::refusal::Refusal;
 use crate::told::read_told;
 use crate::trace::trace;

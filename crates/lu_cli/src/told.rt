@@ -4,7 +4,7 @@ ghost use Rattle.std.specs.Prelude.{◌≡◌, IfErr, IfOk};
 ghost use Rattle.lu_machine.specs.Starts.{CanRun};
 ghost use Rattle.lu_cli.specs.Telling.{AreWordsOf, IsToldOf, IsToldOfSource, IsToldRefusal, IsToldRefusalOfSource, IsWordsRefusal, TellsBy};
 
-use crate::compiling::read_source;
+use crate::compile::read_source;
 use crate::refusal::Refusal;
 use crate::texts::{matrix_of, read_texts};
 use lu_component::Component;

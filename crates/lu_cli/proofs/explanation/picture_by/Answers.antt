@@ -1,6 +1,6 @@
 use Rattle.std.proofs.Common.{Some}
 use Rattle.std.proofs.lemmas.Result.{IfOk-weaker}
-use Rattle.lu_cli.specs.Drawing.{IsDrawnExplained}
+use Rattle.lu_cli.specs.Pictures.{IsDrawnExplained}
 use Rattle.lu_cli.specs.Explanation.{IsPicturedHistory}
 use Rattle.lu_cli.proofs.explanation.picture_by.Goals as goal
 

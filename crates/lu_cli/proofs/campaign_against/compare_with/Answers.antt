@@ -1,0 +1,16 @@
+use Rattle.std.proofs.Common.{inl, rules}
+use Rattle.lu_component.specs.Component.{Component}
+use Rattle.lu_survey.specs.Comparing.{HasSameOperations}
+use Rattle.lu_cli.specs.CampaignAgainst.{IsComparedMatrix, ToTrusted}
+use Rattle.lu_cli.specs.Reading.{ToSettled}
+use Rattle.lu_cli.proofs.Refuted.{answered_more}
+use Rattle.lu_cli.proofs.campaign_against.compare_with.Goals as goal
+
+pub returns : goal.returns
+returns c =
+    let component = c.args.component.now in
+    let matrix = c.args.matrix.now in
+    let trusted = c.in_ok-trusted.trusted in
+    let same : HasSameOperations component trusted = search rules in
+    answered_more (ToSettled trusted matrix (IsComparedMatrix trusted component c.args.options matrix)) (ToTrusted c.args.trusted.now component matrix (λ (t : Component). IsComparedMatrix t component c.args.options matrix))
+    (λ answer is. rw c.in_ok-trusted.ensures.read (inl (same, is))) c.compare_settled.result c.compare_settled.ensures

@@ -1,5 +1,0 @@
-use Rattle.std.proofs.Common.{inl, refl}
-use Rattle.lu_cli.proofs.drawing.draw.Goals as goal
-
-pub returns-in-Ok : goal.returns-in-Ok
-returns-in-Ok c = inl (_, c.in-Ok.ensures.picture, refl)

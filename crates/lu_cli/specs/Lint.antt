@@ -1,0 +1,138 @@
+-- What `lint` answers.
+use Rattle.std.specs.Prelude.{◌≡◌, ◌-◌, ℕ, nat_lt, MatchBool, MatchResult, List, [], ◌∷◌, ◌++◌, length, Option, Some, None, if◌then◌else◌, Vec, codes, String, string_bytes}
+use Rattle.std.specs.List.{filter_map, list_any}
+use Rattle.std.specs.List.Sorted.{IsNonDecreasingBy}
+use Rattle.std.specs.Fmt.{decimal}
+use Rattle.lu_text.specs.Lines.{lines_of}
+use Rattle.lu_component.specs.Component.{Component}
+use Rattle.lu_lang.specs.ComponentText.{component_text}
+use Rattle.lu_source_text.specs.Begins.{is_source}
+use Rattle.lu_source_text.specs.Kinds.{code_of}
+use Rattle.lu_source_text.specs.Readers.{component_meant}
+use Rattle.lu_source_lint.specs.declared.message.SourceMessage.{SourceMessage}
+use Rattle.lu_source_lint.specs.declared.message.What.{What}
+use Rattle.lu_source_lint.specs.declared.message.What.TheVariants.{Fault, Warning}
+use Rattle.lu_source_lint.specs.Faults.{faults_in}
+use Rattle.lu_source_lint.specs.Warnings.{warnings_in}
+use Rattle.lu_lint.specs.declared.remark.Remark.{Remark}
+use Rattle.lu_lint.specs.Bundle.{IsSaidOf}
+use Rattle.lu_lint.specs.Messages.{remarks_text}
+use Rattle.lu_lint.specs.Said.{is_fault, line_below, said_of}
+use Rattle.lu_report.specs.Limits.{Bounds}
+use Rattle.lu_text.specs.Bundle.{bundle_parts}
+use Rattle.lu_cli.specs.Compile.{behind}
+use Rattle.lu_cli.specs.Outcomes.{Answer}
+
+-- ---- of a component
+
+-- what is said of the lines of a bundle, and whether one of it is a fault
+abbrev pub remarked : List Remark → Answer
+remarked remarks = record {
+  text = remarks_text remarks;
+  status = if list_any (λ r. is_fault r.said.cause) remarks then 2 else 0;
+}
+
+-- what there is to say of a bundle, in the order of its lines
+abbrev pub AreRemarksOn : Bounds → List ℕ → List Remark → Type 0
+AreRemarksOn limits bundle remarks =
+    IsSaidOf limits.serial bundle (said_of remarks) × IsNonDecreasingBy (λ r. r.said.place) remarks
+
+abbrev pub IsLinted : Bounds → List ℕ → Answer → Type 0
+IsLinted limits bundle answer =
+    (remarks : List Remark) × AreRemarksOn limits bundle remarks × (answer ≡ remarked remarks)
+
+-- ---- of a source
+
+-- a warning says that it is one, and a fault has its code after it
+abbrev pub mark_of : What → List ℕ
+mark_of (Fault kind) = []
+mark_of (Warning warning) = codes "warning: "
+
+abbrev pub tail_of : What → List ℕ
+tail_of (Fault kind) = codes " (" ++ code_of kind ++ codes ")"
+tail_of (Warning warning) = []
+
+-- the line of a message, with its words
+abbrev pub message_line : SourceMessage → List ℕ → List ℕ
+message_line m words =
+    codes "line " ++ decimal m.line ++ codes ": " ++ mark_of m.what ++ words ++ tail_of m.what
+    ++ codes "\n"
+
+-- a line for each message, in some words
+abbrev pub TellsEach : List SourceMessage → List ℕ → Type 0
+TellsEach [] text = text ≡ []
+TellsEach (m ∷ ms) text =
+    (words : List ℕ) × (rest : List ℕ) × TellsEach ms rest × (text ≡ message_line m words ++ rest)
+
+-- every fault of the source
+abbrev pub IsFaulted : List ℕ → Answer → Type 0
+IsFaulted source answer =
+    (text : List ℕ) × TellsEach (faults_in source) text
+    × (answer ≡ record { text = text; status = 2 })
+
+-- what is said of a line after the first `above` of a bundle, where `now` lines stand in their place
+abbrev pub on_line : ℕ → Remark → Remark
+on_line n r = record { said = record { place = n; cause = r.said.cause }; words = r.words }
+
+abbrev pub moved : ℕ → ℕ → Remark → Option Remark
+moved above now r =
+    if nat_lt above r.said.place then Some (on_line (line_below now (r.said.place - above)) r)
+    else None
+
+abbrev pub remarks_below : ℕ → ℕ → List Remark → List Remark
+remarks_below above now remarks = filter_map (moved above now) remarks
+
+-- a component, with these parts after it
+abbrev pub bundle_of : Component → List (List ℕ) → List ℕ
+bundle_of c parts = component_text c ++ behind parts
+
+-- What is odd in a source without faults, and what there is to say of the parts after it, where its
+-- component stands in its place, on the lines that they have after the source.
+abbrev pub below_source : List ℕ → Component → List Remark → List Remark
+below_source source c remarks =
+    remarks_below (length (lines_of (component_text c))) (length (lines_of source)) remarks
+
+-- what there is to say of these parts after a source of so many lines with this component
+abbrev pub AreRemarksAfter : {Z : Type 0} → Bounds → Component → ℕ → List (List ℕ)
+    → Vec Remark Z → Type 0
+AreRemarksAfter limits c now parts remarks =
+    (all : List Remark) × AreRemarksOn limits (bundle_of c parts) all
+    × (remarks.items ≡ remarks_below (length (lines_of (component_text c))) now all)
+
+-- remarks, with what is said of the source before them
+abbrev pub remarked_after : List ℕ → List Remark → Answer
+remarked_after said remarks =
+    record { text = said ++ remarks_text remarks; status = (remarked remarks).status }
+
+abbrev pub IsLintedAfter : Bounds → List ℕ → List (List ℕ) → Component → Answer → Type 0
+IsLintedAfter limits source parts c answer =
+    (said : List ℕ) × (remarks : List Remark) × TellsEach (warnings_in source) said
+    × AreRemarksOn limits (bundle_of c parts) remarks
+    × (answer ≡ remarked_after said (below_source source c remarks))
+
+abbrev pub IsSourceLinted : Bounds → List ℕ → List (List ℕ) → Answer → Type 0
+IsSourceLinted limits source parts answer =
+    MatchResult (component_meant source) (λ c. IsLintedAfter limits source parts c answer)
+    (λ fault. IsFaulted source answer)
+
+-- of a bundle that begins with a source, and of another one
+abbrev pub IsLintedBy : List (List ℕ) → Bounds → List ℕ → Answer → Type 0
+IsLintedBy [] limits bundle answer = IsLinted limits bundle answer
+IsLintedBy (first ∷ parts) limits bundle answer =
+    MatchBool (is_source first) (IsSourceLinted limits first parts answer)
+    (IsLinted limits bundle answer)
+
+abbrev pub IsLint : Bounds → List ℕ → Answer → Type 0
+IsLint limits bundle answer = IsLintedBy (bundle_parts bundle) limits bundle answer
+
+-- ---- texts that grow
+
+-- the text grows by a line for each message
+abbrev pub AddsMessages : List SourceMessage → List ℕ → List ℕ → Type 0
+AddsMessages messages old new = (said : List ℕ) × TellsEach messages said × (new ≡ old ++ said)
+
+abbrev pub WritesMessages : {Z : Type 0} → List SourceMessage → String Z → String Z → Type 0
+WritesMessages messages old new = AddsMessages messages (string_bytes old) (string_bytes new)
+
+abbrev pub AddsMessage : SourceMessage → List ℕ → List ℕ → Type 0
+AddsMessage m old new = (words : List ℕ) × (new ≡ old ++ message_line m words)

@@ -1,0 +1,439 @@
+//! What is answered to campaigns.
+
+ghost use Rattle.std.specs.Prelude.{◌≡◌, IfOk, IfSome, OnOk, string_bytes};
+ghost use Rattle.lu_text.specs.Lines.{texts};
+ghost use Rattle.lu_text.specs.Writing.{Writes};
+ghost use Rattle.lu_test.specs.Matrix.{IsOf, IsSetup};
+ghost use Rattle.lu_machine.specs.Starts.{AllEnd, CanRun};
+ghost use Rattle.lu_refine.specs.Campaigns.{AreCallsOf, HaveArguments, IsFoundOf};
+ghost use Rattle.lu_refine.specs.Roles.{AllCallsOf, AllHaveArguments};
+ghost use Rattle.lu_refine.specs.ByThread.{CanAsk, asked_of};
+ghost use Rattle.lu_certify.specs.Certificates.{NamesCutOf};
+ghost use Rattle.lu_survey.specs.Certified.{IsCertifiedOf};
+ghost use Rattle.lu_survey.specs.Surveys.{AreShownOf, IsShownOf};
+ghost use Rattle.lu_cli.specs.Refusals.{Answered};
+ghost use Rattle.lu_cli.specs.Campaign as spec;
+ghost use Rattle.lu_cli.specs.Campaign.{IsTriedAll, IsTriedPart, IsTriedSame, PushesFirst, ShowsBelow, tally_line};
+ghost use Rattle.lu_cli.specs.declared.request.CampaignThreads.TheVariants.{Own};
+
+use crate::answer::{Answer, show_certificate, show_matrix};
+use crate::refusal::Refusal;
+use crate::request::{CampaignOptions, CampaignPart, CampaignThreads, CampaignTrial};
+use crate::texts::read_texts;
+use lu_certify::{Certificate, DEFAULT_NODES};
+use lu_component::Component;
+use lu_refine::{
+    Campaign, CampaignFault, Roles, campaign, campaign_by_thread, campaign_slice, count_matrices,
+    same_lists,
+};
+use lu_survey::{CertifiedCampaign, CertifiedMatrix, Survey, certify_slice, survey_slice};
+use lu_test::{Call, Calls, Matrix, write_matrix};
+use lu_text::exactly_two;
+use std::alloc::{AllocError, Global};
+
+/// A number, on a line of its own.
+fn show_number(alloc: Global, number: u64) -> Result<Answer, AllocError>
+    ensures { IfOk result (λ answer. answer ≡ spec.numbered number) }
+{
+    Ok(Answer {
+        text: format!(in alloc; "{number}\n")?,
+        status: 0,
+    })
+}
+
+/// That all matrices of a campaign pass, and how many there are.
+fn show_count(alloc: Global, count: u64) -> Result<Answer, AllocError>
+    ensures { IfOk result (λ answer. answer ≡ spec.all_pass count) }
+{
+    Ok(Answer {
+        text: format!(in alloc; "campaign pass {count}\n")?,
+        status: 0,
+    })
+}
+
+/// That on all matrices of a campaign the component is linearizable, and how many there are.
+fn show_linearizable(alloc: Global, count: u64) -> Result<Answer, AllocError>
+    ensures { IfOk result (λ answer. answer ≡ spec.all_linearizable count) }
+{
+    Ok(Answer {
+        text: format!(in alloc; "campaign linearizable {count}\n")?,
+        status: 0,
+    })
+}
+
+/// The text of a matrix, and what its certificate says.
+fn show_certified(
+    alloc: Global,
+    component: &Component,
+    matrix: &Matrix,
+    certificate: &Certificate,
+) -> Result<Answer, AllocError>
+    requires matrix { IsOf matrix.now component.now }
+    requires cut { NamesCutOf component.now certificate.now }
+    ensures { ShowsBelow component.now matrix.now certificate.now result }
+{
+    let shown = show_certificate(alloc, component, certificate)?;
+    let mut text = write_matrix(alloc, component, matrix)?;
+    text.push_str("---\n")?;
+    text.push_str(shown.text.as_str())?;
+    Ok(Answer {
+        text,
+        status: shown.status,
+    })
+}
+
+/// The first matrix of a kind, with its certificate, after the text.
+fn push_first(
+    alloc: Global,
+    component: &Component,
+    first: &Option<CertifiedMatrix>,
+    text: &mut String,
+) -> Result<(), AllocError>
+    requires { IfSome first.now (IsShownOf component.now) }
+    ensures { OnOk result (PushesFirst component.now first.now text.old text.new) }
+{
+    match first {
+        None => Ok(()),
+        Some(one) => {
+            let shown = show_certified(alloc, component, &one.matrix, &one.certificate)?;
+            text.push_str("---\n")?;
+            text.push_str(shown.text.as_str())?;
+            Ok(())
+        }
+    }
+}
+
+/// 1 where a certificate of a survey says that something fails, else 3 where one is undecided.
+fn survey_status(survey: &Survey) -> u8
+    ensures { result ≡ spec.survey_status survey.now }
+{
+    if survey.not_linearizable.count > 0 || survey.livelock.count > 0 {
+        1
+    } else if survey.undecided.count > 0 {
+        3
+    } else {
+        0
+    }
+}
+
+/// How many matrices have a certificate of a kind, on a line after the text.
+fn push_tally(text: &mut String, kind: &str, count: u64) -> Result<(), AllocError>
+    ensures { Writes result text.old text.new (tally_line kind.now count) }
+{
+    writeln!(text, "{kind} {count}")?;
+    Ok(())
+}
+
+/// How many matrices have a certificate of each kind.
+fn survey_head(alloc: Global, survey: &Survey) -> Result<String, AllocError>
+    ensures { IfOk result (λ text. string_bytes text ≡ spec.survey_head survey.now) }
+{
+    let mut text = String::from_str(alloc, "campaign certified\n")?;
+    push_tally(&mut text, "linearizable", survey.linearizable.count)?;
+    push_tally(&mut text, "not linearizable", survey.not_linearizable.count)?;
+    push_tally(&mut text, "livelock", survey.livelock.count)?;
+    push_tally(&mut text, "undecided", survey.undecided.count)?;
+    Ok(text)
+}
+
+/// How many matrices have a certificate of each kind, and the first of each kind but linearizable.
+fn show_survey(alloc: Global, component: &Component, survey: &Survey) -> Result<Answer, AllocError>
+    requires { AreShownOf component.now survey.now }
+    ensures { IfOk result (spec.ShowsSurvey component.now survey.now) }
+{
+    let mut text = survey_head(alloc, survey)?;
+    push_first(alloc, component, &survey.not_linearizable.first, &mut text)?;
+    push_first(alloc, component, &survey.livelock.first, &mut text)?;
+    push_first(alloc, component, &survey.undecided.first, &mut text)?;
+    Ok(Answer {
+        text,
+        status: survey_status(survey),
+    })
+}
+
+/// How many matrices there are, where all pass; or the first that does not, with its report.
+fn show_found(alloc: Global, component: &Component, found: &Campaign) -> Result<Answer, AllocError>
+    requires { IsFoundOf component.now found.now }
+    ensures { IfOk result (λ answer. answer ≡ spec.found_answer component.now found.now) }
+{
+    match found {
+        Campaign::AllPass(count) => show_count(alloc, *count),
+        Campaign::First { matrix, report } => show_matrix(alloc, component, matrix, report),
+    }
+}
+
+/// What the campaign of so many threads over these calls finds, with this setup.
+fn try_matrices(
+    alloc: Global,
+    component: &Component,
+    setup: &Calls,
+    candidates: &[Call],
+    threads: u8,
+    options: CampaignOptions,
+) -> Result<Answer, Refusal>
+    requires setup { IsSetup setup.now }
+    requires setup_of { AreCallsOf component.now setup.now }
+    requires settles { AllEnd component.now setup.now }
+    requires of { AreCallsOf component.now candidates.now }
+    requires arguments { HaveArguments candidates.now }
+    ensures { Answered (IsTriedAll component.now setup.now candidates.now threads options) result }
+{
+    let bounds = options.bounds;
+    let found = campaign(
+        alloc,
+        component,
+        setup,
+        candidates,
+        threads,
+        options.calls,
+        bounds.bound(),
+        bounds.serial(),
+    )?;
+    Ok(show_found(alloc, component, &found)?)
+}
+
+/// What the campaign in which each thread has its own candidates finds.
+fn try_by_thread(alloc: Global, roles: Roles<'_>) -> Result<Answer, Refusal>
+    requires { CanAsk (asked_of roles) }
+    ensures { Answered (spec.IsCheckedWhole (asked_of roles.entry)) result }
+{
+    let found = campaign_by_thread(alloc, roles)?;
+    Ok(show_found(alloc, roles.component, &found)?)
+}
+
+/// What the matrices of that campaign with the numbers `from` to `upto - 1` show.
+fn try_slice(alloc: Global, roles: Roles<'_>, from: u64, upto: u64) -> Result<Answer, Refusal>
+    requires { CanAsk (asked_of roles) }
+    ensures { Answered (spec.IsCheckedNumbers (asked_of roles.entry) from upto) result }
+{
+    let found = campaign_slice(alloc, roles, from, upto)?;
+    Ok(show_found(alloc, roles.component, &found)?)
+}
+
+/// How many matrices there are, where the component is linearizable on all; or the first on which it
+/// is not certified to be, with its certificate.
+fn show_certificates(
+    alloc: Global,
+    component: &Component,
+    found: &CertifiedCampaign,
+) -> Result<Answer, AllocError>
+    requires { IsCertifiedOf component.now found.now }
+    ensures { IfOk result (spec.ShowsCertified component.now found.now) }
+{
+    match found {
+        CertifiedCampaign::AllLinearizable(count) => show_linearizable(alloc, *count),
+        CertifiedCampaign::First {
+            matrix,
+            certificate,
+        } => show_certified(alloc, component, matrix, certificate),
+    }
+}
+
+/// What the certificates of the matrices with the numbers `from` to `upto - 1` say.
+fn certify_numbers(alloc: Global, roles: Roles<'_>, from: u64, upto: u64) -> Result<Answer, Refusal>
+    requires { CanAsk (asked_of roles) }
+    ensures { Answered (spec.IsCertifiedNumbers (asked_of roles.entry) from upto) result }
+{
+    let found = certify_slice(alloc, roles, DEFAULT_NODES, from, upto)?;
+    Ok(show_certificates(alloc, roles.component, &found)?)
+}
+
+/// How many matrices that campaign has.
+pub(crate) fn count_all(alloc: Global, candidates: &[Calls], calls: u8) -> Result<Answer, Refusal>
+    ensures { Answered (spec.IsCountAnswer candidates.now calls) result }
+{
+    let count = count_matrices(alloc, candidates, calls)?;
+    Ok(show_number(alloc, count)?)
+}
+
+/// What is answered where the matrices are checked.
+fn check_part(alloc: Global, roles: Roles<'_>, part: CampaignPart) -> Result<Answer, Refusal>
+    requires { CanAsk (asked_of roles) }
+    ensures { Answered (spec.IsCheckedPart part (asked_of roles.entry)) result }
+{
+    match part {
+        CampaignPart::Whole => try_by_thread(alloc, roles),
+        CampaignPart::Slice { from, upto } => try_slice(alloc, roles, from, upto),
+        CampaignPart::Count => count_all(alloc, roles.candidates, roles.calls),
+    }
+}
+
+/// What is answered where the matrices are certified.
+fn certify_part(alloc: Global, roles: Roles<'_>, part: CampaignPart) -> Result<Answer, Refusal>
+    requires { CanAsk (asked_of roles) }
+    ensures { Answered (spec.IsCertifiedPart part (asked_of roles.entry)) result }
+{
+    match part {
+        CampaignPart::Whole => certify_numbers(alloc, roles, 0, u64::MAX),
+        CampaignPart::Slice { from, upto } => certify_numbers(alloc, roles, from, upto),
+        CampaignPart::Count => count_all(alloc, roles.candidates, roles.calls),
+    }
+}
+
+/// How many of the matrices with the numbers `from` to `upto - 1` have a certificate of each kind.
+fn survey_numbers(alloc: Global, roles: Roles<'_>, from: u64, upto: u64) -> Result<Answer, Refusal>
+    requires { CanAsk (asked_of roles) }
+    ensures { Answered (spec.IsSurveyedNumbers (asked_of roles.entry) from upto) result }
+{
+    let survey = survey_slice(alloc, roles, DEFAULT_NODES, from, upto)?;
+    Ok(show_survey(alloc, roles.component, &survey)?)
+}
+
+/// What is answered where all matrices are certified, whatever their certificates.
+fn survey_part(alloc: Global, roles: Roles<'_>, part: CampaignPart) -> Result<Answer, Refusal>
+    requires { CanAsk (asked_of roles) }
+    ensures { Answered (spec.IsSurveyedPart part (asked_of roles.entry)) result }
+{
+    match part {
+        CampaignPart::Whole => survey_numbers(alloc, roles, 0, u64::MAX),
+        CampaignPart::Slice { from, upto } => survey_numbers(alloc, roles, from, upto),
+        CampaignPart::Count => count_all(alloc, roles.candidates, roles.calls),
+    }
+}
+
+/// What is answered where each thread has its own candidates.
+fn try_lists(
+    alloc: Global,
+    component: &Component,
+    setup: &Calls,
+    candidates: &[Calls],
+    options: CampaignOptions,
+) -> Result<Answer, Refusal>
+    requires setup { IsSetup setup.now }
+    requires setup_of { AreCallsOf component.now setup.now }
+    requires settles { AllEnd component.now setup.now }
+    requires of { AllCallsOf component.now candidates.now }
+    requires arguments { AllHaveArguments candidates.now }
+    ensures { Answered
+        (spec.IsListsAnswer component.now setup.now candidates.now options) result }
+{
+    let roles = Roles {
+        component,
+        setup,
+        candidates,
+        calls: options.calls,
+        bound: options.bounds.bound(),
+        serial: options.bounds.serial(),
+    };
+    match options.trial {
+        CampaignTrial::Checked => check_part(alloc, roles, options.part),
+        CampaignTrial::Certified => certify_part(alloc, roles, options.part),
+        CampaignTrial::Surveyed => survey_part(alloc, roles, options.part),
+    }
+}
+
+/// What is answered where so many threads have the same candidates, and a part is asked for.
+fn try_part(
+    alloc: Global,
+    component: &Component,
+    setup: &Calls,
+    candidates: &[Call],
+    threads: u8,
+    options: CampaignOptions,
+) -> Result<Answer, Refusal>
+    requires setup { IsSetup setup.now }
+    requires setup_of { AreCallsOf component.now setup.now }
+    requires settles { AllEnd component.now setup.now }
+    requires of { AreCallsOf component.now candidates.now }
+    requires arguments { HaveArguments candidates.now }
+    ensures { Answered (IsTriedPart component.now setup.now candidates.now threads options) result }
+{
+    let lists = same_lists(alloc, candidates, threads)?;
+    try_lists(alloc, component, setup, &lists, options)
+}
+
+/// What is answered where so many threads have the same candidates.
+fn try_alike(
+    alloc: Global,
+    component: &Component,
+    setup: &Calls,
+    candidates: &[Call],
+    threads: u8,
+    options: CampaignOptions,
+) -> Result<Answer, Refusal>
+    requires setup { IsSetup setup.now }
+    requires setup_of { AreCallsOf component.now setup.now }
+    requires settles { AllEnd component.now setup.now }
+    requires of { AreCallsOf component.now candidates.now }
+    requires arguments { HaveArguments candidates.now }
+    ensures { Answered (IsTriedSame component.now setup.now candidates.now threads options) result }
+{
+    match (options.trial, options.part) {
+        (CampaignTrial::Checked, CampaignPart::Whole) => {
+            try_matrices(alloc, component, setup, candidates, threads, options)
+        }
+        _ => try_part(alloc, component, setup, candidates, threads, options),
+    }
+}
+
+/// What is answered to the calls of the matrix's one thread, with the matrix's setup.
+fn try_candidates(
+    alloc: Global,
+    component: &Component,
+    matrix: &Matrix,
+    threads: u8,
+    options: CampaignOptions,
+) -> Result<Answer, Refusal>
+    requires { CanRun component.now matrix.now }
+    ensures { Answered (spec.IsCampaignAlike component.now threads options matrix.now) result }
+{
+    match matrix.as_slice() {
+        [candidates] => {
+            let setup = matrix.setup();
+            try_alike(
+                alloc,
+                component,
+                setup,
+                candidates.as_slice(),
+                threads,
+                options,
+            )
+        }
+        _ => Err(Refusal::Campaign(CampaignFault::Candidates)),
+    }
+}
+
+/// What is answered to the lines of the matrix, with its setup.
+fn try_lines(
+    alloc: Global,
+    component: &Component,
+    matrix: &Matrix,
+    options: CampaignOptions,
+) -> Result<Answer, Refusal>
+    requires { CanRun component.now matrix.now }
+    ensures { Answered (spec.IsCampaignByThreads Own component.now options matrix.now) result }
+{
+    try_lists(alloc, component, matrix.setup(), matrix.as_slice(), options)
+}
+
+/// What is answered to a matrix of the component.
+fn try_matrix(
+    alloc: Global,
+    component: &Component,
+    matrix: &Matrix,
+    options: CampaignOptions,
+) -> Result<Answer, Refusal>
+    requires { CanRun component.now matrix.now }
+    ensures { Answered (spec.IsCampaignOfMatrix component.now options matrix.now) result }
+{
+    match options.threads {
+        CampaignThreads::Alike(threads) => {
+            try_candidates(alloc, component, matrix, threads, options)
+        }
+        CampaignThreads::Own => try_lines(alloc, component, matrix, options),
+    }
+}
+
+/// `lineup campaign`: component, and a matrix whose one thread, or each of whose threads, makes the
+/// calls to choose from.
+pub(crate) fn answer_campaign(
+    alloc: Global,
+    options: CampaignOptions,
+    parts: &[&[u8]],
+) -> Result<Answer, Refusal>
+    ensures { Answered (spec.IsAnswerToCampaign options (texts parts.now)) result }
+{
+    let (component, matrix) = exactly_two(parts).ok_or(Refusal::Parts)?;
+    let case = read_texts(alloc, component, matrix)?;
+    try_matrix(alloc, &case.component, &case.matrix, options)
+}

@@ -1,0 +1,291 @@
+//! What there is to say of a bundle: by its component's text, or by its source's own.
+
+ghost use Rattle.std.specs.Prelude.{◌≡◌, ◌++◌, IfOk, OnOk, string_bytes};
+ghost use Rattle.std.specs.List.{list_any};
+ghost use Rattle.lu_text.specs.Lines.{texts};
+ghost use Rattle.lu_text.specs.Writing.{Writes};
+ghost use Rattle.lu_text.specs.Results.{HasItems};
+ghost use Rattle.lu_lint.specs.Messages as messages;
+ghost use Rattle.lu_lint.specs.Said.{is_fault};
+ghost use Rattle.lu_cli.specs.Compile.{lent_after};
+ghost use Rattle.lu_cli.specs.Lint as spec;
+ghost use Rattle.lu_cli.specs.Lint.{AddsMessage, AreRemarksAfter, IsFaulted, IsLint, IsLinted, IsLintedAfter, IsSourceLinted, WritesMessages};
+
+use crate::answer::Answer;
+use lu_component::Component;
+use lu_lang::write_component;
+use lu_lint::{Cause, FaultKind, Remark, Said, lint};
+use lu_report::Bounds;
+use lu_source_lint::{SourceMessage, What, faults_of, warnings_of, wording};
+use lu_source_text::{compile_text, is_source};
+use lu_text::{Fault, bundle_parts, lines_of};
+use lu_wording::Words;
+use std::alloc::{AllocError, Global};
+
+/// Adds what stands before the words.
+fn write_mark(text: &mut String, what: What) -> Result<(), AllocError>
+    ensures { Writes result text.old text.new (spec.mark_of what) }
+{
+    match what {
+        What::Fault(_) => Ok(()),
+        What::Warning(_) => text.push_str("warning: "),
+    }
+}
+
+/// Adds what stands after the words.
+fn write_tail(text: &mut String, what: What) -> Result<(), AllocError>
+    ensures { Writes result text.old text.new (spec.tail_of what) }
+{
+    match what {
+        What::Fault(kind) => write!(text, " ({})", kind.code()),
+        What::Warning(_) => Ok(()),
+    }
+}
+
+/// Adds the line of a message, in these words.
+fn write_line(text: &mut String, message: SourceMessage, words: &str) -> Result<(), AllocError>
+    ensures { Writes result text.old text.new (spec.message_line message words.now) }
+{
+    write!(text, "line {}: ", message.line)?;
+    write_mark(text, message.what)?;
+    text.push_str(words)?;
+    write_tail(text, message.what)?;
+    text.push('\n')
+}
+
+/// Adds the line of a message of a source with these lines.
+fn write_message(
+    alloc: Global,
+    text: &mut String,
+    message: SourceMessage,
+    lines: &[&[u8]],
+) -> Result<(), AllocError>
+    ensures { OnOk result (AddsMessage message (string_bytes text.old) (string_bytes text.new)) }
+{
+    let words = wording(alloc, &message, lines)?;
+    write_line(text, message, words.as_str())
+}
+
+/// Adds a line for each message.
+fn write_messages(
+    alloc: Global,
+    text: &mut String,
+    messages: &[SourceMessage],
+    lines: &[&[u8]],
+) -> Result<(), AllocError>
+    ensures { OnOk result (WritesMessages messages.now text.old text.new) }
+{
+    for message in messages {
+        write_message(alloc, text, *message, lines)?;
+    }
+    Ok(())
+}
+
+/// Every fault of a source.
+fn answer_faults(alloc: Global, source: &[u8]) -> Result<Answer, AllocError>
+    ensures { IfOk result (IsFaulted source.now) }
+{
+    let lines = lines_of(alloc, source)?;
+    let faults = faults_of(alloc, source)?;
+    let mut text = String::new(alloc);
+    write_messages(alloc, &mut text, &faults, &lines)?;
+    Ok(Answer { text, status: 2 })
+}
+
+/// Adds these parts, each with the line before it.
+fn push_parts(bundle: &mut Vec<u8>, parts: &[&[u8]]) -> Result<(), AllocError>
+    ensures { OnOk result
+        (bundle.new.items ≡ bundle.old.items ++ lent_after parts.now) }
+{
+    for part in parts {
+        bundle.extend_from_slice(b"---\n")?;
+        bundle.extend_from_slice(part)?;
+    }
+    Ok(())
+}
+
+/// The remark, where it is of a line after the first `above`: on the line that it has where `now`
+/// lines stand in their place.
+fn moved(remark: Remark, above: usize, now: usize) -> Option<Remark>
+    ensures { result ≡ spec.moved above now remark }
+{
+    let Remark { said, words } = remark;
+    let Said { place, cause } = said;
+    if place <= above {
+        return None;
+    }
+    let place = now.saturating_add(place - above);
+    Some(Remark {
+        said: Said { place, cause },
+        words,
+    })
+}
+
+/// What is said of lines after the first `above`, where `now` lines stand in their place.
+fn remarks_below(
+    alloc: Global,
+    remarks: Vec<Remark>,
+    above: usize,
+    now: usize,
+) -> Result<Vec<Remark>, AllocError>
+    ensures { HasItems result (spec.remarks_below above now remarks.items) }
+{
+    remarks
+        .into_iter()
+        .filter_map(|remark| moved(remark, above, now))
+        .collect(alloc)
+}
+
+/// Whether a remark tells a fault.
+fn have_fault(remarks: &[Remark]) -> bool
+    ensures { result ≡ list_any (λ r. is_fault r.said.cause) remarks.now }
+{
+    remarks.iter().any(|remark| remark.said.cause.is_fault())
+}
+
+/// What stands before the words of a remark.
+fn remark_word(cause: &Cause) -> &'static str
+    ensures { result.now ≡ messages.remark_word cause.now }
+{
+    if cause.is_fault() { "" } else { "warning: " }
+}
+
+/// Adds the code of a fault and its line in the part.
+fn write_fault_tail(text: &mut String, kind: FaultKind, line: usize) -> Result<(), AllocError>
+    ensures { Writes result text.old text.new (messages.fault_tail kind line) }
+{
+    let (code, part) = (kind.code(), kind.part());
+    write!(text, " ({code}, line {line} of the {part})\n")
+}
+
+/// Adds what stands after the words of a remark.
+fn write_remark_tail(text: &mut String, cause: &Cause) -> Result<(), AllocError>
+    ensures { Writes result text.old text.new (messages.remark_tail cause.now) }
+{
+    match cause {
+        Cause::Fault(kind, line) => write_fault_tail(text, *kind, *line),
+        Cause::FifthPart => text.push_str(" (B1)\n"),
+        Cause::Separator | Cause::Warning(_) | Cause::Run(_) => text.push_str("\n"),
+    }
+}
+
+/// Adds the line of one remark.
+fn write_remark(text: &mut String, remark: &Remark) -> Result<(), AllocError>
+    ensures { Writes result text.old text.new (messages.remark_text remark.now) }
+{
+    let cause = &remark.said.cause;
+    write!(
+        text,
+        "line {}: {}{}",
+        remark.said.place,
+        remark_word(cause),
+        remark.words.as_str()
+    )?;
+    write_remark_tail(text, cause)
+}
+
+/// Adds a line for each remark.
+fn write_remarks(text: &mut String, remarks: &[Remark]) -> Result<(), AllocError>
+    ensures { Writes result text.old text.new (messages.remarks_text remarks.now) }
+{
+    for remark in remarks {
+        write_remark(text, remark)?;
+    }
+    Ok(())
+}
+
+/// The component, with these parts after it.
+fn bundle_of(alloc: Global, component: &Component, parts: &[&[u8]]) -> Result<Vec<u8>, AllocError>
+    ensures { HasItems result (spec.bundle_of component.now (texts parts.now)) }
+{
+    let mut bundle = write_component(alloc, component)?.into_bytes();
+    push_parts(&mut bundle, parts)?;
+    Ok(bundle)
+}
+
+/// What there is to say of the parts after the source, whose component is this, on their lines.
+fn remarks_after(
+    alloc: Global,
+    bounds: Bounds,
+    component: &Component,
+    source_lines: usize,
+    parts: &[&[u8]],
+) -> Result<Vec<Remark>, AllocError>
+    ensures { IfOk result (AreRemarksAfter bounds component.now source_lines (texts parts.now)) }
+{
+    let text = write_component(alloc, component)?;
+    let lines = lines_of(alloc, text.as_bytes())?.len();
+    let bundle = bundle_of(alloc, component, parts)?;
+    let linted = lint(alloc, &Words, &bundle, bounds.serial())?;
+    remarks_below(alloc, linted.remarks, lines, source_lines)
+}
+
+/// What is odd in a source without faults, whose component is this, and what there is to say of
+/// the parts after it.
+fn lint_after(
+    alloc: Global,
+    bounds: Bounds,
+    source: &[u8],
+    component: &Component,
+    parts: &[&[u8]],
+) -> Result<Answer, AllocError>
+    ensures { IfOk result
+        (IsLintedAfter bounds source.now (texts parts.now) component.now) }
+{
+    let lines = lines_of(alloc, source)?;
+    let warnings = warnings_of(alloc, source)?;
+    let remarks = remarks_after(alloc, bounds, component, lines.len(), parts)?;
+    let mut text = String::new(alloc);
+    write_messages(alloc, &mut text, &warnings, &lines)?;
+    write_remarks(&mut text, &remarks)?;
+    Ok(Answer {
+        text,
+        status: if have_fault(&remarks) { 2 } else { 0 },
+    })
+}
+
+/// What there is to say of a source, and of the parts after it.
+fn lint_source(
+    alloc: Global,
+    bounds: Bounds,
+    source: &[u8],
+    parts: &[&[u8]],
+) -> Result<Answer, AllocError>
+    ensures { IfOk result (IsSourceLinted bounds source.now (texts parts.now)) }
+{
+    match compile_text(alloc, source) {
+        Ok(component) => lint_after(alloc, bounds, source, &component, parts),
+        Err(Fault::At(_, _)) => answer_faults(alloc, source),
+        Err(Fault::Memory) => Err(AllocError),
+    }
+}
+
+/// What there is to say of a bundle whose component is none of a source.
+fn lint_component(alloc: Global, bounds: Bounds, bundle: &[u8]) -> Result<Answer, AllocError>
+    ensures { IfOk result (IsLinted bounds bundle.now) }
+{
+    let linted = lint(alloc, &Words, bundle, bounds.serial())?;
+    Ok(Answer {
+        text: linted.text,
+        status: if linted.faults { 2 } else { 0 },
+    })
+}
+
+/// `lineup lint`: what there is to say of a bundle.
+pub(crate) fn answer_lint(
+    alloc: Global,
+    bounds: Bounds,
+    bundle: &[u8],
+) -> Result<Answer, AllocError>
+    ensures { IfOk result (IsLint bounds bundle.now) }
+{
+    let parts = bundle_parts(alloc, bundle)?;
+    match parts.split_first() {
+        None => lint_component(alloc, bounds, bundle),
+        Some((first, rest)) => if is_source(alloc, first)? {
+            lint_source(alloc, bounds, first, rest)
+        } else {
+            lint_component(alloc, bounds, bundle)
+        },
+    }
+}
