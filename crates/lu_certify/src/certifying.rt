@@ -74,7 +74,7 @@ pub(crate) fn certify_knowing<P: Progress>(
     component: &Component,
     matrix: &Matrix,
     limits: Limits,
-    known: Vec<Option<Looked>>,
+    mut known: Vec<Option<Looked>>,
     progress: &P,
 ) -> Result<Certificate, AllocError>
     requires of { CanRun component.now matrix.now }
@@ -87,7 +87,6 @@ pub(crate) fn certify_knowing<P: Progress>(
 {
     let cuts = count_cuts(matrix);
     let spins = may_spin(component);
-    let mut known = known;
     let mut so_far = SoFar::Clear;
     for place in 0..cuts {
         let cut = cut_at(alloc, matrix, place)?;

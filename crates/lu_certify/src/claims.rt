@@ -6,7 +6,7 @@ use std::sync::atomic::{AtomicU64, Ordering};
 
 /// From which end a worker takes cuts. Small cuts stand first, and are soon done, as most failures
 /// are found in them; the last one is the whole matrix, which takes longest.
-#[derive(Clone, Copy, PartialEq, Eq)]
+#[derive(Clone, Copy)]
 pub(crate) enum End {
     First,
     Last,

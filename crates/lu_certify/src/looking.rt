@@ -1,6 +1,6 @@
 //! Cuts that are looked at.
 
-ghost use Rattle.std.specs.Prelude.{◌≡◌, ◌<◌, ◌≤◌, IfErr, IfOk, IfSome, false, true};
+ghost use Rattle.std.specs.Prelude.{◌≡◌, ◌≢◌, Ok, ◌<◌, ◌≤◌, IfErr, IfOk, IfSome, false, true};
 ghost use Rattle.lu_machine.specs.Starts.{CanRun};
 ghost use Rattle.lu_graph.specs.declared.halted.Halted.TheVariants.{Stopped};
 ghost use Rattle.lu_replay.specs.Reports.{IsReport};
@@ -93,6 +93,18 @@ fn look_checked<W: Watch>(
     with_livelock(alloc, component, cut, judged, is_sought, limits, watch)
 }
 
+/// What was found, where no watch stopped the look.
+fn unhalted(found: Result<Looked, Halted>) -> Result<Looked, AllocError>
+    requires { IfErr found (λ halted. halted ≢ Stopped) }
+    ensures { IfOk result (λ looked. found ≡ Ok looked) }
+{
+    match found {
+        Ok(looked) => Ok(looked),
+        Err(Halted::Memory) => Err(AllocError),
+        Err(Halted::Stopped) => unreachable!(),
+    }
+}
+
 /// What was taken as found of the cut, or else what a look at it says, on the calling thread.
 pub(crate) fn looked_or_look<P: Progress>(
     alloc: Global,
@@ -124,11 +136,7 @@ pub(crate) fn looked_or_look<P: Progress>(
         &mut count,
     );
     count.tell_done();
-    match result {
-        Ok(looked) => Ok(looked),
-        Err(Halted::Memory) => Err(AllocError),
-        Err(Halted::Stopped) => unreachable!(),
-    }
+    unhalted(result)
 }
 
 /// Looks at a cut that has this report at the bounds, on the calling thread.
@@ -149,11 +157,7 @@ pub(crate) fn look_after_check<P: Progress>(
     let mut count = NodeCount::new(progress);
     let result = look_checked(alloc, component, cut, report, is_sought, limits, &mut count);
     count.tell_done();
-    match result {
-        Ok(looked) => Ok(looked),
-        Err(Halted::Memory) => Err(AllocError),
-        Err(Halted::Stopped) => unreachable!(),
-    }
+    unhalted(result)
 }
 
 /// Looks at the cut at a place, at its nodes first.
