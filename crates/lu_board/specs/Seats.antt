@@ -10,6 +10,10 @@ pub record Board : Type 0 where
   pub pieces : ℕ
   pub workers : ℕ
 
+-- a board of some workers stands in four words, and in no slots
+abbrev pub IsTableFor : ℕ → TableId → Type 0
+IsTableFor workers table = (table.words ≡ 4) × (table.slots ≡ 0) × (0 < workers)
+
 -- a seat: its board, and what it knows
 pub record Seat : Type 0 where
   pub board : TableId
@@ -41,6 +45,10 @@ pub record FieldsTell (n : ℕ) (spent gave_up : Bool) (v : View) : Type 0 where
   pub spent_is : v.spent ≡ (if spent then 1 else 0)
   pub weight : v.weight ≡ 1
   pub given : TellsGiven gave_up v
+
+-- and its token knows so much, and holds nothing beside
+abbrev pub IsSeatWith : {E : Type 0} → ℕ → Bool → Bool → View × List E → Type 0
+IsSeatWith n spent gave_up (v, beside) = FieldsTell n spent gave_up v × (beside ≡ [])
 
 -- the view v, after all that the seats have
 abbrev pub gathered : List Seat → View → View

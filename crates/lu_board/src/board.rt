@@ -32,7 +32,7 @@ pub struct Board {
 
 impl Model for Board {
     ghost use Rattle.std.specs.Prelude.{◌≡◌, ◌<◌};
-    ghost use Rattle.lu_board.specs.Seats.{Board as ABoard};
+    ghost use Rattle.lu_board.specs.Seats.{Board as ABoard, IsTableFor};
 
     ghost Value = { ABoard };
 
@@ -42,8 +42,7 @@ impl Model for Board {
       workers = b.table.shared.key.workers;
     } };
 
-    ghost invariant = { λ b. let t = b.table.shared in
-        (t.table_id.words ≡ 4) × (t.table_id.slots ≡ 0) × (0 < t.key.workers) };
+    ghost invariant = { λ b. IsTableFor b.table.shared.key.workers b.table.shared.table_id };
 }
 
 /// A worker's right to claim pieces of one board. Contracts see what it knows as its [`View`].
@@ -64,14 +63,13 @@ pub struct Seat {
 
 impl Model for Seat {
     ghost use Rattle.std.specs.Prelude.{◌≡◌, []};
-    ghost use Rattle.lu_board.specs.Seats.{Seat as ASeat, FieldsTell};
+    ghost use Rattle.lu_board.specs.Seats.{Seat as ASeat, IsSeatWith};
 
     ghost Value = { ASeat };
 
     ghost view = { λ s. record { board = s.token.table_id; view = s.token.me.0 } };
 
-    ghost invariant = { λ s.
-        FieldsTell s.pieces s.spent s.gave_up s.token.me.0 × (s.token.me.1 ≡ []) };
+    ghost invariant = { λ s. IsSeatWith s.pieces s.spent s.gave_up s.token.me };
 }
 
 /// What came of a board.

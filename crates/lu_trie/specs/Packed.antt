@@ -3,7 +3,7 @@ use Rattle.std.specs.Prelude.{◌≡◌, ℕ, ◌+◌, ◌<◌, ◌≤◌, Bool,
 use Rattle.lu_history.specs.declared.serial.SerialOp.{SerialOp}
 use Rattle.lu_trie.specs.declared.packed.PackedNode.{PackedNode}
 use Rattle.lu_trie.specs.Members.{AllSerial}
-use Rattle.lu_trie.specs.Branches.{Branch, members_from, AreBranches}
+use Rattle.lu_trie.specs.Branches.{Branch, members_from, AreBranches, IsBranching}
 
 -- a label, and the place of the node after it
 abbrev pub Link : Type 0
@@ -55,3 +55,7 @@ ArePacked links table (node ∷ nodes) =
 -- the set of a packed trie: the members below its root
 abbrev pub members_of : (List (List (List SerialOp)) × ℕ) → List (List SerialOp)
 members_of packed = slice_index_or packed.0 packed.1 []
+
+-- there is a node at this place of the table
+abbrev pub IsPlaceIn : List (List (List SerialOp)) → ℕ → Type 0
+IsPlaceIn table place = (place < length table) × IsBranching (slice_index_or table place [])

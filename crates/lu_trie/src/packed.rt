@@ -3,8 +3,8 @@
 ghost use Rattle.std.specs.Prelude.{◌≡◌, ◌<◌, ◌++◌, List, [], length, slice_index_or, IfOk};
 ghost use Rattle.lu_history.specs.declared.serial.SerialOp.{SerialOp};
 ghost use Rattle.lu_trie.specs.Members.{AllSerial};
-ghost use Rattle.lu_trie.specs.Branches.{AreBranches, IsBranching, members_from};
-ghost use Rattle.lu_trie.specs.Packed.{AllBelow, HoldsFrom, members_of, resolve};
+ghost use Rattle.lu_trie.specs.Branches.{AreBranches, members_from};
+ghost use Rattle.lu_trie.specs.Packed.{AllBelow, HoldsFrom, IsPlaceIn, members_of, resolve};
 
 use crate::tree::SerialTree;
 use crate::trie::Trie;
@@ -131,8 +131,7 @@ impl<'a, A: Allocator> SerialTree for &'a PackedTrie<A> {
 
     ghost below = { λ tree place. slice_index_or tree.now.0 place [] };
 
-    ghost is_place = { λ tree place.
-        (place < length tree.now.0) × IsBranching (slice_index_or tree.now.0 place []) };
+    ghost is_place = { λ tree place. IsPlaceIn tree.now.0 place };
 
     ghost branching = { λ tree place is. is.1 };
 
