@@ -4,6 +4,7 @@ ghost use Rattle.std.specs.Prelude.{◌≡◌, ◌≤◌, slice_get};
 ghost use Rattle.std.specs.Option.{option_copied};
 ghost use Rattle.lu_component.specs.Component.{IsComponent, declarations};
 ghost use Rattle.lu_component.specs.Component as spec;
+ghost use Rattle.lu_component.specs.declared.component.TheConstants.{MOST_LOCAL};
 
 use crate::instr::Instr;
 use lu_text::Name;
@@ -152,7 +153,7 @@ impl Component {
     /// registers alone, or jump. With 0 each is a move of its own.
     pub fn local(&self) -> u8
         ensures local { result ≡ self.now.local }
-        ensures few { result ≤ 16 }
+        ensures few { result ≤ MOST_LOCAL }
     {
         self.local
     }

@@ -8,6 +8,7 @@ ghost use Rattle.std.specs.Prelude.{◌≡◌, ◌↔◌, ◌+◌, [], ◌∷◌
 ghost use Rattle.lu_history.specs.Histories.{IsWellFormed};
 ghost use Rattle.lu_explain.specs.AnyOrders.{TellsLeast};
 ghost use Rattle.lu_explain.specs.Search.{AreFewTaken, Completes, HasRestOfParts, IsNextOutcome, number};
+ghost use Rattle.lu_test.specs.declared.matrix.TheConstants.{MOST_CALLS_OF_THREAD, MOST_THREADS};
 
 use crate::operations::Order;
 use crate::search::one_more;
@@ -83,7 +84,7 @@ fn is_nothing_left(history: &History, taken: &[u8; MOST_THREADS]) -> bool
 fn is_next_outcome(history: &History, taken: &[u8; MOST_THREADS], op: SerialOp) -> bool
     requires { IsWellFormed history.now }
     ensures next { IsTrue result ↔ IsNextOutcome taken.now history.now op }
-    ensures room { IsTrue result → (op.thread < 8) × (get_or taken.now op.thread 0 < 8) }
+    ensures room { IsTrue result → (op.thread < MOST_THREADS) × (get_or taken.now op.thread 0 < MOST_CALLS_OF_THREAD) }
 {
     if op.thread >= 8 {
         return false;

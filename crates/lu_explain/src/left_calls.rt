@@ -2,6 +2,7 @@
 
 ghost use Rattle.std.specs.Prelude.{◌≡◌, ◌<◌, IfSome, length};
 ghost use Rattle.lu_history.specs.Histories.{IsWellFormed};
+ghost use Rattle.lu_test.specs.declared.matrix.TheConstants.{MOST_CALLS_OF_THREAD, MOST_THREADS};
 ghost use Rattle.lu_witness.specs.Witnesses.{IsMember};
 ghost use Rattle.lu_explain.specs.Search.{TellsBlocker, TellsMore, TellsOutcome, TellsStanding, TellsStandings};
 
@@ -13,7 +14,7 @@ use lu_trie::SerialTree;
 /// The least thread whose number is greater in `before` than in `taken`.
 fn first_more(before: &[u8; MOST_THREADS], taken: &[u8; MOST_THREADS]) -> Option<u8>
     ensures first { TellsMore taken.now before.now result }
-    ensures thread { IfSome result (λ t. t < 8) }
+    ensures thread { IfSome result (λ t. t < MOST_THREADS) }
 {
     for thread in 0..8 {
         if taken[usize::from(thread)] < before[usize::from(thread)] {
@@ -27,8 +28,8 @@ fn first_more(before: &[u8; MOST_THREADS], taken: &[u8; MOST_THREADS]) -> Option
 /// precedes it, the first that is left.
 pub(crate) fn blocker(history: &History, taken: &[u8; MOST_THREADS], b: OpId) -> Option<OpId>
     requires history { IsWellFormed history.now }
-    requires thread { b.t < 8 }
-    requires call { b.k < 8 }
+    requires thread { b.t < MOST_THREADS }
+    requires call { b.k < MOST_CALLS_OF_THREAD }
     ensures { TellsBlocker taken.now history.now b result }
 {
     match first_more(history.before(b), taken) {
@@ -65,7 +66,7 @@ fn reason_not_next<T: SerialTree>(
 ) -> Option<Reason>
     requires history { IsWellFormed history.now }
     requires place { T.is_place tree.now place }
-    requires thread { t < 8 }
+    requires thread { t < MOST_THREADS }
     ensures { TellsStanding (IsMember (T.below tree.now place)) taken.now history.now t result }
 {
     let next = OpId {
@@ -91,7 +92,7 @@ pub(crate) fn reasons<T: SerialTree>(
 ) -> [Option<Reason>; MOST_THREADS]
     requires history { IsWellFormed history.now }
     requires place { T.is_place tree.now place }
-    ensures threads { length result ≡ 8 }
+    ensures threads { length result ≡ MOST_THREADS }
     ensures each { TellsStandings (IsMember (T.below tree.now place)) taken.now history.now result }
 {
     let mut left = [None; MOST_THREADS];

@@ -6,6 +6,7 @@
 
 ghost use Rattle.std.specs.Prelude.{◌≡◌, ◌+◌, ◌<◌, ◌∷◌, IsTrue, length, get_or};
 ghost use Rattle.lu_history.specs.Histories.{IsWellFormed};
+ghost use Rattle.lu_test.specs.declared.matrix.TheConstants.{MOST_CALLS_OF_THREAD, MOST_THREADS};
 ghost use Rattle.lu_witness.specs.Search.{TakesOne, TellsNext};
 ghost use Rattle.lu_explain.specs.Search.{AreFewTaken, IsLongestWay, IsOneMoreTaken, number};
 
@@ -71,7 +72,7 @@ fn behind<P: Copy>(op: SerialOp, mut way: Way<P>) -> Way<P>
 fn is_next(history: &History, taken: &[u8; MOST_THREADS], op: SerialOp) -> bool
     requires { IsWellFormed history.now }
     ensures next { TellsNext taken.now history.now op result }
-    ensures room { IsTrue result → (op.thread < 8) × (get_or taken.now op.thread 0 < 8) }
+    ensures room { IsTrue result → (op.thread < MOST_THREADS) × (get_or taken.now op.thread 0 < MOST_CALLS_OF_THREAD) }
 {
     if op.thread >= 8 {
         return false;
@@ -85,8 +86,8 @@ fn is_next(history: &History, taken: &[u8; MOST_THREADS], op: SerialOp) -> bool
 
 /// The numbers with one more for the thread.
 pub(crate) fn one_more(taken: &[u8; MOST_THREADS], thread: u8) -> [u8; MOST_THREADS]
-    requires thread { thread < 8 }
-    requires room { get_or taken.now thread 0 < 8 }
+    requires thread { thread < MOST_THREADS }
+    requires room { get_or taken.now thread 0 < MOST_CALLS_OF_THREAD }
     ensures takes { TakesOne thread taken.now result }
     ensures one { IsOneMoreTaken thread taken.now result }
     ensures few { AreFewTaken taken.now → AreFewTaken result }

@@ -1,6 +1,7 @@
 //! Certificates by longer moves.
 
 ghost use Rattle.std.specs.Prelude.{◌≤◌, IfOk};
+ghost use Rattle.lu_component.specs.declared.component.TheConstants.{MOST_LOCAL};
 ghost use Rattle.lu_machine.specs.Starts.{CanRun};
 ghost use Rattle.lu_report.specs.Limits.{IsSerialBound, most_moves};
 ghost use Rattle.lu_certify.specs.Certificates.{NamesCutOf};
@@ -31,7 +32,7 @@ pub fn certify_longer(
 ) -> Result<Certificate, AllocError>
     requires of { CanRun component.now matrix.now }
     requires longer { component.now.local ≤ local }
-    requires few { local ≤ 16 }
+    requires few { local ≤ MOST_LOCAL }
     requires bound { limits.bound ≤ most_moves }
     requires serial { IsSerialBound limits.serial }
     ensures certificate { IfOk result (IsMadeWith local component.now matrix.now limits) }

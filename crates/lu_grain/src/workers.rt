@@ -1,6 +1,7 @@
 //! Certificates by longer moves and with workers.
 
 ghost use Rattle.std.specs.Prelude.{◌≡◌, ◌≤◌, IfErr, IfOk};
+ghost use Rattle.lu_component.specs.declared.component.TheConstants.{MOST_LOCAL};
 ghost use Rattle.lu_machine.specs.Starts.{CanRun};
 ghost use Rattle.lu_parallel.specs.declared.fault.CheckFault.TheVariants.{Memory};
 ghost use Rattle.lu_certify.specs.Certificates.{NamesCutOf};
@@ -34,7 +35,7 @@ pub fn certify_longer_with_progress<R: Threads + Wait, G: Gate, P: Progress>(
 ) -> Result<Certificate, CheckFault>
     requires of { CanRun component.now matrix.now }
     requires longer { component.now.local ≤ local }
-    requires few { local ≤ 16 }
+    requires few { local ≤ MOST_LOCAL }
     ensures certificate { IfOk result (IsMadeWithin local component.now matrix.now options nodes) }
     ensures decides { IfOk result (DecidesAlike component.now matrix.now) }
     ensures of { IfOk result (NamesCutOf component.now) }
@@ -63,7 +64,7 @@ pub fn certify_longer_by_workers<R: Threads + Wait, G: Gate>(
 ) -> Result<Certificate, CheckFault>
     requires of { CanRun component.now matrix.now }
     requires longer { component.now.local ≤ local }
-    requires few { local ≤ 16 }
+    requires few { local ≤ MOST_LOCAL }
     ensures certificate { IfOk result (IsMadeWithin local component.now matrix.now options nodes) }
     ensures decides { IfOk result (DecidesAlike component.now matrix.now) }
     ensures of { IfOk result (NamesCutOf component.now) }

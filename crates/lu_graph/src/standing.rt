@@ -2,6 +2,7 @@
 
 ghost use Rattle.std.specs.Prelude.{◌≡◌, ◌≤◌};
 ghost use Rattle.lu_graph.specs.Judging.{called, ended, is_waiting};
+ghost use Rattle.lu_machine.specs.declared.lib.TheConstants.{MOST_MOVES};
 
 use lu_machine::{Activity, Machine};
 
@@ -31,7 +32,7 @@ pub(crate) fn is_waiting(machine: &Machine<'_>, thread: u8) -> bool
 /// How many are called.
 pub(crate) fn called(machine: &Machine<'_>, thread: u8) -> usize
     ensures value { result ≡ called machine.now thread }
-    ensures few { result ≤ 256 }
+    ensures few { result ≤ MOST_MOVES }
 {
     match machine.standing(thread) {
         None => 0,

@@ -5,6 +5,7 @@ ghost use Rattle.lu_machine.specs.declared.event.Event.{Event};
 ghost use Rattle.lu_history.specs.declared.operation.OpId.{OpId};
 ghost use Rattle.lu_history.specs.Histories.{Fits, HasPending, IsWellFormed, Precedes, AreBefore, calls, outcomes, pending, thread_of};
 ghost use Rattle.lu_history.specs.Parts.{LeavesOutOthers, part, is_kept, keep_pending};
+ghost use Rattle.lu_test.specs.declared.matrix.TheConstants.{MOST_CALLS_OF_THREAD, MOST_THREADS};
 
 use crate::fault::HistoryFault;
 use crate::operation::OpId;
@@ -79,7 +80,7 @@ impl History {
     /// How thread `t`'s operations returned, in order: the outcomes of the thread's part of the
     /// history (Herlihy and Wing, 1990). A pending one has no place here.
     pub fn outcomes(&self, t: u8) -> &[Outcome]
-        requires { t < 8 }
+        requires { t < MOST_THREADS }
         ensures { result.now ≡ outcomes t self.now }
     {
         let first = OpId { t, k: 0 }.place();
@@ -88,7 +89,7 @@ impl History {
 
     /// Whether thread `t`'s last operation is pending: called, and not returned.
     pub fn pending(&self, t: u8) -> bool
-        requires { t < 8 }
+        requires { t < MOST_THREADS }
         ensures number { result ≡ pending t self.now }
         ensures call { IsTrue result ↔ HasPending t self.now }
         ensures well_formed { IsWellFormed self.now }
@@ -100,7 +101,7 @@ impl History {
     /// The number of thread `t`'s calls. A search for a serial witness is done with a thread when
     /// it has taken as many.
     pub fn calls(&self, t: u8) -> u8
-        requires { t < 8 }
+        requires { t < MOST_THREADS }
         ensures { result ≡ calls t self.now }
     {
         let t = usize::from(t);
@@ -110,9 +111,9 @@ impl History {
     /// How the operation ended: as it returned, `Stuck` where it is pending, `None` where it is not
     /// called. It is what a serial witness has at that operation.
     pub fn ended(&self, a: OpId) -> Option<SerialOutcome>
-        requires { a.t < 8 }
+        requires { a.t < MOST_THREADS }
         ensures ended { result ≡ slice_get (part a.t self.now) a.k }
-        ensures few { IsSome result → a.k < 8 }
+        ensures few { IsSome result → a.k < MOST_CALLS_OF_THREAD }
         ensures well_formed { IsWellFormed self.now }
     {
         if a.k < self.returned[usize::from(a.t)] {
@@ -128,8 +129,8 @@ impl History {
     /// for a serial witness needs to know of precedence. Where `b` is not called the numbers mean
     /// nothing.
     pub fn before(&self, b: OpId) -> &[u8; 8]
-        requires thread { b.t < 8 }
-        requires call { b.k < 8 }
+        requires thread { b.t < MOST_THREADS }
+        requires call { b.k < MOST_CALLS_OF_THREAD }
         ensures { AreBefore self.now b result.now }
     {
         &self.before[b.place()]
@@ -138,8 +139,8 @@ impl History {
     /// Whether `a` returns before `b` is called (Herlihy and Wing, 1990). It is false where `a` has
     /// no return or `b` no call.
     pub fn precedes(&self, a: OpId, b: OpId) -> bool
-        requires a { (a.t < 8) × (a.k < 8) }
-        requires b { (b.t < 8) × (b.k < 8) }
+        requires a { (a.t < MOST_THREADS) × (a.k < MOST_CALLS_OF_THREAD) }
+        requires b { (b.t < MOST_THREADS) × (b.k < MOST_CALLS_OF_THREAD) }
         ensures { IsTrue result ↔ Precedes self.now a b }
     {
         b.k < self.called[usize::from(b.t)] && a.k < self.before(b)[usize::from(a.t)]
@@ -226,7 +227,7 @@ impl History {
 
     /// Whether the event stays where no pending call but thread `t`'s is kept.
     fn is_kept(&self, t: u8, event: Event) -> bool
-        requires { thread_of event < 8 }
+        requires { thread_of event < MOST_THREADS }
         ensures { result ≡ is_kept t self.now event }
     {
         match event {

@@ -1,6 +1,7 @@
 //! The names of operations.
 
 ghost use Rattle.std.specs.Prelude.{◌≡◌, ◌+◌, ◌*◌};
+ghost use Rattle.lu_test.specs.declared.matrix.TheConstants.{MOST_CALLS_OF_THREAD};
 
 use lu_test::MOST_CALLS_OF_THREAD;
 
@@ -14,7 +15,7 @@ pub struct OpId {
 impl OpId {
     /// The operation's place in a table with one for each operation, thread by thread.
     pub(crate) fn place(self) -> usize
-        ensures { result ≡ self.t * 8 + self.k }
+        ensures { result ≡ self.t * MOST_CALLS_OF_THREAD + self.k }
     {
         usize::from(self.t) * MOST_CALLS_OF_THREAD + usize::from(self.k)
     }

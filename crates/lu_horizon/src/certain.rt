@@ -1,6 +1,7 @@
 //! What is ahead at one operation's places.
 
 ghost use Rattle.std.specs.Prelude.{◌≡◌, ◌<◌};
+ghost use Rattle.lu_component.specs.declared.component.TheConstants.{MOST_INSTRS};
 ghost use Rattle.lu_horizon.specs.Code.{ahead_of_call, is_certain_cell, more_after, run_on, unless_there};
 ghost use Rattle.lu_horizon.specs.Outlooks.{IsWeaker};
 ghost use Rattle.lu_horizon.specs.Tables.{ahead_from, outlook_of};
@@ -96,7 +97,7 @@ pub(crate) fn certain(
     known: &[Outlook],
     rest: Outlook,
 ) -> Outlook
-    requires { place < 64 }
+    requires { place < MOST_INSTRS }
     ensures { IsWeaker result (ahead_from component.now code.now known.now rest place instr.now) }
 {
     let most = more_after(component, instr);

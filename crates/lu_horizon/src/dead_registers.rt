@@ -4,6 +4,7 @@
 //! not read again, whichever way the operation goes on from there.
 
 ghost use Rattle.std.specs.Prelude.{◌≡◌, ◌<◌, ◌≤◌, true, false, IfOk, [], get_or, length};
+ghost use Rattle.lu_component.specs.declared.component.TheConstants.{MOST_INSTRS};
 ghost use Rattle.lu_horizon.specs.Dead as spec;
 ghost use Rattle.lu_horizon.specs.Dead.{AreDead, AreDeadAt, IsDeadTable, TellsDead, is_dead};
 ghost use Rattle.lu_horizon.specs.Rounds.{AreLiveIn, AreWithin, IsRound, IsSettledAt, with_live};
@@ -87,7 +88,7 @@ fn dead_at(known: &[Dead], place: usize, register: u8) -> bool
 
 /// Whether the register is said to be dead wherever the operation may go from the instruction.
 fn dead_after(instr: &Instr, place: usize, register: u8, known: &[Dead]) -> bool
-    requires { place < 64 }
+    requires { place < MOST_INSTRS }
     ensures { result ≡ spec.dead_after (spec.dead_at known.now) place instr.now register }
 {
     match *instr {
@@ -102,7 +103,7 @@ fn dead_after(instr: &Instr, place: usize, register: u8, known: &[Dead]) -> bool
 
 /// Whether the register is not read by the instruction, and is written, or dead after it.
 fn dead_before(instr: &Instr, place: usize, register: u8, known: &[Dead]) -> bool
-    requires { place < 64 }
+    requires { place < MOST_INSTRS }
     ensures { result ≡ spec.dead_before (spec.dead_at known.now) place instr.now register }
 {
     !reads(instr, register)
@@ -121,7 +122,7 @@ fn say_live(known: &mut Vec<Dead>, place: usize, register: u8)
 /// places that may come next. Says whether that was so.
 fn look_at(code: &[Instr], place: usize, register: u8, known: &mut Vec<Dead>) -> bool
     requires within { place < length code.now }
-    requires few { length code.now ≤ 64 }
+    requires few { length code.now ≤ MOST_INSTRS }
     ensures round { IsRound code.now known.old.items known.new.items result }
     ensures settled { result ≡ false → IsSettledAt code.now known.new.items place register }
     ensures eight { length (get_or known.new.items place []) ≤ 8 }
@@ -136,7 +137,7 @@ fn look_at(code: &[Instr], place: usize, register: u8, known: &mut Vec<Dead>) ->
 /// Looks at each register at the place, and says whether less is dead there than was said.
 fn look_at_place(code: &[Instr], place: usize, known: &mut Vec<Dead>) -> bool
     requires within { place < length code.now }
-    requires few { length code.now ≤ 64 }
+    requires few { length code.now ≤ MOST_INSTRS }
     ensures round { IsRound code.now known.old.items known.new.items result }
     ensures settled { result ≡ false → AreDeadAt code.now known.new.items place }
 {
@@ -149,7 +150,7 @@ fn look_at_place(code: &[Instr], place: usize, known: &mut Vec<Dead>) -> bool
 
 /// Goes through the code from its end, and says whether less is dead than was said.
 fn go_through(code: &[Instr], known: &mut Vec<Dead>) -> bool
-    requires { length code.now ≤ 64 }
+    requires { length code.now ≤ MOST_INSTRS }
     ensures round { IsRound code.now known.old.items known.new.items result }
     ensures settled { result ≡ false → AreDead code.now known.new.items }
 {
@@ -186,7 +187,7 @@ impl DeadInOperation {
 /// The dead registers at each place of the code: all at first, and less with each round, until one
 /// finds all to be so.
 fn dead_in(alloc: Global, code: &[Instr]) -> Result<DeadInOperation, AllocError>
-    requires { length code.now ≤ 64 }
+    requires { length code.now ≤ MOST_INSTRS }
     ensures sound { IfOk result (AreDead code.now) }
     ensures exact { IfOk result (AreLiveIn code.now) }
     ensures within { IfOk result (AreWithin code.now) }

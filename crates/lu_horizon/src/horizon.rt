@@ -1,6 +1,7 @@
 //! The table of all places.
 
 ghost use Rattle.std.specs.Prelude.{◌≡◌, ◌<◌, ◌≤◌, IfOk, IfSome, length};
+ghost use Rattle.lu_component.specs.declared.component.TheConstants.{MOST_INSTRS};
 ghost use Rattle.lu_horizon.specs.Outlooks.{no_move};
 ghost use Rattle.lu_horizon.specs.Sure.{HasCaps, HasOutlook};
 ghost use Rattle.lu_horizon.specs.Tables.{AreOutlooks, IsCodeOf, IsThread, Serves, ServesRuns, StayOutlooks, outlook_before, outlook_of, outlook_within};
@@ -152,7 +153,7 @@ fn look(
     most: u16,
     known: &mut Vec<Outlook>,
 ) -> bool
-    requires few { length code.now ≤ 64 }
+    requires few { length code.now ≤ MOST_INSTRS }
     requires many { length known.old.items ≡ length code.now }
     ensures many { length known.new.items ≡ length code.now }
     ensures sure { StayOutlooks component.now code.now rest known.old.items known.new.items }
@@ -176,7 +177,7 @@ fn of_code(
     rest: Outlook,
     most: u16,
 ) -> Result<CallOutlooks, AllocError>
-    requires { length code.now ≤ 64 }
+    requires { length code.now ≤ MOST_INSTRS }
     ensures { IfOk result (AreOutlooks component.now code.now rest) }
 {
     let mut outlooks = vec![in alloc; Outlook::NOTHING; code.len()]?;
@@ -197,7 +198,7 @@ fn of_code(
 #[tactic(auto, unfolding(lu_machine::specs::States::instr_at))]
 pub(crate) fn code_of(component: &Component, op: u8) -> &[Instr]
     ensures code { IsCodeOf component.now op result.now }
-    ensures few { length result.now ≤ 64 }
+    ensures few { length result.now ≤ MOST_INSTRS }
 {
     match component.operations().get(usize::from(op)) {
         None => &[],

@@ -3,6 +3,7 @@
 ghost use Rattle.std.specs.Prelude.{◌≡◌, ◌==◌, ◌<◌, ◌≤◌, ◌∷◌, Ok, Some, None, length, map, nat_le, is_some};
 ghost use Rattle.std.specs.Option.{option_map};
 ghost use Rattle.std.specs.List.{position};
+ghost use Rattle.lu_component.specs.declared.component.TheConstants.{MOST_ARRAYS, MOST_INSTRS, MOST_LOCKS, MOST_OPS};
 ghost use Rattle.lu_text.specs.Lines.{text_if, texts};
 ghost use Rattle.lu_text.specs.Words.{exactly_one, exactly_two, exactly_three};
 ghost use Rattle.lu_text.specs.Faults.{Gives, TellsFirst, fault_in, meaning_of, meaning_of_lines};
@@ -27,19 +28,19 @@ use lu_text::{
 use std::alloc::{AllocError, Global};
 
 pub(crate) fn has_most_arrays(draft: &ComponentDraft) -> bool
-    ensures { result ≡ nat_le 16 (length draft.now.arrays) }
+    ensures { result ≡ nat_le MOST_ARRAYS (length draft.now.arrays) }
 {
     draft.arrays.len() >= MOST_ARRAYS
 }
 
 pub(crate) fn has_most_locks(draft: &ComponentDraft) -> bool
-    ensures { result ≡ nat_le 8 (length draft.now.locks) }
+    ensures { result ≡ nat_le MOST_LOCKS (length draft.now.locks) }
 {
     draft.locks.len() >= MOST_LOCKS
 }
 
 fn has_most_operations(draft: &ComponentDraft) -> bool
-    ensures { result ≡ nat_le 16 (length draft.now.operations) }
+    ensures { result ≡ nat_le MOST_OPS (length draft.now.operations) }
 {
     draft.operations.len() >= MOST_OPS
 }
@@ -77,7 +78,7 @@ pub(crate) fn has_label(op: &OpenOp, label: &[u8]) -> bool
 }
 
 fn has_most_statements(op: &OpenOp) -> bool
-    ensures { result ≡ nat_le 64 (length op.now.statements) }
+    ensures { result ≡ nat_le MOST_INSTRS (length op.now.statements) }
 {
     op.statements.len() >= MOST_INSTRS
 }

@@ -2,6 +2,7 @@
 
 ghost use Rattle.std.specs.Prelude.{◌≡◌, ◌≤◌, ◌∷◌, IfOk, string_bytes};
 ghost use Rattle.std.specs.List.Sorted.{IsNonDecreasingBy};
+ghost use Rattle.lu_report.specs.Limits.{most_moves};
 ghost use Rattle.lu_text.specs.Lines.{texts};
 ghost use Rattle.lu_lint.specs.Bundle.{AfterComponent, BundleSaid, OnMatrix, IsSaidOf, PartsSaid};
 ghost use Rattle.lu_lint.specs.Messages.{remarks_text};
@@ -45,7 +46,7 @@ fn with_second<W: Wording>(
     parts: &[&[u8]],
 ) -> Result<Vec<Remark>, AllocError>
     requires some { 1 ≤ serial }
-    requires few { serial ≤ 256 }
+    requires few { serial ≤ most_moves }
     ensures { SaysSuch result all (OnMatrix serial component.now above text.now (texts parts.now)) }
 {
     let (all, matrix) = with_matrix(alloc, wording, all, component, above, text)?;
@@ -67,7 +68,7 @@ fn with_after<W: Wording>(
     parts: &[&[u8]],
 ) -> Result<Vec<Remark>, AllocError>
     requires some { 1 ≤ serial }
-    requires few { serial ≤ 256 }
+    requires few { serial ≤ most_moves }
     ensures { SaysSuch result all (AfterComponent serial component.now above (texts parts.now)) }
 {
     match parts.split_first() {
@@ -88,7 +89,7 @@ fn with_first<W: Wording>(
     parts: &[&[u8]],
 ) -> Result<Vec<Remark>, AllocError>
     requires some { 1 ≤ serial }
-    requires few { serial ≤ 256 }
+    requires few { serial ≤ most_moves }
     ensures { SaysSuch result all (PartsSaid serial (text.now ∷ texts parts.now)) }
 {
     let (all, component) = with_component(alloc, wording, all, text)?;
@@ -107,7 +108,7 @@ fn with_parts<W: Wording>(
     parts: &[&[u8]],
 ) -> Result<Vec<Remark>, AllocError>
     requires some { 1 ≤ serial }
-    requires few { serial ≤ 256 }
+    requires few { serial ≤ most_moves }
     ensures { SaysSuch result all (PartsSaid serial (texts parts.now)) }
 {
     match parts.split_first() {
@@ -124,7 +125,7 @@ fn remarks_on<W: Wording>(
     serial: u16,
 ) -> Result<Vec<Remark>, AllocError>
     requires some { 1 ≤ serial }
-    requires few { serial ≤ 256 }
+    requires few { serial ≤ most_moves }
     ensures { IfOk result (λ all. BundleSaid serial bundle.now (said_of all.items)) }
 {
     let lines = kept_lines(alloc, bundle)?;
@@ -175,7 +176,7 @@ pub fn lint<W: Wording>(
     serial: u16,
 ) -> Result<Linted, AllocError>
     requires some { 1 ≤ serial }
-    requires few { serial ≤ 256 }
+    requires few { serial ≤ most_moves }
     // What is said, and of which lines.
     ensures said { IfOk result (λ l. IsSaidOf serial bundle.now (said_of l.remarks.items)) }
     // It is in the order of the lines.

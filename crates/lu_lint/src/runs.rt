@@ -3,6 +3,7 @@
 ghost use Rattle.std.specs.Prelude.{◌≡◌, ◌≤◌, ◌∷◌, [], IfOk, map};
 ghost use Rattle.std.specs.List.{flat_map, list_any};
 ghost use Rattle.std.specs.List.Sorted.{IsStrictlySortedBy};
+ghost use Rattle.lu_report.specs.Limits.{most_moves};
 ghost use Rattle.lu_test.specs.Matrix.{IsOf};
 ghost use Rattle.lu_machine.specs.Runs as runs;
 ghost use Rattle.lu_machine.specs.Starts.{CanRun, FromEachStart};
@@ -333,7 +334,7 @@ fn serial_hints(
 ) -> Result<Vec<SerialHint>, AllocError>
     requires of { CanRun component.now matrix.now }
     requires some { 1 ≤ bound }
-    requires few { bound ≤ 256 }
+    requires few { bound ≤ most_moves }
     ensures { ShowsFromEachStart result component.now matrix.now (ShownSerially bound) }
 {
     let learnt = learn(alloc, alloc, component, matrix, bound)?;
@@ -363,7 +364,7 @@ fn settled_hints(
 ) -> Result<Vec<RunHint>, AllocError>
     requires of { CanRun component.now matrix.now }
     requires some { 1 ≤ bound }
-    requires few { bound ≤ 256 }
+    requires few { bound ≤ most_moves }
     ensures { IfOk result (λ hints. AreShownHints component.now matrix.now bound hints.items) }
 {
     let setup = setup_hints(alloc, component, matrix)?;
@@ -391,7 +392,7 @@ fn hints_of(
 ) -> Result<Vec<RunHint>, AllocError>
     requires of { IsOf matrix.now component.now }
     requires some { 1 ≤ bound }
-    requires few { bound ≤ 256 }
+    requires few { bound ≤ most_moves }
     ensures { IfOk result (λ hints. Show component.now matrix.now bound hints.items) }
 {
     match settles(alloc, component, matrix)? {
@@ -517,7 +518,7 @@ fn with_runs_of<W: Wording>(
 ) -> Result<Vec<Remark>, AllocError>
     requires of { IsOf test.matrix.now test.component.now }
     requires some { 1 ≤ test.bound }
-    requires few { test.bound ≤ 256 }
+    requires few { test.bound ≤ most_moves }
     ensures { SaysSuch result all (RunsOfTest test.entry above text.now) }
 {
     let hints = hints_of(alloc, test.component, test.matrix, test.bound)?;
@@ -538,7 +539,7 @@ pub(crate) fn with_runs<W: Wording>(
 ) -> Result<Vec<Remark>, AllocError>
     requires fits { AreTest component.now matrix.now }
     requires some { 1 ≤ serial }
-    requires few { serial ≤ 256 }
+    requires few { serial ≤ most_moves }
     ensures { SaysSuch result all (RunsSaid serial component.now matrix.now above text.now) }
 {
     match (component, matrix) {

@@ -1,6 +1,7 @@
 //! What the calls of a matrix are judged by where its component has faults.
 
 ghost use Rattle.std.specs.Prelude.{◌≡◌, take};
+ghost use Rattle.lu_component.specs.declared.component.TheConstants.{MOST_OPS};
 ghost use Rattle.lu_text.specs.Results.{HasItems};
 ghost use Rattle.lu_lint.specs.Items.{Extends};
 ghost use Rattle.lu_lint.specs.Signatures as spec;
@@ -89,7 +90,7 @@ fn signatures_from<'a>(
 /// No more operations than a component may have: the first of these.
 #[tactic(auto, using(crate::proofs::Signed::few_taken))]
 fn first_of(ops: &[Op]) -> &[Op]
-    ensures { result.now ≡ take 16 ops.now }
+    ensures { result.now ≡ take MOST_OPS ops.now }
 {
     if ops.len() > MOST_OPS {
         &ops[..MOST_OPS]

@@ -2,6 +2,7 @@
 
 ghost use Rattle.std.specs.Prelude.{◌≡◌, ◌<◌, length, IfSome};
 ghost use Rattle.lu_component.specs.Component.{IsOperand};
+ghost use Rattle.lu_component.specs.declared.component.TheConstants.{MOST_INSTRS};
 ghost use Rattle.lu_component.specs.declared.instr.Instr.TheVariants.{Cas};
 ghost use Rattle.lu_machine.specs.Acts.{Acts, ActsAt, ActsOf, Alters, PassesOrTraps};
 ghost use Rattle.lu_machine.specs.Changes.{IsChange};
@@ -246,7 +247,7 @@ impl Machine<'_> {
     /// What `await` and `awaitne` do where they are not blocked.
     #[inline(always)]
     fn pass(&self, frame: &Frame, array: u8, index: Operand) -> Change
-        requires room { frame.now.place < 64 }
+        requires room { frame.now.place < MOST_INSTRS }
         requires array { array < length self.now.component.arrays }
         requires index { IsOperand index }
         ensures effect { PassesOrTraps self.now frame.now array index result }

@@ -2,6 +2,7 @@
 
 ghost use Rattle.std.specs.Prelude.{◌≡◌, true, false, ◌+◌, ◌<◌, ◌≤◌, ◌↔◌, [], ◌∷◌, length, IsTrue, IfSome, IfOk, slice_get, Some};
 ghost use Rattle.std.specs.Option.{option_copied, option_map_or};
+ghost use Rattle.lu_component.specs.declared.component.TheConstants.{MOST_INSTRS};
 ghost use Rattle.lu_test.specs.Matrix.{IsMatrix, IsOf, calls_of};
 ghost use Rattle.lu_machine.specs.declared.thread.Activity.TheVariants.{Open};
 ghost use Rattle.lu_component.specs.Component.{IsComponent, IsRegister};
@@ -16,6 +17,7 @@ ghost use Rattle.lu_machine.specs.Positions.{CanStandAt, at_position};
 ghost use Rattle.lu_machine.specs.Undoes.{CanTake, IsThere, LeadsBack, restored, with_shared, with_thread_before};
 ghost use Rattle.lu_machine.specs.Starts.{CanRun, IsMaking, IsStart, Makes, MakesAll, empty_state};
 ghost use Rattle.lu_machine.specs.Tasks.{IsAwaitable, task_at};
+ghost use Rattle.lu_test.specs.declared.matrix.TheConstants.{MOST_CALLS_OF_THREAD, MOST_THREADS};
 
 use crate::event::{Event, Status};
 use crate::instructions::{Act, is_local};
@@ -170,7 +172,7 @@ impl<'a> Machine<'a> {
     #[inline(always)]
     pub fn threads(&self) -> u8
         ensures value { result ≡ length self.now.threads }
-        ensures few { length self.now.threads ≤ 8 }
+        ensures few { length self.now.threads ≤ MOST_THREADS }
     {
         self.matrix.threads()
     }
@@ -188,7 +190,7 @@ impl<'a> Machine<'a> {
         ensures value { option_copied result ≡ slice_get self.now.threads thread }
         ensures stands { IfSome result (λ standing. IsStanding standing.now) }
         ensures in_code { IfSome result (λ standing. StandsIn self.now.component standing.now) }
-        ensures few { length self.now.threads ≤ 8 }
+        ensures few { length self.now.threads ≤ MOST_THREADS }
     {
         self.threads.get(usize::from(thread))
     }
@@ -209,7 +211,7 @@ impl<'a> Machine<'a> {
     #[inline(always)]
     fn task(&self, frame: &Frame) -> &Task
         requires op { frame.now.op < length self.now.component.operations }
-        requires place { frame.now.place ≤ 64 }
+        requires place { frame.now.place ≤ MOST_INSTRS }
         ensures value { result.now ≡ task_at self.now.component frame.now }
         ensures wait { IfSome result.now.wait (IsAwaitable self.now) }
         ensures sound { IsSoundNext self.now frame.now }
@@ -222,7 +224,7 @@ impl<'a> Machine<'a> {
     fn opening(&self, thread: u8, k: u8) -> &Frame
         requires { k < call_count self.now thread }
         ensures opened { IsOpening self.now thread k result.now }
-        ensures few { k < 8 }
+        ensures few { k < MOST_CALLS_OF_THREAD }
         ensures in_code { IsInCode self.now.component (Open result.now) }
     {
         &self.agendas[usize::from(thread)].frames[usize::from(k)]
@@ -523,7 +525,7 @@ impl<'a> Machine<'a> {
     /// Opens the next call of an idle thread, which has made `done` of them.
     #[inline(always)]
     fn open(&mut self, thread: u8, done: u8) -> Undo
-        requires few { thread < 8 }
+        requires few { thread < MOST_THREADS }
         requires stands { slice_get self.old.threads thread ≡ Some (idle done) }
         requires left { done < call_count self.old thread }
         ensures step { Opens self.old thread self.new result.event }
@@ -555,8 +557,8 @@ impl<'a> Machine<'a> {
     /// `done`.
     #[inline(always)]
     fn go_on<const WHOLE: bool>(&mut self, thread: u8, done: u8, act: Act) -> Undo
-        requires few { thread < 8 }
-        requires counted { done < 8 }
+        requires few { thread < MOST_THREADS }
+        requires counted { done < MOST_CALLS_OF_THREAD }
         requires stands { IsAtWork self.old thread done }
         requires there { IsThere self.old act.shared }
         requires sound { IsChange act.change }

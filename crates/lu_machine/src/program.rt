@@ -1,9 +1,11 @@
 //! The code of a component and the calls of a matrix, laid out for a machine.
 
 ghost use Rattle.std.specs.Prelude.{◌≡◌, ◌<◌, ◌≤◌, All, length, map, IfOk};
+ghost use Rattle.lu_component.specs.declared.component.TheConstants.{MOST_INSTRS};
 ghost use Rattle.lu_test.specs.Matrix.{AreArguments};
 ghost use Rattle.lu_machine.specs.Steps.{choices, opened};
 ghost use Rattle.lu_machine.specs.Tasks as spec;
+ghost use Rattle.lu_test.specs.declared.matrix.TheConstants.{MOST_CALLS_OF_THREAD};
 
 use crate::thread::{Frame, first_registers};
 use lu_component::{Component, Instr, Op, Operand};
@@ -116,7 +118,7 @@ fn task_of(instr: &Instr) -> Task
 
 /// The tasks of the instructions.
 fn task_row(instrs: &[Instr]) -> [Task; 65]
-    requires { length instrs.now ≤ 64 }
+    requires { length instrs.now ≤ MOST_INSTRS }
     ensures { result ≡ spec.task_row instrs.now }
 {
     let mut row = [NO_TASK; PLACES];
@@ -152,7 +154,7 @@ fn opened(call: &Call) -> Frame
 
 /// The calls, each as it is opened.
 fn agenda_of(calls: &[Call]) -> Agenda
-    requires few { length calls.now ≤ 8 }
+    requires few { length calls.now ≤ MOST_CALLS_OF_THREAD }
     requires short { All (λ call. AreArguments call.args) calls.now }
     ensures { result ≡ spec.agenda_of calls.now }
 {

@@ -2,11 +2,13 @@
 
 ghost use Rattle.std.specs.Prelude.{◌≡◌, ◌-◌, ◌<◌, ◌≤◌, ◌++◌, length, replicate, IfSome};
 ghost use Rattle.lu_component.specs.Component.{Component as AComponent, IsRegister, IsOperand};
+ghost use Rattle.lu_component.specs.declared.component.TheConstants.{MOST_INSTRS};
 ghost use Rattle.lu_machine.specs.declared.thread.Activity.TheVariants.{Open};
 ghost use Rattle.lu_machine.specs.Changes.{IsChange, IsEventOf, IsThreadAfter, PutsBack, before, effect_of, whole_frame};
 ghost use Rattle.lu_machine.specs.Effects.{computed, onward, onward_with, value_of};
 ghost use Rattle.lu_machine.specs.Events.{IsEventInRange};
 ghost use Rattle.lu_machine.specs.Layout.{IsStanding, StandsIn, StaysIn, StoodIn};
+ghost use Rattle.lu_test.specs.declared.matrix.TheConstants.{MOST_CALLS_OF_THREAD, MOST_THREADS};
 
 use crate::event::{Event, Outcome};
 use lu_component::{Arithmetic, Operand};
@@ -115,7 +117,7 @@ impl Frame {
     /// It goes on at the next place.
     #[inline(always)]
     pub(crate) fn onward(&self) -> Change
-        requires { self.now.place < 64 }
+        requires { self.now.place < MOST_INSTRS }
         ensures effect { effect_of self.now result ≡ onward self.now }
         ensures sound { IsChange result }
     {
@@ -125,7 +127,7 @@ impl Frame {
     /// It goes on at the next place, with this value in a register.
     #[inline(always)]
     pub(crate) fn onward_with(&self, register: u8, value: u32) -> Change
-        requires in_code { self.now.place < 64 }
+        requires in_code { self.now.place < MOST_INSTRS }
         requires register { IsRegister register }
         ensures effect { effect_of self.now result ≡ onward_with self.now register value }
         ensures sound { IsChange result }
@@ -221,8 +223,8 @@ impl Thread {
 /// The event of the change of operation number `done` of thread `t`.
 #[inline(always)]
 pub(crate) fn event_after(t: u8, done: u8, change: Change) -> Option<Event>
-    requires thread { t < 8 }
-    requires operation { done < 8 }
+    requires thread { t < MOST_THREADS }
+    requires operation { done < MOST_CALLS_OF_THREAD }
     ensures event { IsEventOf t done change result }
     ensures range { IfSome result IsEventInRange }
 {

@@ -2,6 +2,7 @@
 
 ghost use Rattle.std.specs.Prelude.{◌≡◌, ◌+◌, ◌<◌, ◌≤◌, ◌^◌, ℕ, suc, IfOk, IfSome, IsSome, List, length, slice_set, vec_len};
 ghost use Rattle.lu_machine.specs.Sums.{capped};
+ghost use Rattle.lu_machine.specs.declared.lib.TheConstants.{MOST_MOVES};
 ghost use Rattle.lu_orders.specs.Orders.{AreRows, AreWithOne, IsNumberOf, IsRow, IsWithOne, CountsUpTo, all_moves, interleavings, orders, orders_within};
 
 use lu_machine::MOST_MOVES;
@@ -168,7 +169,7 @@ impl Orders {
     /// returned; else it may be none.
     pub fn orders_within(&self, left: usize, caps: &[u16]) -> Option<u64>
         ensures number { IfSome result (λ n. n ≡ capped (orders_within left caps.now)) }
-        ensures answers { left ≤ 256 → CountsUpTo self.now left → IsSome result }
+        ensures answers { left ≤ MOST_MOVES → CountsUpTo self.now left → IsSome result }
     {
         if left > usize::from(MOST_MOVES) {
             return None;

@@ -4,6 +4,7 @@ ghost use Rattle.std.specs.Prelude.{◌≡◌, ◌<◌, length};
 ghost use Rattle.std.specs.Option.{option_copied};
 ghost use Rattle.lu_picture.specs.Reasons as spec;
 ghost use Rattle.lu_picture.specs.Written.{WritesReason, WritesWhy};
+ghost use Rattle.lu_test.specs.declared.matrix.TheConstants.{MOST_THREADS};
 
 use crate::mark::End;
 use lu_explain::{Explanation, count, write_outcome, write_reason};
@@ -74,7 +75,7 @@ fn write_reason_of(
     k: u8,
     outcome: SerialOutcome,
 ) -> Result<(), AllocError>
-    requires { t < 8 }
+    requires { t < MOST_THREADS }
     ensures { WritesReason result text.old text.new machine.now explanation.now t k outcome }
 {
     if usize::from(k) != count(explanation.order(), t) {
@@ -99,7 +100,7 @@ pub(crate) fn write_why(
     k: u8,
     end: Option<End>,
 ) -> Result<(), AllocError>
-    requires { t < 8 }
+    requires { t < MOST_THREADS }
     ensures { WritesWhy result text.old text.new machine.now explanation.entry t k end }
 {
     match explanation {

@@ -3,6 +3,7 @@
 ghost use Rattle.std.specs.Prelude.{◌≤◌, IfOk};
 ghost use Rattle.lu_machine.specs.Starts.{CanRun};
 ghost use Rattle.lu_replay.specs.Reports.{IsReport};
+ghost use Rattle.lu_report.specs.Limits.{IsSerialBound, most_moves};
 
 use bumpalo::Bump;
 use lu_component::Component;
@@ -21,8 +22,8 @@ pub(crate) fn check_in_arena(
     serial: u16,
 ) -> Result<Report, AllocError>
     requires of { CanRun component.now matrix.now }
-    requires bound { bound ≤ 256 }
-    requires serial { (1 ≤ serial) × (serial ≤ 256) }
+    requires bound { bound ≤ most_moves }
+    requires serial { IsSerialBound serial }
     ensures { IfOk result (IsReport component.now matrix.now bound serial) }
 {
     let arena = Bump::new(alloc);

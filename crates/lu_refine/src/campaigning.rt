@@ -1,12 +1,14 @@
 //! All matrices of a size over some calls, and slices of them.
 
 ghost use Rattle.std.specs.Prelude.{◌≡◌, ◌<◌, ◌≤◌, ◌↔◌, IsTrue, IsOk, IfOk, IfErr, length, All, Any};
+ghost use Rattle.lu_report.specs.Limits.{IsSerialBound, most_moves};
 ghost use Rattle.lu_test.specs.Matrix.{IsSetup};
 ghost use Rattle.lu_machine.specs.Starts.{AllEnd};
 ghost use Rattle.lu_refine.specs.Choices.{AreEnough, choice_count};
 ghost use Rattle.lu_refine.specs.Campaigns.{AreCallsOf, HaveArguments, IsFoundOf, IsGrid, IsLimitFault, Runs};
 ghost use Rattle.lu_refine.specs.Roles.{AreWithinLimits, bases};
 ghost use Rattle.lu_refine.specs.ByThread.{CanAsk, IsMatrixAt, IsRolesFault, IsSliceAnswer, IsThreadsAnswer, asked_of, matrix_count};
+ghost use Rattle.lu_test.specs.declared.matrix.TheConstants.{MOST_CALLS_OF_THREAD};
 
 use crate::arena::check_in_arena;
 use crate::campaigns::{Campaign, CampaignFault};
@@ -31,7 +33,7 @@ fn are_some(candidates: &[Calls]) -> bool
 
 /// Whether no thread has more than 8 candidates.
 fn are_few(candidates: &[Calls]) -> bool
-    ensures { IsTrue result ↔ All (λ thread. length thread ≤ 8) candidates.now }
+    ensures { IsTrue result ↔ All (λ thread. length thread ≤ MOST_CALLS_OF_THREAD) candidates.now }
 {
     candidates
         .iter()
@@ -109,8 +111,8 @@ pub fn campaign(
     requires settles { AllEnd component.now setup.now }
     requires of { AreCallsOf component.now candidates.now }
     requires arguments { HaveArguments candidates.now }
-    requires bound { bound ≤ 256 }
-    requires serial { (1 ≤ serial) × (serial ≤ 256) }
+    requires bound { bound ≤ most_moves }
+    requires serial { IsSerialBound serial }
     ensures answer { Runs component.now setup.now candidates.now threads calls bound serial result }
     ensures of { IfOk result (IsFoundOf component.now) }
     ensures fault { IfErr result (IsLimitFault (length candidates.now) threads calls) }

@@ -4,6 +4,7 @@ ghost use Rattle.std.specs.Prelude.{◌≡◌, ◌<◌, ◌≤◌, IfOk, length,
 ghost use Rattle.lu_refine.specs.Choices.{ArePositions, IsChoiceIn, candidate_at, choice_count, place_in};
 ghost use Rattle.lu_refine.specs.Roles.{AreWithinLimits, bases, calls_per_thread};
 ghost use Rattle.lu_refine.specs.ByThread.{CanAsk, IsRoleChoice, asked_of, role_matrix};
+ghost use Rattle.lu_test.specs.declared.matrix.TheConstants.{MOST_CALLS_OF_THREAD};
 
 use crate::roles::Roles;
 use lu_test::{Call, Calls, MOST_CALLS, Matrix, copy_call, copy_calls};
@@ -30,7 +31,7 @@ pub(crate) fn bases_of(
     candidates: &[Calls],
     calls: u8,
 ) -> Result<Positions, AllocError>
-    requires { All (λ thread. length thread ≤ 8) candidates.now }
+    requires { All (λ thread. length thread ≤ MOST_CALLS_OF_THREAD) candidates.now }
     ensures { IfOk result (λ found. found.items ≡ bases calls candidates.now) }
 {
     let mut found = Positions::new(alloc);

@@ -1,6 +1,7 @@
 //! Matrices that fail, with fewer calls.
 
 ghost use Rattle.std.specs.Prelude.{◌≡◌, ◌≤◌, ◌↔◌, IfOk, IfErr};
+ghost use Rattle.lu_report.specs.Limits.{IsSerialBound, most_moves};
 ghost use Rattle.lu_test.specs.Matrix.{IsOf};
 ghost use Rattle.lu_machine.specs.Starts.{CanRun};
 ghost use Rattle.lu_refine.specs.Removals.{IsRound, IsShrinkFault, IsShrunk};
@@ -22,8 +23,8 @@ fn take_least(
     serial: u16,
 ) -> Result<Option<(Matrix, Report)>, AllocError>
     requires of { CanRun component.now matrix.now }
-    requires bound { bound ≤ 256 }
-    requires serial { (1 ≤ serial) × (serial ≤ 256) }
+    requires bound { bound ≤ most_moves }
+    requires serial { IsSerialBound serial }
     ensures round { IfOk result (IsRound component.now matrix.now bound serial) }
 {
     for t in 0..matrix.threads() {
@@ -57,8 +58,8 @@ pub fn shrink(
     serial: u16,
 ) -> Result<(Matrix, Report), ShrinkFault>
     requires of { CanRun component.now matrix.now }
-    requires bound { bound ≤ 256 }
-    requires serial { (1 ≤ serial) × (serial ≤ 256) }
+    requires bound { bound ≤ most_moves }
+    requires serial { IsSerialBound serial }
     ensures shrunk { IfOk result (IsShrunk component.now matrix.now bound serial) }
     ensures of { IfOk result (λ shrunk. IsOf shrunk.0 component.now) }
     ensures fault { IfErr result (IsShrinkFault component.now matrix.now bound serial) }

@@ -1,6 +1,7 @@
 //! Reports of checks.
 
 ghost use Rattle.std.specs.Prelude.{◌≡◌, ◌≤◌, ◌↔◌, None, Some, IfNone, IfSome, IsTrue};
+ghost use Rattle.lu_component.specs.declared.component.TheConstants.{MOST_LOCAL};
 ghost use Rattle.lu_report.specs.Parts.{IsFailure, IsFullPass, IsJudgement, IsPass, IsSerialBound, IsWithin, most_moves, parts_of, shown_schedule};
 
 use lu_history::SerialOutcome;
@@ -80,7 +81,7 @@ impl Report {
         requires most { bound ≤ most_moves }
         requires some { 1 ≤ serial }
         requires few { serial ≤ most_moves }
-        requires local_few { local ≤ 16 }
+        requires local_few { local ≤ MOST_LOCAL }
         requires within { IsWithin finding }
         ensures { result ≡ parts_of bound (Some serial) local finding }
     {
@@ -96,7 +97,7 @@ impl Report {
     /// pass. `local` and a thread of `Why::Stuck` are as in [`Report::new`].
     pub fn against(bound: u16, local: u8, finding: Finding) -> Report
         requires most { bound ≤ most_moves }
-        requires local_few { local ≤ 16 }
+        requires local_few { local ≤ MOST_LOCAL }
         requires within { IsWithin finding }
         requires judged { IsJudgement finding }
         ensures { result ≡ parts_of bound None local finding }
@@ -129,7 +130,7 @@ impl Report {
     /// How many local instructions of the component run with one move at most, 0 to 16.
     pub fn local(&self) -> u8
         ensures local { result ≡ self.now.local }
-        ensures few { result ≤ 16 }
+        ensures few { result ≤ MOST_LOCAL }
     {
         self.local
     }

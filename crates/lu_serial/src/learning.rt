@@ -2,6 +2,7 @@
 
 ghost use Rattle.std.specs.Prelude.{◌≤◌, IfOk};
 ghost use Rattle.lu_component.specs.Component.{IsComponent};
+ghost use Rattle.lu_machine.specs.declared.lib.TheConstants.{MOST_MOVES};
 ghost use Rattle.lu_test.specs.Matrix.{IsMatrix};
 ghost use Rattle.lu_machine.specs.Starts.{CanRun, FromEachStart};
 ghost use Rattle.lu_trie.specs.Conflicts.{HasConflict};
@@ -77,7 +78,7 @@ pub fn learn<A: Allocator + Clone>(
 ) -> Result<Learnt<A>, AllocError>
     requires of { CanRun component.now matrix.now }
     requires some { 1 ≤ bound }
-    requires few { bound ≤ 256 }
+    requires few { bound ≤ MOST_MOVES }
     ensures learnt { FromEachStart component.now matrix.now (λ s. IfOk result (IsLearnt s bound)) }
     ensures limits { IsComponent component.now × IsMatrix matrix.now }
 {

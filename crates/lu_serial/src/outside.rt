@@ -2,6 +2,7 @@
 
 ghost use Rattle.std.specs.Prelude.{◌≡◌, ◌≤◌, false};
 ghost use Rattle.lu_machine.specs.Starts.{CanRun};
+ghost use Rattle.lu_machine.specs.declared.lib.TheConstants.{MOST_MOVES};
 ghost use Rattle.lu_trie.specs.Members.{contains};
 ghost use Rattle.lu_serial.specs.Offences.{FindsOutside};
 ghost use Rattle.lu_serial.specs.Walks.{Seeks};
@@ -52,7 +53,7 @@ pub fn first_outside<A: Allocator>(
 ) -> Result<Option<Schedule>, AllocError>
     requires of { CanRun component.now matrix.now }
     requires some { 1 ≤ bound }
-    requires few { bound ≤ 256 }
+    requires few { bound ≤ MOST_MOVES }
     ensures { FindsOutside component.now matrix.now bound set.now result }
 {
     let node = SerialNode::start(alloc, Test { component, matrix })?;

@@ -1,6 +1,7 @@
 //! The open blocks of an operation, the innermost last.
 
 ghost use Rattle.std.specs.Prelude.{◌≡◌, ◌<◌, length, nat_le, IfOk, IfSome, Ok};
+ghost use Rattle.lu_component.specs.declared.component.TheConstants.{MOST_OPS};
 ghost use Rattle.lu_source.specs.Shapes.{tree_of};
 ghost use Rattle.lu_source_text.specs.Drafts.{block_of, blocks_of, opening_of};
 ghost use Rattle.lu_source_text.specs.Grammar as spec;
@@ -32,7 +33,7 @@ const MOST_BLOCKS: usize = 16;
 
 /// Whether there are as many blocks as there may be.
 pub(crate) fn are_deep(blocks: &[Block]) -> bool
-    ensures { result ≡ nat_le 16 (length (blocks_of blocks.now)) }
+    ensures { result ≡ nat_le MOST_OPS (length (blocks_of blocks.now)) }
 {
     blocks.len() >= MOST_BLOCKS
 }

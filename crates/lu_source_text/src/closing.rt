@@ -1,6 +1,7 @@
 //! Reading of the lines that close a block.
 
 ghost use Rattle.std.specs.Prelude.{◌≡◌, length, nat_lt};
+ghost use Rattle.lu_component.specs.declared.component.TheConstants.{MOST_INSTRS};
 ghost use Rattle.lu_source.specs.Code.{operation_code};
 ghost use Rattle.lu_source.specs.Shapes.{tree_of};
 ghost use Rattle.lu_source_text.specs.Drafts.{begun_of, block_of, drafted_of, opening_of};
@@ -17,7 +18,7 @@ use std::alloc::Global;
 
 /// Whether the statement has more than 64 instructions as an operation.
 fn is_too_long(body: &Stmt) -> bool
-    ensures { result ≡ nat_lt 64 (length (operation_code (tree_of body.now))) }
+    ensures { result ≡ nat_lt MOST_INSTRS (length (operation_code (tree_of body.now))) }
 {
     let len = size(body);
     if comes_out(body) { len >= 64 } else { len > 64 }

@@ -1,6 +1,7 @@
 //! Reading of declarations.
 
 ghost use Rattle.std.specs.Prelude.{◌≡◌, ◌<◌, ◌≤◌, ◌^◌, length, map, IfOk, Ok};
+ghost use Rattle.lu_component.specs.declared.component.TheConstants.{MOST_ARRAYS, MOST_LOCKS};
 ghost use Rattle.lu_text.specs.Names.{IsName};
 ghost use Rattle.lu_source_text.specs.Drafts.{block_of, drafted_of, opening_of};
 ghost use Rattle.lu_text.specs.Lines.{texts};
@@ -165,7 +166,7 @@ fn init_in(draft: &Draft, words: &[&[u8]]) -> Result<u32, Refusal>
 /// The shared word of a line `word`.
 fn shared_in(alloc: Global, draft: &Draft, words: &[&[u8]]) -> Result<Shared, Refusal>
     ensures shared { ReadsShared (drafted_of draft.now) result (texts words.now) }
-    ensures room { IfOk result (λ _. length draft.now.words.items < 16) }
+    ensures room { IfOk result (λ _. length draft.now.words.items < MOST_ARRAYS) }
 {
     let Some((word, rest)) = words.split_first() else {
         return Err(Refusal::Kind(SourceFaultKind::Form));
@@ -193,7 +194,7 @@ fn word_line(alloc: Global, mut draft: Draft, words: &[&[u8]]) -> Result<Draft, 
 /// The name of `lock NAME`, outside an operation.
 fn lock_in(alloc: Global, draft: &Draft, words: &[&[u8]]) -> Result<Name, Refusal>
     ensures lock { ReadsLock (drafted_of draft.now) result (texts words.now) }
-    ensures room { IfOk result (λ _. length draft.now.locks.items < 8) }
+    ensures room { IfOk result (λ _. length draft.now.locks.items < MOST_LOCKS) }
 {
     let Some((word, rest)) = words.split_first() else {
         return Err(Refusal::Kind(SourceFaultKind::Form));

@@ -1,6 +1,7 @@
 //! Where the instructions of a compiled source come from.
 
 ghost use Rattle.std.specs.Prelude.{◌≡◌, ◌<◌, ◌≤◌, length, map, min, All, IfOk, IfSome, OnOk};
+ghost use Rattle.lu_component.specs.declared.component.TheConstants.{MOST_INSTRS};
 ghost use Rattle.lu_text.specs.Names.{IsName};
 ghost use Rattle.lu_source.specs.Code.{operation_code};
 ghost use Rattle.lu_source.specs.Programs.{operation_of};
@@ -25,7 +26,7 @@ const MOST: usize = 64;
 
 /// How many instructions stand in front of what a block does, up to 64.
 fn opening_size(opening: &Opening) -> usize
-    ensures { result ≡ min (spec.opening_size (opening_of opening.now)) 64 }
+    ensures { result ≡ min (spec.opening_size (opening_of opening.now)) MOST_INSTRS }
 {
     match opening {
         Opening::Whole | Opening::Turns => 0,
@@ -42,14 +43,14 @@ fn opening_size(opening: &Opening) -> usize
 
 /// How many instructions an open block makes so far, up to 64.
 fn block_size(block: &Block) -> usize
-    ensures { result ≡ min (spec.block_size (block_of block.now)) 64 }
+    ensures { result ≡ min (spec.block_size (block_of block.now)) MOST_INSTRS }
 {
     (opening_size(&block.opening) + size(&block.does)).min(MOST)
 }
 
 /// How many instructions open blocks make so far, up to 64.
 fn size_so_far(blocks: &[Block]) -> usize
-    ensures { result ≡ min (spec.size_so_far (blocks_of blocks.now)) 64 }
+    ensures { result ≡ min (spec.size_so_far (blocks_of blocks.now)) MOST_INSTRS }
 {
     match blocks {
         [] => 0,
@@ -59,7 +60,7 @@ fn size_so_far(blocks: &[Block]) -> usize
 
 /// How many instructions an operation has, up to 64.
 fn code_len(body: &Stmt) -> usize
-    ensures { result ≡ min (length (operation_code (tree_of body.now))) 64 }
+    ensures { result ≡ min (length (operation_code (tree_of body.now))) MOST_INSTRS }
 {
     let len = size(body);
     if comes_out(body) {

@@ -3,6 +3,7 @@
 ghost use Rattle.std.specs.Prelude.{◌≡◌, ◌↔◌, ◌^◌, ◌<◌, ℕ, IsTrue, length, slice_index_or};
 ghost use Rattle.lu_test.specs.Matrix.{calls_of};
 ghost use Rattle.lu_spec.specs.Specs.{AllFitIn, FitsIn};
+ghost use Rattle.lu_test.specs.declared.matrix.TheConstants.{MOST_THREADS};
 
 use lu_history::SerialOp;
 use lu_test::{MOST_THREADS, Matrix};
@@ -10,7 +11,7 @@ use lu_trie::SerialTree;
 
 /// How many calls each thread has.
 pub(crate) fn calls_of(matrix: &Matrix) -> [u8; MOST_THREADS]
-    ensures size { length result ≡ 8 }
+    ensures size { length result ≡ MOST_THREADS }
     ensures calls { (t : ℕ) → slice_index_or result t 0 ≡ length (calls_of matrix.now t) }
 {
     let mut calls = [0; MOST_THREADS];
@@ -23,7 +24,7 @@ pub(crate) fn calls_of(matrix: &Matrix) -> [u8; MOST_THREADS]
 /// Whether each history below the place has at most so many operations of each thread.
 pub(crate) fn all_fit<T: SerialTree>(tree: &T, place: T::Place, left: [u8; MOST_THREADS]) -> bool
     requires place { T.is_place tree.now place }
-    requires size { length left ≡ 8 }
+    requires size { length left ≡ MOST_THREADS }
     ensures { IsTrue result ↔ AllFitIn left (T.below tree.now place) }
 {
     for i in 0..tree.kid_count(place) {
@@ -43,7 +44,7 @@ pub(crate) fn all_fit<T: SerialTree>(tree: &T, place: T::Place, left: [u8; MOST_
 
 /// Whether a history has at most so many operations of each thread.
 pub(crate) fn fits_in(history: &[SerialOp], left: [u8; MOST_THREADS]) -> bool
-    requires { length left ≡ 8 }
+    requires { length left ≡ MOST_THREADS }
     ensures { IsTrue result ↔ FitsIn left history.now }
 {
     match history {

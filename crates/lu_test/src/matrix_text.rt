@@ -3,6 +3,7 @@
 ghost use Rattle.std.specs.Prelude.{◌≡◌, ◌==◌, ◌||◌, ◌+◌, ◌∷◌, ◌^◌, ◌<◌, ◌≤◌, ℕ, [], IfOk, Ok, Some, length, map, drop, sum_by, is_some};
 ghost use Rattle.std.specs.Option.{option_copied, unwrap_or};
 ghost use Rattle.std.specs.List.{filter_map, list_all};
+ghost use Rattle.lu_test.specs.declared.matrix.TheConstants.{MOST_CALLS};
 ghost use Rattle.lu_text.specs.Lines.{texts, words_of};
 ghost use Rattle.lu_text.specs.Numbers.{value_in};
 ghost use Rattle.lu_text.specs.Faults.{Gives, TellsFirst, fault_in, meaning_of};
@@ -237,7 +238,7 @@ fn total_calls(threads: &[Calls]) -> usize
 
 /// Whether there is no room for one more thread of so many calls.
 fn is_full(threads: &[Calls], calls: usize) -> bool
-    requires { sum_by length threads.now ≤ 16 }
+    requires { sum_by length threads.now ≤ MOST_CALLS }
     ensures { result ≡ spec.is_full threads.now calls }
 {
     threads.len() >= MOST_THREADS

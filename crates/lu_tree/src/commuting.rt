@@ -11,6 +11,7 @@ ghost use Rattle.std.specs.Prelude.{◌≡◌, ◌≢◌, ◌<◌, ◌↔◌, �
 ghost use Rattle.lu_machine.specs.States.{State as AState};
 ghost use Rattle.lu_machine.specs.Steps.{picks_of};
 ghost use Rattle.lu_machine.specs.Undoes.{CanTake, restored};
+ghost use Rattle.lu_test.specs.declared.matrix.TheConstants.{MOST_THREADS};
 ghost use Rattle.lu_tree.specs.Accesses.{HasLocation, conflict_of};
 ghost use Rattle.lu_tree.specs.Known.{AreFree, AreFrom, Commute, HaveSameEvents, IsIdleAfter, IsKnownBy, MadeBoth, MoveNotBoth, Moves, taken_back};
 ghost use Rattle.lu_tree.specs.Reordered.{AreUnordered};
@@ -219,7 +220,7 @@ pub(crate) fn hints_after<'h: 'k, 'k, const RUNS_LOCAL: bool>(
     dead: &DeadRegisters,
     machine: &mut Machine<'_>,
 ) -> Hints<'k>
-    requires few { thread < 8 }
+    requires few { thread < MOST_THREADS }
     requires one { RUNS_LOCAL ≡ false → machine.old.component.local ≡ 0 }
     ensures machine { machine.new ≡ machine.old }
     ensures from { AreFrom dead.now machine.old hints.now known.now thread result }

@@ -2,6 +2,7 @@
 
 ghost use Rattle.std.specs.Prelude.{◌≡◌, ◌<◌, [], IfSome};
 ghost use Rattle.lu_machine.specs.Sums.{plus};
+ghost use Rattle.lu_test.specs.declared.matrix.TheConstants.{MOST_THREADS};
 ghost use Rattle.lu_tree.specs.Known.{IsAmongOr, IsHint, IsHintOr, IsKid, TellsNoMore, counts_of, kids_of};
 
 use crate::thread_set::ThreadSet;
@@ -63,7 +64,7 @@ impl<'k> Hints<'k> {
     /// This is known after the only move of the thread.
     #[inline(always)]
     pub(crate) fn add(&mut self, thread: u8, below: &'k Known)
-        requires { thread < 8 }
+        requires { thread < MOST_THREADS }
         ensures { IsHintOr thread below.entry.now self.old self.new }
     {
         let slots = &mut self.by_thread[..];

@@ -2,6 +2,7 @@
 
 ghost use Rattle.std.specs.Prelude.{◌≡◌, ◌+◌, ◌≤◌, ◌++◌, [], ◌∷◌, List, min, length, drop, IfOk, IfNone, IfSome, OnOk};
 ghost use Rattle.lu_component.specs.Component.{IsComponent};
+ghost use Rattle.lu_machine.specs.declared.lib.TheConstants.{MOST_MOVES};
 ghost use Rattle.lu_test.specs.declared.schedule.Move.{Move as AMove};
 ghost use Rattle.lu_test.specs.Matrix.{IsMatrix};
 ghost use Rattle.lu_test.specs.Schedule.{IsMove};
@@ -19,7 +20,7 @@ const MOST_PIECES: usize = 65_536;
 
 /// The piece with one more move.
 fn extend(alloc: Global, piece: &Schedule, next: Move) -> Result<Schedule, AllocError>
-    requires short { length piece.now ≤ 256 }
+    requires short { length piece.now ≤ MOST_MOVES }
     requires sound { IsMove next }
     ensures { IfOk result (λ longer. longer ≡ piece.now ++ next ∷ []) }
 {
@@ -39,7 +40,7 @@ fn add_kids(
     next: &mut Vec<Schedule>,
 ) -> Result<(), AllocError>
     requires sound { IsComponent machine.now.component }
-    requires short { length piece.now ≤ 256 }
+    requires short { length piece.now ≤ MOST_MOVES }
     ensures { OnOk result (HasKids machine.now piece.now next.old.items next.new.items) }
 {
     let before = next.len();
@@ -64,7 +65,7 @@ fn deepen(
     next: &mut Vec<Schedule>,
 ) -> Result<(), AllocError>
     requires sound { IsComponent machine.old.component }
-    requires short { length piece.now ≤ 256 }
+    requires short { length piece.now ≤ MOST_MOVES }
     requires within { made ≤ length piece.now }
     requires leads { IsSchedule machine.old (drop made piece.now) }
     ensures home { OnOk result (machine.new ≡ machine.old) }
@@ -87,7 +88,7 @@ fn go_deeper(
     pieces: &[Schedule],
 ) -> Result<Option<Vec<Schedule>>, AllocError>
     requires sound { IsComponent machine.old.component }
-    requires short { (u : List AMove) → Lists pieces.now u → length u ≤ 256 }
+    requires short { (u : List AMove) → Lists pieces.now u → length u ≤ MOST_MOVES }
     requires leads { (u : List AMove) → Lists pieces.now u → IsSchedule machine.old u }
     ensures home { OnOk result (machine.new ≡ machine.old) }
     ensures few { IfOk result (λ deeper. IfSome deeper (λ next. length next.items ≤ 65536)) }
@@ -120,7 +121,7 @@ pub fn frontier(
     depth: u8,
 ) -> Result<Vec<Schedule>, AllocError>
     requires of { CanRun component.now matrix.now }
-    requires few { bound ≤ 256 }
+    requires few { bound ≤ MOST_MOVES }
     requires shallow { depth ≤ 8 }
     ensures frontier { IfOk result (IsFrontierFrom component.now matrix.now bound depth) }
     ensures cover { IfOk result (λ p. IsCoverFrom component.now matrix.now bound p.items) }

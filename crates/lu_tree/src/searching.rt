@@ -2,6 +2,7 @@
 
 ghost use Rattle.std.specs.Prelude.{◌≡◌, ◌≤◌, ◌+◌, ◌++◌, false, length, reverse, vec_capacity, IfOk, OnOk};
 ghost use Rattle.lu_component.specs.Component.{IsComponent};
+ghost use Rattle.lu_machine.specs.declared.lib.TheConstants.{MOST_MOVES};
 ghost use Rattle.lu_test.specs.Matrix.{IsMatrix};
 ghost use Rattle.lu_test.specs.Schedule.{AreMoves};
 ghost use Rattle.lu_machine.specs.Ends.{IsEnded};
@@ -145,7 +146,7 @@ pub fn search_watched<'t, T: SerialTree, W: Watch>(
     watch: &mut W,
 ) -> Result<Found, AllocError>
     requires of { CanRun component.now matrix.now }
-    requires few { bound ≤ 256 }
+    requires few { bound ≤ MOST_MOVES }
     requires short { length from.now ≤ bound }
     requires leads { (s : State) → IsStart component.now matrix.now s → IsSchedule s from.now }
     requires running { W.is_stopped watch.old ≡ false }
@@ -181,7 +182,7 @@ pub fn search<T: SerialTree>(
     bound: u16,
 ) -> Result<Found, AllocError>
     requires of { CanRun component.now matrix.now }
-    requires few { bound ≤ 256 }
+    requires few { bound ≤ MOST_MOVES }
     requires short { length from.now ≤ bound }
     requires leads { (s : State) → IsStart component.now matrix.now s → IsSchedule s from.now }
     ensures found { FindsBelow component.now matrix.now (T.members tree.now) from.now bound result }

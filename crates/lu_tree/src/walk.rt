@@ -5,6 +5,7 @@ ghost use Rattle.lu_machine.specs.States.{progress};
 ghost use Rattle.lu_machine.specs.Ends.{IsEnded};
 ghost use Rattle.lu_horizon.specs.Dead.{IsDeadTable};
 ghost use Rattle.lu_history.specs.Standing.{Agree};
+ghost use Rattle.lu_machine.specs.declared.lib.TheConstants.{MOST_MOVES};
 ghost use Rattle.lu_witness.specs.Caches.{SameButEntries};
 ghost use Rattle.lu_tree.specs.declared.halt.Halt.TheVariants.{NotGood};
 ghost use Rattle.lu_tree.specs.Known.{AreHints, TellsAlone};
@@ -132,7 +133,7 @@ pub(crate) fn walk<'a, 't, T: SerialTree, W: Watch>(
     node: &mut Node<'a, 't, T>,
     tally: &mut WalkProgress,
 ) -> Result<Known, Halt>
-    requires few { left ≤ 256 }
+    requires few { left ≤ MOST_MOVES }
     requires serves { ServesAhead ahead.now node.old.machine }
     requires dead { IsDeadTable node.old.machine.component ahead.now.tables.now.dead }
     requires agree { Agree (progress node.old.machine) node.old.trail.history }
@@ -168,7 +169,7 @@ fn walk_as<'a, 't, const RUNS_LOCAL: bool, T: SerialTree, W: Watch>(
     node: &mut Node<'a, 't, T>,
     tally: &mut WalkProgress,
 ) -> Result<Known, Halt>
-    requires few { visit.now.left ≤ 256 }
+    requires few { visit.now.left ≤ MOST_MOVES }
     requires one { RUNS_LOCAL ≡ false → node.old.machine.component.local ≡ 0 }
     requires serves { ServesAhead ahead.now node.old.machine }
     requires dead { IsDeadTable node.old.machine.component ahead.now.tables.now.dead }

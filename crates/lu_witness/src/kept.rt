@@ -3,6 +3,7 @@
 ghost use Rattle.std.specs.Prelude.{◌≡◌, ◌<◌, IsSome, slice_get};
 ghost use Rattle.lu_history.specs.Histories.{IsWellFormed, AreBefore, calls};
 ghost use Rattle.lu_history.specs.Parts.{part, keep_pending};
+ghost use Rattle.lu_test.specs.declared.matrix.TheConstants.{MOST_CALLS_OF_THREAD, MOST_THREADS};
 
 use lu_history::{History, OpId, SerialOutcome};
 use std::marker::Model;
@@ -59,7 +60,7 @@ impl<'a> Kept<'a> {
 
     /// The number of thread `t`'s calls.
     pub(crate) fn calls(&self, t: u8) -> u8
-        requires { t < 8 }
+        requires { t < MOST_THREADS }
         ensures { result ≡ calls t self.now }
     {
         let calls = self.history.calls(t);
@@ -71,9 +72,9 @@ impl<'a> Kept<'a> {
 
     /// How the operation ended: `Stuck` where it is pending, `None` where it is not called.
     pub(crate) fn ended(&self, a: OpId) -> Option<SerialOutcome>
-        requires { a.t < 8 }
+        requires { a.t < MOST_THREADS }
         ensures ended { result ≡ slice_get (part a.t self.now) a.k }
-        ensures few { IsSome result → a.k < 8 }
+        ensures few { IsSome result → a.k < MOST_CALLS_OF_THREAD }
     {
         if a.k < self.calls(a.t) {
             self.history.ended(a)
@@ -84,8 +85,8 @@ impl<'a> Kept<'a> {
 
     /// How many operations of each thread return before `b` is called.
     pub(crate) fn before(&self, b: OpId) -> &'a [u8; 8]
-        requires thread { b.t < 8 }
-        requires call { b.k < 8 }
+        requires thread { b.t < MOST_THREADS }
+        requires call { b.k < MOST_CALLS_OF_THREAD }
         ensures { AreBefore self.now b result.now }
     {
         self.history.before(b)

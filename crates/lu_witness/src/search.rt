@@ -6,6 +6,7 @@
 
 ghost use Rattle.std.specs.Prelude.{◌↔◌, ◌<◌, ◌≤◌, ℕ, IsTrue, get_or};
 ghost use Rattle.lu_history.specs.Histories.{IsWellFormed};
+ghost use Rattle.lu_test.specs.declared.matrix.TheConstants.{MOST_CALLS_OF_THREAD, MOST_THREADS};
 ghost use Rattle.lu_witness.specs.Witnesses.{IsMember, HasWitness};
 ghost use Rattle.lu_witness.specs.Search.{AreAllTaken, Finds, FindsEnd, TakesOne, TellsNext};
 
@@ -74,7 +75,7 @@ fn all_taken(history: &Kept<'_>, taken: &[u8; 8]) -> bool
 fn is_next(history: &Kept<'_>, taken: &[u8; 8], op: SerialOp) -> bool
     requires { IsWellFormed history.now }
     ensures next { TellsNext taken.now history.now op result }
-    ensures room { IsTrue result → (op.thread < 8) × (get_or taken.now op.thread 0 < 8) }
+    ensures room { IsTrue result → (op.thread < MOST_THREADS) × (get_or taken.now op.thread 0 < MOST_CALLS_OF_THREAD) }
 {
     if op.thread >= 8 {
         return false;
@@ -95,8 +96,8 @@ fn are_at_most(few: &[u8; 8], many: &[u8; 8]) -> bool
 
 /// The numbers with one more for the thread.
 fn one_more(taken: &[u8; 8], thread: u8) -> [u8; 8]
-    requires thread { thread < 8 }
-    requires room { get_or taken.now thread 0 < 8 }
+    requires thread { thread < MOST_THREADS }
+    requires room { get_or taken.now thread 0 < MOST_CALLS_OF_THREAD }
     ensures { TakesOne thread taken.now result }
 {
     let mut more = *taken;
