@@ -2,7 +2,7 @@
 
 ghost use Rattle.std.specs.Prelude.{◌≡◌, ◌≤◌};
 ghost use Rattle.lu_graph.specs.Judging.{called, ended, is_waiting};
-ghost use Rattle.lu_machine.specs.declared.lib.TheConstants.{MOST_MOVES};
+ghost use Rattle.lu_machine.specs.declared.TheConstants.{MOST_MOVES};
 
 use lu_machine::{Activity, Machine};
 

@@ -2,7 +2,7 @@
 
 ghost use Rattle.std.specs.Prelude.{◌≡◌, ◌+◌, ◌<◌, ◌≤◌, ◌^◌, ℕ, suc, IfOk, IfSome, IsSome, List, length, slice_set, vec_len};
 ghost use Rattle.lu_machine.specs.Sums.{capped};
-ghost use Rattle.lu_machine.specs.declared.lib.TheConstants.{MOST_MOVES};
+ghost use Rattle.lu_machine.specs.declared.TheConstants.{MOST_MOVES};
 ghost use Rattle.lu_orders.specs.Orders.{AreRows, AreWithOne, IsNumberOf, IsRow, IsWithOne, CountsUpTo, all_moves, interleavings, orders, orders_within};
 
 use lu_machine::MOST_MOVES;

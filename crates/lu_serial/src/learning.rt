@@ -2,7 +2,7 @@
 
 ghost use Rattle.std.specs.Prelude.{◌≤◌, IfOk};
 ghost use Rattle.lu_component.specs.Component.{IsComponent};
-ghost use Rattle.lu_machine.specs.declared.lib.TheConstants.{MOST_MOVES};
+ghost use Rattle.lu_machine.specs.declared.TheConstants.{MOST_MOVES};
 ghost use Rattle.lu_test.specs.Matrix.{IsMatrix};
 ghost use Rattle.lu_machine.specs.Starts.{CanRun, FromEachStart};
 ghost use Rattle.lu_trie.specs.Conflicts.{HasConflict};

@@ -2,7 +2,7 @@
 
 ghost use Rattle.std.specs.Prelude.{◌≡◌, ◌+◌, ◌≤◌, ◌++◌, [], ◌∷◌, List, min, length, drop, IfOk, IfNone, IfSome, OnOk};
 ghost use Rattle.lu_component.specs.Component.{IsComponent};
-ghost use Rattle.lu_machine.specs.declared.lib.TheConstants.{MOST_MOVES};
+ghost use Rattle.lu_machine.specs.declared.TheConstants.{MOST_MOVES};
 ghost use Rattle.lu_test.specs.declared.schedule.Move.{Move as AMove};
 ghost use Rattle.lu_test.specs.Matrix.{IsMatrix};
 ghost use Rattle.lu_test.specs.Schedule.{IsMove};

@@ -5,7 +5,7 @@ ghost use Rattle.lu_machine.specs.States.{progress};
 ghost use Rattle.lu_machine.specs.Ends.{IsEnded};
 ghost use Rattle.lu_horizon.specs.Dead.{IsDeadTable};
 ghost use Rattle.lu_history.specs.Standing.{Agree};
-ghost use Rattle.lu_machine.specs.declared.lib.TheConstants.{MOST_MOVES};
+ghost use Rattle.lu_machine.specs.declared.TheConstants.{MOST_MOVES};
 ghost use Rattle.lu_witness.specs.Caches.{SameButEntries};
 ghost use Rattle.lu_tree.specs.declared.halt.Halt.TheVariants.{NotGood};
 ghost use Rattle.lu_tree.specs.Known.{AreHints, TellsAlone};
