@@ -1,17 +1,16 @@
 -- Schedules whose moves all go first, as they grow; and states that are alike.
-use Rattle.std.proofs.Common.{◌≡◌, ℕ, false, List, [], ◌∷◌, ◌++◌, Option, None, Some, slice_get, refl, sym, ◌∙◌, subst}
-use Rattle.std.specs.Option.{option_map_or}
+use Rattle.std.proofs.Common.{◌≡◌, ℕ, List, [], ◌∷◌, ◌++◌, Option, None, Some, slice_get, refl, sym, subst}
 use Rattle.lu_test.specs.declared.schedule.Move.{Move}
 use Rattle.lu_machine.specs.declared.event.Event.{Event}
 use Rattle.lu_machine.specs.declared.thread.Activity.{Activity}
 use Rattle.lu_machine.specs.declared.thread.Activity.TheVariants.{Idle, Open}
 use Rattle.lu_machine.specs.declared.thread.Thread.{Thread}
+use Rattle.lu_machine.specs.Changes.{at_work}
 use Rattle.lu_machine.specs.Runs.{Leads}
 use Rattle.lu_machine.specs.States.{State}
 use Rattle.lu_machine.proofs.StepLaws.{step_same}
 use Rattle.lu_horizon.specs.Alike as by
-use Rattle.lu_horizon.specs.Stands.{activity_unseen, is_unseen_at}
-use Rattle.lu_graph.specs.First.{AllGoFirst, GoesFirst}
+use Rattle.lu_graph.specs.First.{AllGoFirst, GoesFirst, IsAside}
 use Rattle.lu_graph.specs.Nodes.{AreStatesAlike, NotDead}
 
 -- ---- one move more
@@ -37,23 +36,31 @@ first_last s (x ∷ u) m mid h all leads = first_last leads.0 u m mid leads.2 (a
 -- ---- states that are alike
 
 module _ (s r : State) (alike : AreStatesAlike s r) where
-  activities : (a b : Activity) → by.AreActivitiesAlike (NotDead s.component) a b → activity_unseen r.component b ≡ activity_unseen s.component a
-  activities Idle Idle h = refl
-  activities Idle (Open g) h = absurd h
-  activities (Open f) Idle h = absurd h
-  activities (Open f) (Open g) h = rw (alike.component, h.op, h.place) refl
+  -- a thread that is aside in the one is so in the other
+  aside_there : (t : ℕ) (is : IsAside s t) (o : Option Thread) → slice_get r.threads t ≡ o → by.AreStandingAlike (NotDead s.component) (Some (at_work is.done is.frame)) o → IsAside r t
+  aside_there t is None stands h = absurd h
+  aside_there t is (Some b) stands h = with_activity b.done b.activity stands h
+    where
+      with_activity : (k : ℕ) (a : Activity) → slice_get r.threads t ≡ Some (record { done = k; activity = a }) → (k ≡ is.done) × by.AreActivitiesAlike (NotDead s.component) (Open is.frame) a → IsAside r t
+      with_activity k Idle stands h = absurd h.1
+      with_activity k (Open g) stands h = record { done = k; frame = g; stands = stands; instr = is.instr; at = rw (alike.component, h.1.op, h.1.place) is.at; aside = is.aside }
 
-  standing : (o p : Option Thread) → by.AreStandingAlike (NotDead s.component) o p → option_map_or (λ thread. activity_unseen r.component thread.activity) p false ≡ option_map_or (λ thread. activity_unseen s.component thread.activity) o false
-  standing None None h = refl
-  standing None (Some b) h = absurd h
-  standing (Some a) None h = absurd h
-  standing (Some a) (Some b) h = activities a.activity b.activity h.1
+  aside_on : (t : ℕ) → IsAside s t → IsAside r t
+  aside_on t is = aside_there t is (slice_get r.threads t) refl (subst (λ o. by.AreStandingAlike (NotDead s.component) o (slice_get r.threads t)) is.stands (alike.threads t))
 
-  unseen_alike : (t : ℕ) → is_unseen_at r t ≡ is_unseen_at s t
-  unseen_alike t = standing (slice_get s.threads t) (slice_get r.threads t) (alike.threads t)
+  aside_here : (t : ℕ) (is : IsAside r t) (o : Option Thread) → slice_get s.threads t ≡ o → by.AreStandingAlike (NotDead s.component) o (Some (at_work is.done is.frame)) → IsAside s t
+  aside_here t is None stands h = absurd h
+  aside_here t is (Some b) stands h = with_activity b.done b.activity stands h
+    where
+      with_activity : (k : ℕ) (a : Activity) → slice_get s.threads t ≡ Some (record { done = k; activity = a }) → (is.done ≡ k) × by.AreActivitiesAlike (NotDead s.component) a (Open is.frame) → IsAside s t
+      with_activity k Idle stands h = absurd h.1
+      with_activity k (Open g) stands h = record { done = k; frame = g; stands = stands; instr = is.instr; at = rw (← alike.component, ← h.1.op, ← h.1.place) is.at; aside = is.aside }
+
+  aside_back : (t : ℕ) → IsAside r t → IsAside s t
+  aside_back t is = aside_here t is (slice_get s.threads t) refl (subst (λ o. by.AreStandingAlike (NotDead s.component) (slice_get s.threads t) o) is.stands (alike.threads t))
 
   pub first_alike : (m : Move) → GoesFirst s m → GoesFirst r m
-  first_alike m first t is = first t (record { unseen = sym (unseen_alike t) ∙ is.unseen; first = λ u lt. sym (unseen_alike u) ∙ is.first u lt })
+  first_alike m first t is = first t (record { aside = aside_back t is.aside; first = λ u lt x. is.first u lt (aside_on u x) })
 
   pub first_back : (m : Move) → GoesFirst r m → GoesFirst s m
-  first_back m first t is = first t (record { unseen = unseen_alike t ∙ is.unseen; first = λ u lt. unseen_alike u ∙ is.first u lt })
+  first_back m first t is = first t (record { aside = aside_on t is.aside; first = λ u lt x. is.first u lt (aside_back u x) })

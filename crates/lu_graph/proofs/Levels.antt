@@ -26,7 +26,7 @@ use Rattle.lu_graph.proofs.Among.{all_at, at_either, at_first, at_left}
 use Rattle.lu_graph.proofs.Closing.{for_next, step_for, step_of}
 use Rattle.lu_graph.proofs.Explored.{AreGoodBefore, start_is}
 use Rattle.lu_graph.proofs.First.{first_alike, first_back, first_before, first_last, first_more}
-use Rattle.lu_graph.proofs.Unseen.{first_tells_all}
+use Rattle.lu_graph.proofs.Aside.{first_tells_all}
 
 -- the last move of a schedule
 last_move : (u : List Move) (n : ℕ) → length u ≡ n + 1 → (v : List Move) × (m : Move) × (length v ≡ n) × (u ≡ v ++ m ∷ [])

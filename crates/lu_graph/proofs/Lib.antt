@@ -1,4 +1,5 @@
-mod Unseen
+mod Apart
+mod Aside
 mod First
 mod Turns
 mod StatesAlike

@@ -3,34 +3,32 @@ use Rattle.std.proofs.Common.{arith, ◌≡◌, ℕ, ◌+◌, ◌<◌, true, fal
 use Rattle.std.proofs.lemmas.Bool.{cases_lt}
 use Rattle.lu_machine.specs.States.{State}
 use Rattle.lu_machine.proofs.Moves.{feasible_within}
-use Rattle.lu_horizon.specs.Stands.{is_unseen_at}
-use Rattle.lu_graph.specs.First.{IsFirstUnseen}
+use Rattle.lu_graph.specs.First.{IsFirstAside}
 use Rattle.lu_graph.specs.Growing.{TakeTurns}
-use Rattle.lu_graph.proofs.Unseen.{differ, one_first, unseen_past}
+use Rattle.lu_graph.specs.Turns.{is_aside_at}
+use Rattle.lu_graph.proofs.Aside.{is_told, none_past, not_told, one_first}
 
--- those of the first thread that no other sees
-pub turns_one : (s : State) (t : ℕ) → is_unseen_at s t ≡ true → ((u : ℕ) → u < t → is_unseen_at s u ≡ false) → TakeTurns s t (t + 1)
-turns_one s t unseen none m feasible = (
-  (λ goes. let same = goes t (record { unseen = unseen; first = none }) in (omega (arith, same), omega (arith, same))),
-  (λ (ge, lt) u is.
-      let here : IsFirstUnseen s t = record { unseen = unseen; first = none } in
-      let same = one_first s t u here is in
-      omega (arith, same, ge, lt)),
-)
+-- those of the first thread that is aside
+pub turns_one : (s : State) (t : ℕ) → is_aside_at s t ≡ true → ((u : ℕ) → u < t → is_aside_at s u ≡ false) → TakeTurns s t (t + 1)
+turns_one s t is none m feasible =
+    let here : IsFirstAside s t = record { aside = is_told s t is; first = λ u lt. not_told s u (none u lt) } in (
+      (λ goes. let same = goes t here in (omega (arith, same), omega (arith, same))),
+      (λ (ge, lt) u is. let same = one_first s t u here is in omega (arith, same, ge, lt)),
+    )
 
 -- or all, where there is none
-pub turns_all : (s : State) → ((u : ℕ) → u < length s.threads → is_unseen_at s u ≡ false) → TakeTurns s 0 (length s.threads)
+pub turns_all : (s : State) → ((u : ℕ) → u < length s.threads → is_aside_at s u ≡ false) → TakeTurns s 0 (length s.threads)
 turns_all s none m feasible = (
   (λ goes. (omega arith, feasible_within s m feasible)),
   (λ within u is. elim (cases_lt u (length s.threads)) as (λ _. m.thread ≡ u) [
-    | inl lt ↦ absurd (differ (is_unseen_at s u) (none u lt) is.unseen)
-    | inr past ↦ absurd (differ (is_unseen_at s u) (unseen_past s u past) is.unseen)
+    | inl lt ↦ absurd (not_told s u (none u lt) is.aside)
+    | inr past ↦ absurd (none_past s u past is.aside)
   ]),
 )
 
--- one more that others see
-pub seen_more : (s : State) (t : ℕ) → ((u : ℕ) → u < t → is_unseen_at s u ≡ false) → is_unseen_at s t ≡ false → (u : ℕ) → u < t + 1 → is_unseen_at s u ≡ false
-seen_more s t none seen u lt = elim (cases_lt u t) as (λ _. is_unseen_at s u ≡ false) [
+-- one more that is not aside
+pub none_more : (s : State) (t : ℕ) → ((u : ℕ) → u < t → is_aside_at s u ≡ false) → is_aside_at s t ≡ false → (u : ℕ) → u < t + 1 → is_aside_at s u ≡ false
+none_more s t none not u lt = elim (cases_lt u t) as (λ _. is_aside_at s u ≡ false) [
   | inl before ↦ none u before
-  | inr past ↦ (let here : t ≡ u = omega (arith, lt, past) in subst (λ v. is_unseen_at s v ≡ false) here seen)
+  | inr past ↦ (let here : t ≡ u = omega (arith, lt, past) in subst (λ v. is_aside_at s v ≡ false) here not)
 ]

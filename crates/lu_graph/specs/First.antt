@@ -1,22 +1,43 @@
--- Schedules in which a thread that no other thread sees goes first.
-use Rattle.std.specs.Prelude.{◌≡◌, ℕ, ◌<◌, true, false, List, [], ◌∷◌, length, Option}
+-- Schedules in which a thread goes first whose move comes out the same before what the others do.
+use Rattle.std.specs.Prelude.{◌≡◌, ℕ, ◌<◌, true, List, [], ◌∷◌, length, Option, Some, slice_get}
+use Rattle.lu_component.specs.declared.instr.Instr.{Instr}
+use Rattle.lu_component.specs.declared.instr.Instr.TheVariants.{Unlock}
 use Rattle.lu_test.specs.declared.schedule.Move.{Move}
 use Rattle.lu_machine.specs.declared.event.Event.{Event}
+use Rattle.lu_machine.specs.declared.thread.Activity.TheVariants.{Open}
+use Rattle.lu_machine.specs.declared.thread.Frame.{Frame}
 use Rattle.lu_machine.specs.Ends.{IsEnded}
 use Rattle.lu_machine.specs.Runs.{Leads}
-use Rattle.lu_machine.specs.States.{State}
+use Rattle.lu_machine.specs.States.{State, current_instr}
 use Rattle.lu_machine.specs.Steps.{Step}
-use Rattle.lu_horizon.specs.Stands.{is_unseen_at}
+use Rattle.lu_horizon.specs.Stands.{is_unseen}
 use Rattle.lu_tree.specs.Reordered.{AreReordered}
 
--- thread t is at an instruction that no other thread sees, and no thread before it is
-pub record IsFirstUnseen (s : State) (t : ℕ) : Type 0 where
-  pub unseen : is_unseen_at s t ≡ true
-  pub first : (u : ℕ) → u < t → is_unseen_at s u ≡ false
+-- The instruction stands aside: it is never blocked, and it and what other threads do before it come
+-- out the same in the other order. No other thread sees it; or it is an `unlock`: while its thread
+-- owns the lock, `lock` of another thread is blocked, and `unlock` traps; where its thread does not
+-- own it, it traps itself.
+abbrev pub StandsAside : Instr → Type 0
+StandsAside (Unlock l) = Unit {0}
+StandsAside instr = is_unseen instr ≡ true
+
+-- thread t is at such an instruction
+pub record IsAside (s : State) (t : ℕ) : Type 0 where
+  pub done : ℕ
+  pub frame : Frame
+  pub stands : slice_get s.threads t ≡ Some (record { done = done; activity = Open frame })
+  pub instr : Instr
+  pub at : current_instr s frame ≡ Some instr
+  pub aside : StandsAside instr
+
+-- and no thread before it is
+pub record IsFirstAside (s : State) (t : ℕ) : Type 0 where
+  pub aside : IsAside s t
+  pub first : (u : ℕ) → u < t → IsAside s u → ⊥
 
 -- The move goes first in s: where threads are at such instructions, the first of them makes it.
 abbrev pub GoesFirst : State → Move → Type 0
-GoesFirst s m = (t : ℕ) → IsFirstUnseen s t → m.thread ≡ t
+GoesFirst s m = (t : ℕ) → IsFirstAside s t → m.thread ≡ t
 
 -- each move of the schedule goes first where it is made
 abbrev pub AllGoFirst : State → List Move → Type 0

@@ -1,5 +1,6 @@
 pub mod Alive
 pub mod First
+pub mod Turns
 pub mod Nodes
 pub mod Laws
 pub mod Judging

@@ -4,13 +4,14 @@ ghost use Rattle.std.specs.Prelude.{◌≡◌, OnOk};
 ghost use Rattle.lu_graph.specs.Growing.{TakeTurns};
 ghost use Rattle.lu_graph.specs.Holding.{HoldsHere, HoldsNext};
 ghost use Rattle.lu_graph.specs.Rows.{IsSized};
+ghost use Rattle.lu_graph.specs.Turns.{is_aside, is_aside_at};
 
 use crate::holding::{Nodes, add_at};
 use crate::possibilities::number_after;
 use crate::row::Row;
+use lu_component::Instr;
 use lu_history::SerialOp;
-use lu_horizon::is_unseen_at;
-use lu_machine::{Event, Machine};
+use lu_machine::{Activity, Event, Machine};
 use lu_test::Move;
 use std::alloc::{AllocError, Global};
 
@@ -32,6 +33,39 @@ fn add(
     add_at(alloc, machine, &Row { alive, ..*from }, nodes)
 }
 
+/// Whether the instruction stands aside: it is never blocked, and it and what other threads do
+/// before it come out the same in the other order. So it is of what no other thread sees, and of
+/// `unlock`.
+fn is_aside(instr: &Instr) -> bool
+    ensures { result ≡ is_aside instr.now }
+{
+    matches!(
+        instr,
+        Instr::Set { .. }
+            | Instr::Compute { .. }
+            | Instr::Unlock(_)
+            | Instr::Jump(_)
+            | Instr::JumpIfZero { .. }
+            | Instr::Return(_)
+    )
+}
+
+/// Whether the thread is at an instruction that stands aside.
+fn is_aside_at(machine: &Machine<'_>, thread: u8) -> bool
+    ensures { result ≡ is_aside_at machine.now thread }
+{
+    let Some(standing) = machine.standing(thread) else {
+        return false;
+    };
+    match &standing.activity {
+        Activity::Idle => false,
+        Activity::Open(frame) => match machine.instr(frame) {
+            None => false,
+            Some(instr) => is_aside(instr),
+        },
+    }
+}
+
 /// The threads whose moves go first: from `first` to before `end`.
 #[derive(Clone, Copy)]
 struct Turns {
@@ -40,13 +74,13 @@ struct Turns {
 }
 
 /// The threads whose moves go first where the machine stands: the first thread that is at an
-/// instruction which no other thread sees, or else all. What the others do meanwhile is the same,
-/// and where a return comes earlier, a history only has more precedence.
+/// instruction which stands aside, or else all. What the others do meanwhile is the same, and where
+/// a return comes earlier, a history only has more precedence.
 fn turns_at(machine: &Machine<'_>) -> Turns
     ensures { TakeTurns machine.now result.first result.end }
 {
     for thread in 0..machine.threads() {
-        if is_unseen_at(machine, thread) {
+        if is_aside_at(machine, thread) {
             return Turns {
                 first: thread,
                 end: thread + 1,

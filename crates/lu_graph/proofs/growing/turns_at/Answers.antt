@@ -1,13 +1,13 @@
 use Rattle.std.proofs.Common.{arith, sym, ◌∙◌, subst}
 use Rattle.lu_graph.specs.Growing.{TakeTurns}
-use Rattle.lu_graph.proofs.Turns.{seen_more, turns_all, turns_one}
+use Rattle.lu_graph.proofs.Turns.{none_more, turns_all, turns_one}
 use Rattle.lu_graph.proofs.growing.turns_at.Goals as goal
 
-pub returns-then-is_unseen_at : goal.returns-then-is_unseen_at
-returns-then-is_unseen_at c = turns_one c.args.machine.now c.loop-thread.thread (sym c.is_unseen_at.ensures ∙ c.if-is_unseen_at.true) c.loop-thread.invariant
+pub returns-then-is_aside_at : goal.returns-then-is_aside_at
+returns-then-is_aside_at c = turns_one c.args.machine.now c.loop-thread.thread (sym c.is_aside_at.ensures ∙ c.if-is_aside_at.true) c.loop-thread.invariant
 
 pub loop-thread-preserved : goal.loop-thread-preserved
-loop-thread-preserved c = seen_more c.args.machine.now c.loop-thread.thread c.loop-thread.invariant (sym c.is_unseen_at.ensures ∙ c.if-is_unseen_at.false)
+loop-thread-preserved c = none_more c.args.machine.now c.loop-thread.thread c.loop-thread.invariant (sym c.is_aside_at.ensures ∙ c.if-is_aside_at.false)
 
 pub returns : goal.returns
 returns c =
