@@ -56,7 +56,7 @@ record Carried (s : State) (m : Move) (f : Frame) (instr : Instr) (new : State) 
   pub is : new ≡ with_shared s wrote
   pub within : Within wrote (instr_access s.component f instr)
   pub hands : Hands s m.thread wrote
-  pub gives : StandsAside instr → GivesBack s m.thread wrote
+  pub gives : StandsAside s.component instr → GivesBack s m.thread wrote
   pub there : (r : State) → r.component ≡ s.component → LooksSame s r m.thread f instr → Carries r m f instr (with_shared r wrote) e
 
 pub hands_back : (s : State) (t : ℕ) (w : Shared) → GivesBack s t w → Hands s t w
@@ -142,20 +142,20 @@ pub record IsNear (t : ℕ) (s r : State) : Type 0 where
   pub looks : (k : ℕ) (f : Frame) (instr : Instr) → slice_get s.threads t ≡ Some (at_work k f) → instr_at s.component f.op f.place ≡ Some instr → LooksSame s r t f instr
 
 -- a thread is at one instruction
-pub aside_instr : (s : State) (t k : ℕ) (f : Frame) (instr : Instr) → slice_get s.threads t ≡ Some (at_work k f) → instr_at s.component f.op f.place ≡ Some instr → IsAside s t → StandsAside instr
+pub aside_instr : (s : State) (t k : ℕ) (f : Frame) (instr : Instr) → slice_get s.threads t ≡ Some (at_work k f) → instr_at s.component f.op f.place ≡ Some instr → IsAside s t → StandsAside s.component instr
 aside_instr s t k f instr stands at is =
     let same : at_work is.done is.frame ≡ at_work k f = same_Some (at_work is.done is.frame) (at_work k f) (sym is.stands ∙ stands) in
     let here : Open is.frame ≡ Open f = ap (λ (x : Thread). x.activity) same in
     let frame : is.frame ≡ f = ap frame_in here in
     let one : is.instr ≡ instr = same_Some is.instr instr (sym is.at ∙ (ap (λ (g : Frame). instr_at s.component g.op g.place) frame ∙ at)) in
-    subst StandsAside one is.aside
+    subst (StandsAside s.component) one is.aside
   where
     frame_in : Activity → Frame
     frame_in Idle = is.frame
     frame_in (Open g) = g
 
 -- what one call or instruction writes, and that it does the same in each state that is near
-record Once (s : State) (m : Move) (new : State) (event : Option Event) : Type 0 where
+pub record Once (s : State) (m : Move) (new : State) (event : Option Event) : Type 0 where
   pub wrote : Shared
   pub within : Within wrote (next_access s m.thread)
   pub hands : Hands s m.thread wrote
@@ -164,7 +164,7 @@ record Once (s : State) (m : Move) (new : State) (event : Option Event) : Type 0
   pub is : new ≡ written s wrote m.thread now
   pub there : (r : State) → IsNear m.thread s r → OneStep r m (written r wrote m.thread now) event
 
-once : (s new : State) (m : Move) (k : ℕ) (activity : Activity) (event : Option Event) → slice_get s.threads m.thread ≡ Some (record { done = k; activity = activity }) → ByActivity s m k activity new event → Once s m new event
+pub once : (s new : State) (m : Move) (k : ℕ) (activity : Activity) (event : Option Event) → slice_get s.threads m.thread ≡ Some (record { done = k; activity = activity }) → ByActivity s m k activity new event → Once s m new event
 once s new m k Idle event was h = record {
   wrote = Nothing;
   within = tt;
@@ -360,7 +360,7 @@ both_written s (Owner k o) (Owner l q) t u now after differ apart = rw (set_both
 
 -- ---- what another thread looks at
 
-cell_still : (s r : State) (writes : Bool) (o : Option ℕ) → ((p : ℕ) → o ≡ Some p → value_at r p ≡ value_at s p) → AccessSame s r (option_map (of_cell writes) o)
+pub cell_still : (s r : State) (writes : Bool) (o : Option ℕ) → ((p : ℕ) → o ≡ Some p → value_at r p ≡ value_at s p) → AccessSame s r (option_map (of_cell writes) o)
 cell_still s r writes None same = tt
 cell_still s r writes (Some p) same = same p refl
 

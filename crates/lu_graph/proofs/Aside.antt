@@ -1,10 +1,12 @@
 -- A move that stands aside may go first, before what the others do.
-use Rattle.std.proofs.Common.{arith, ◌≡◌, ℕ, zero, suc, ◌+◌, ◌<◌, ◌≤◌, ◌⊎◌, Bool, true, false, List, [], ◌∷◌, length, Option, None, Some, slice_get, refl, sym, ◌∙◌, ap, subst, inl, inr}
-use Rattle.std.specs.Option.{option_map_or}
-use Rattle.std.proofs.lemmas.Bool.{cases_eq, cases_lt}
+use Rattle.std.proofs.Common.{arith, ◌≡◌, ℕ, zero, suc, ◌+◌, ◌<◌, ◌≤◌, ◌⊎◌, ◌==◌, ◌&&◌, ◌||◌, if◌then◌else◌, is_some, Bool, true, false, List, [], ◌∷◌, length, Option, None, Some, slice_get, refl, sym, ◌∙◌, ap, subst, inl, inr}
+use Rattle.std.specs.Option.{option_and_then, option_map, option_map_or}
+use Rattle.std.proofs.lemmas.Bool.{and_parts, cases_eq, cases_lt, eq-eqb}
+use Rattle.std.proofs.lemmas.Bool.Decides.{nat_tests}
 use Rattle.std.proofs.lemmas.Option.{same_Some, slice_get_past}
 use Rattle.lu_component.specs.Component.{Component}
 use Rattle.lu_component.specs.declared.instr.Instr.{Instr}
+use Rattle.lu_component.specs.declared.instr.Operand.{Operand}
 use Rattle.lu_component.specs.declared.instr.Instr.TheVariants.{Set, Compute, Load, Store, Cas, Lock, Unlock, Await, AwaitNot, Pick, Jump, JumpIfZero, Return}
 use Rattle.lu_test.specs.declared.schedule.Move.{Move}
 use Rattle.lu_machine.specs.declared.event.Event.{Event}
@@ -15,7 +17,8 @@ use Rattle.lu_machine.specs.declared.thread.Thread.{Thread}
 use Rattle.lu_machine.specs.Changes.{at_work, idle}
 use Rattle.lu_machine.specs.Ends.{IsEnded}
 use Rattle.lu_machine.specs.Runs.{Leads, with_event}
-use Rattle.lu_machine.specs.States.{State, instr_at, owner_of}
+use Rattle.lu_machine.specs.Effects.{value_of}
+use Rattle.lu_machine.specs.States.{State, cell_at, cell_of, instr_at, owner_of, value_at}
 use Rattle.lu_machine.specs.Steps.{Step, instr_picks, owns, picks_of}
 use Rattle.lu_machine.proofs.Ended.{complete_no_move}
 use Rattle.lu_machine.proofs.Keeping.{step_moved}
@@ -23,78 +26,82 @@ use Rattle.lu_machine.proofs.StepLaws.{step_same}
 use Rattle.lu_horizon.proofs.OwnLaws.{other_stands}
 use Rattle.lu_machine.specs.declared.undo.Shared.{Shared}
 use Rattle.lu_machine.specs.declared.undo.Shared.TheVariants.{Nothing, Cell, Owner}
-use Rattle.lu_tree.specs.Accesses.{instr_access, next_access, of_cell, of_lock}
+use Rattle.lu_tree.specs.Accesses.{activity_access, conflict, instr_access, next_access, of_cell, of_lock}
 use Rattle.lu_tree.specs.Reordered.{AreReordered, AreUnordered}
-use Rattle.lu_tree.proofs.Accessing.{Within, access_at, picks_at, step_event, step_opens, unordered_by, written, written_other}
+use Rattle.lu_tree.proofs.Accessing.{AccessSame, Within, access_at, picks_at, step_event, step_opens, unordered_by, written, written_other}
 use Rattle.lu_tree.proofs.Reordering.{exchanged_once, reordered_after, reordered_both, reordered_same}
 use Rattle.lu_graph.specs.First.{AllGoFirst, FirstTellsAll, IsAside, IsFirstAside, LeadsFirst, StandsAside}
+use Rattle.lu_graph.specs.Guards.{IsGuarded, TellsGuarded, array_of}
 use Rattle.lu_graph.specs.Turns.{activity_is_aside, is_aside, is_aside_at}
-use Rattle.lu_graph.proofs.Apart.{AreAtOthers, GivesBack, IsNear, LooksSame, aside_instr, back_apart, both_written, does_near, looks_still, no_lock, owner_is, owner_owns, owns_still, shared_component, shared_matrix}
+use Rattle.lu_graph.proofs.Apart.{AreAtOthers, GivesBack, IsAtCell, IsNear, LooksSame, aside_instr, back_apart, both_written, cell_still, does_near, looks_still, no_lock, owner_is, owner_owns, owns_still, shared_component, shared_matrix, value_still}
+use Rattle.lu_graph.proofs.Guarded.{IsOwned, one_accesses, one_array, start_owned, step_owned}
 
 -- ---- a thread that is aside
 
 -- the test tells of each instruction whether it stands aside
-aside_told : (instr : Instr) → is_aside instr ≡ true → StandsAside instr
-aside_told (Set to v) is = is
-aside_told (Compute by to x y) is = is
-aside_told (Load to w i) is = is
-aside_told (Store w i v) is = is
-aside_told (Cas to w i x y) is = is
-aside_told (Lock l) is = is
-aside_told (Unlock l) is = tt
-aside_told (Await w i v) is = is
-aside_told (AwaitNot w i v) is = is
-aside_told (Pick to count) is = is
-aside_told (Jump target) is = is
-aside_told (JumpIfZero v target) is = is
-aside_told (Return v) is = is
+module _ (c : Component) (guarded : List Bool) (told : TellsGuarded c guarded) where
+  aside_told : (instr : Instr) → is_aside guarded instr ≡ true → StandsAside c instr
+  aside_told (Set to v) is = is
+  aside_told (Compute by to x y) is = is
+  aside_told (Load to w i) is = (told w).0 is
+  aside_told (Store w i v) is = (told w).0 is
+  aside_told (Cas to w i x y) is = (told w).0 is
+  aside_told (Lock l) is = is
+  aside_told (Unlock l) is = tt
+  aside_told (Await w i v) is = is
+  aside_told (AwaitNot w i v) is = is
+  aside_told (Pick to count) is = is
+  aside_told (Jump target) is = is
+  aside_told (JumpIfZero v target) is = is
+  aside_told (Return v) is = is
 
-told_aside : (instr : Instr) → StandsAside instr → is_aside instr ≡ true
-told_aside (Set to v) is = is
-told_aside (Compute by to x y) is = is
-told_aside (Load to w i) is = is
-told_aside (Store w i v) is = is
-told_aside (Cas to w i x y) is = is
-told_aside (Lock l) is = is
-told_aside (Unlock l) is = refl
-told_aside (Await w i v) is = is
-told_aside (AwaitNot w i v) is = is
-told_aside (Pick to count) is = is
-told_aside (Jump target) is = is
-told_aside (JumpIfZero v target) is = is
-told_aside (Return v) is = is
-
-by_instr : (s : State) (t k : ℕ) (f : Frame) → slice_get s.threads t ≡ Some (at_work k f) → (o : Option Instr) → instr_at s.component f.op f.place ≡ o → option_map_or is_aside o false ≡ true → IsAside s t
-by_instr s t k f stands None at is = absurd (cc)
-by_instr s t k f stands (Some instr) at is = record { done = k; frame = f; stands = stands; instr = instr; at = at; aside = aside_told instr is }
-
-by_activity : (s : State) (t k : ℕ) (a : Activity) → slice_get s.threads t ≡ Some (record { done = k; activity = a }) → activity_is_aside s.component a ≡ true → IsAside s t
-by_activity s t k Idle stands is = absurd (cc)
-by_activity s t k (Open f) stands is = by_instr s t k f stands (instr_at s.component f.op f.place) refl is
-
-by_thread : (s : State) (t : ℕ) (o : Option Thread) → slice_get s.threads t ≡ o → option_map_or (λ thread. activity_is_aside s.component thread.activity) o false ≡ true → IsAside s t
-by_thread s t None stands is = absurd (cc)
-by_thread s t (Some thread) stands is = by_activity s t thread.done thread.activity stands is
-
--- and so of each thread whether it is aside
-pub is_told : (s : State) (t : ℕ) → is_aside_at s t ≡ true → IsAside s t
-is_told s t is = by_thread s t (slice_get s.threads t) refl is
-
-tells_at : (s : State) (t k : ℕ) (f : Frame) (instr : Instr) → slice_get s.threads t ≡ Some (at_work k f) → instr_at s.component f.op f.place ≡ Some instr → is_aside_at s t ≡ is_aside instr
-tells_at s t k f instr stands at = rw (stands, at) refl
+  told_aside : (instr : Instr) → StandsAside c instr → is_aside guarded instr ≡ true
+  told_aside (Set to v) is = is
+  told_aside (Compute by to x y) is = is
+  told_aside (Load to w i) is = (told w).1 is
+  told_aside (Store w i v) is = (told w).1 is
+  told_aside (Cas to w i x y) is = (told w).1 is
+  told_aside (Lock l) is = is
+  told_aside (Unlock l) is = refl
+  told_aside (Await w i v) is = is
+  told_aside (AwaitNot w i v) is = is
+  told_aside (Pick to count) is = is
+  told_aside (Jump target) is = is
+  told_aside (JumpIfZero v target) is = is
+  told_aside (Return v) is = is
 
 different : (b : Bool) → b ≡ false → b ≡ true → ⊥
 different b p q = cc
 
-pub not_told : (s : State) (t : ℕ) → is_aside_at s t ≡ false → IsAside s t → ⊥
-not_told s t is x = different (is_aside_at s t) is (tells_at s t x.done x.frame x.instr x.stands x.at ∙ told_aside x.instr x.aside)
+-- and so of each thread whether it is aside
+module _ (s : State) (guarded : List Bool) (told : TellsGuarded s.component guarded) (t : ℕ) where
+  by_instr : (k : ℕ) (f : Frame) → slice_get s.threads t ≡ Some (at_work k f) → (o : Option Instr) → instr_at s.component f.op f.place ≡ o → option_map_or (is_aside guarded) o false ≡ true → IsAside s t
+  by_instr k f stands None at is = absurd (cc)
+  by_instr k f stands (Some instr) at is = record { done = k; frame = f; stands = stands; instr = instr; at = at; aside = aside_told s.component guarded told instr is }
 
-aside_picks : (s : State) (f : Frame) (instr : Instr) → StandsAside instr → instr_picks s f instr ≡ 1
+  by_activity : (k : ℕ) (a : Activity) → slice_get s.threads t ≡ Some (record { done = k; activity = a }) → activity_is_aside guarded s.component a ≡ true → IsAside s t
+  by_activity k Idle stands is = absurd (cc)
+  by_activity k (Open f) stands is = by_instr k f stands (instr_at s.component f.op f.place) refl is
+
+  by_thread : (o : Option Thread) → slice_get s.threads t ≡ o → option_map_or (λ thread. activity_is_aside guarded s.component thread.activity) o false ≡ true → IsAside s t
+  by_thread None stands is = absurd (cc)
+  by_thread (Some thread) stands is = by_activity thread.done thread.activity stands is
+
+  pub is_told : is_aside_at guarded s t ≡ true → IsAside s t
+  is_told is = by_thread (slice_get s.threads t) refl is
+
+  tells_at : (k : ℕ) (f : Frame) (instr : Instr) → slice_get s.threads t ≡ Some (at_work k f) → instr_at s.component f.op f.place ≡ Some instr → is_aside_at guarded s t ≡ is_aside guarded instr
+  tells_at k f instr stands at = rw (stands, at) refl
+
+  pub not_told : is_aside_at guarded s t ≡ false → IsAside s t → ⊥
+  not_told is x = different (is_aside_at guarded s t) is (tells_at x.done x.frame x.instr x.stands x.at ∙ told_aside s.component guarded told x.instr x.aside)
+
+aside_picks : (s : State) (f : Frame) (instr : Instr) → StandsAside s.component instr → instr_picks s f instr ≡ 1
 aside_picks s f (Set to v) is = refl
 aside_picks s f (Compute by to x y) is = refl
-aside_picks s f (Load to w i) is = absurd (cc)
-aside_picks s f (Store w i v) is = absurd (cc)
-aside_picks s f (Cas to w i x y) is = absurd (cc)
+aside_picks s f (Load to w i) is = refl
+aside_picks s f (Store w i v) is = refl
+aside_picks s f (Cas to w i x y) is = refl
 aside_picks s f (Lock l) is = absurd (cc)
 aside_picks s f (Unlock l) is = refl
 aside_picks s f (Await w i v) is = absurd (cc)
@@ -126,7 +133,7 @@ stays_aside s x next event t differ step is =
       stands = stays ∙ is.stands;
       instr = is.instr;
       at = ap (λ (c : Component). instr_at c is.frame.op is.frame.place) moved.component ∙ is.at;
-      aside = is.aside;
+      aside = subst (λ (c : Component). StandsAside c is.instr) (sym moved.component) is.aside;
     }
 
 -- ---- its move stands aside
@@ -138,44 +145,120 @@ record Aside (s : State) (m x : Move) (end : State) (event other : Option Event)
   pub after : Step now x end other
   pub unordered : AreUnordered event other
 
+-- an instruction that accesses a cell, and its array
+record Accesses (s : State) (t p : ℕ) : Type 0 where
+  pub done : ℕ
+  pub frame : Frame
+  pub stands : slice_get s.threads t ≡ Some (at_work done frame)
+  pub instr : Instr
+  pub at : instr_at s.component frame.op frame.place ≡ Some instr
+  pub array : ℕ
+  pub of : array_of instr ≡ Some array
+  pub index : ℕ
+  pub cell : cell_of s.component array index ≡ Some p
+
 no_cell : (l : ℕ) (writes : Bool) (p : ℕ) → Some (of_lock l) ≡ Some (of_cell writes p) → ⊥
 no_cell l writes p is = no_lock writes (Some p) l (sym is)
 
--- an instruction that stands aside accesses no cell
-access_aside : (c : Component) (f : Frame) (instr : Instr) (p : ℕ) → StandsAside instr → (writes : Bool) × (instr_access c f instr ≡ Some (of_cell writes p)) → ⊥
-access_aside c f (Set to v) p is cell = (let at = cell.1 in cc)
-access_aside c f (Compute by to x y) p is cell = (let at = cell.1 in cc)
-access_aside c f (Load to w i) p is cell = absurd (cc)
-access_aside c f (Store w i v) p is cell = absurd (cc)
-access_aside c f (Cas to w i x y) p is cell = absurd (cc)
-access_aside c f (Lock l) p is cell = absurd (cc)
-access_aside c f (Unlock l) p is cell = no_cell l cell.0 p cell.1
-access_aside c f (Await w i v) p is cell = absurd (cc)
-access_aside c f (AwaitNot w i v) p is cell = absurd (cc)
-access_aside c f (Pick to count) p is cell = absurd (cc)
-access_aside c f (Jump target) p is cell = (let at = cell.1 in cc)
-access_aside c f (JumpIfZero v target) p is cell = (let at = cell.1 in cc)
-access_aside c f (Return v) p is cell = (let at = cell.1 in cc)
+none_cell : (writes : Bool) (p : ℕ) → None ≡ Some (of_cell writes p) → ⊥
+none_cell writes p is = cc
 
-others_aside : (s : State) (t u : ℕ) → IsAside s t → AreAtOthers s t u
-others_aside s t u is p mine other =
-    access_aside s.component is.frame is.instr p is.aside (mine.0, sym (access_at s t is.done is.frame is.instr is.stands is.at) ∙ mine.1)
+chosen : {A : Type 0} (x : A) (b : Bool) → is_some (if b then Some x else None) ≡ true → b ≡ true
+chosen x true is = refl
+chosen x false is = absurd (cc)
 
--- what it looks at is the same before the others' move, where its thread owns the same locks
-looks_before : (s r : State) (t : ℕ) (f : Frame) (instr : Instr) → StandsAside instr → ((l : ℕ) → owns s t l ≡ owns r t l) → LooksSame r s t f instr
-looks_before s r t f (Set to v) is own = tt
-looks_before s r t f (Compute by to x y) is own = tt
-looks_before s r t f (Load to w i) is own = absurd (cc)
-looks_before s r t f (Store w i v) is own = absurd (cc)
-looks_before s r t f (Cas to w i x y) is own = absurd (cc)
-looks_before s r t f (Lock l) is own = absurd (cc)
-looks_before s r t f (Unlock l) is own = own l
-looks_before s r t f (Await w i v) is own = absurd (cc)
-looks_before s r t f (AwaitNot w i v) is own = absurd (cc)
-looks_before s r t f (Pick to count) is own = absurd (cc)
-looks_before s r t f (Jump target) is own = tt
-looks_before s r t f (JumpIfZero v target) is own = tt
-looks_before s r t f (Return v) is own = tt
+cell_is : (a b : Bool) (o : Option ℕ) (p : ℕ) → option_map (of_cell a) o ≡ Some (of_cell b p) → o ≡ Some p
+cell_is a b None p is = absurd (cc)
+cell_is a b (Some q) p is =
+    let one : is_some (conflict (Some (of_cell true p)) (Some (of_cell b p))) ≡ true = rw (eq-eqb p p refl) refl in
+    let same : is_some (conflict (Some (of_cell true p)) (Some (of_cell a q))) ≡ true = ap (λ x. is_some (conflict (Some (of_cell true p)) x)) is ∙ one in
+    let both : ((p == q) && (true || a)) ≡ true = chosen _ ((p == q) && (true || a)) same in
+    let here : (p == q) ≡ true = (and_parts (p == q) (true || a) both).0 in
+    let e : p ≡ q = grind (arith, nat_tests) in
+    ap (λ (x : ℕ). Some x) (sym e)
+
+module _ (s : State) (t p k : ℕ) (f : Frame) (stands : slice_get s.threads t ≡ Some (at_work k f)) where
+  accesses_array : (instr : Instr) → instr_at s.component f.op f.place ≡ Some instr → (w : ℕ) (i : Operand) → array_of instr ≡ Some w → cell_at s f w i ≡ Some p → Accesses s t p
+  accesses_array instr at w i of cell = record { done = k; frame = f; stands = stands; instr = instr; at = at; array = w; of = of; index = value_of f i; cell = cell }
+
+  accesses_instr : (instr : Instr) → instr_at s.component f.op f.place ≡ Some instr → (b : Bool) → instr_access s.component f instr ≡ Some (of_cell b p) → Accesses s t p
+  accesses_instr (Set to v) at b is = absurd (none_cell b p is)
+  accesses_instr (Compute by to x y) at b is = absurd (none_cell b p is)
+  accesses_instr (Load to w i) at b is = accesses_array (Load to w i) at w i refl (cell_is false b (cell_at s f w i) p is)
+  accesses_instr (Store w i v) at b is = accesses_array (Store w i v) at w i refl (cell_is true b (cell_at s f w i) p is)
+  accesses_instr (Cas to w i x y) at b is = accesses_array (Cas to w i x y) at w i refl (cell_is true b (cell_at s f w i) p is)
+  accesses_instr (Lock l) at b is = absurd (no_cell l b p is)
+  accesses_instr (Unlock l) at b is = absurd (no_cell l b p is)
+  accesses_instr (Await w i v) at b is = accesses_array (Await w i v) at w i refl (cell_is false b (cell_at s f w i) p is)
+  accesses_instr (AwaitNot w i v) at b is = accesses_array (AwaitNot w i v) at w i refl (cell_is false b (cell_at s f w i) p is)
+  accesses_instr (Pick to count) at b is = absurd (none_cell b p is)
+  accesses_instr (Jump target) at b is = absurd (none_cell b p is)
+  accesses_instr (JumpIfZero v target) at b is = absurd (none_cell b p is)
+  accesses_instr (Return v) at b is = absurd (none_cell b p is)
+
+  accesses_here : (o : Option Instr) → instr_at s.component f.op f.place ≡ o → (b : Bool) → option_and_then (instr_access s.component f) o ≡ Some (of_cell b p) → Accesses s t p
+  accesses_here None at b is = absurd (none_cell b p is)
+  accesses_here (Some instr) at b is = accesses_instr instr at b is
+
+accesses_so : (s : State) (t p k : ℕ) (a : Activity) → slice_get s.threads t ≡ Some (record { done = k; activity = a }) → (b : Bool) → activity_access s.component a ≡ Some (of_cell b p) → Accesses s t p
+accesses_so s t p k Idle stands b is = absurd (none_cell b p is)
+accesses_so s t p k (Open f) stands b is = accesses_here s t p k f stands (instr_at s.component f.op f.place) refl b is
+
+accesses_by : (s : State) (t p : ℕ) (o : Option Thread) → slice_get s.threads t ≡ o → (b : Bool) → option_and_then (λ thread. activity_access s.component thread.activity) o ≡ Some (of_cell b p) → Accesses s t p
+accesses_by s t p None stands b is = absurd (none_cell b p is)
+accesses_by s t p (Some thread) stands b is = accesses_so s t p thread.done thread.activity stands b is
+
+accesses : (s : State) (t p : ℕ) → IsAtCell s t p → Accesses s t p
+accesses s t p (b, is) = accesses_by s t p (slice_get s.threads t) refl b is
+
+none_array : (w : ℕ) → None ≡ Some w → ⊥
+none_array w is = cc
+
+-- where it stands aside, its array is guarded
+array_guarded : (c : Component) (instr : Instr) (w : ℕ) → StandsAside c instr → array_of instr ≡ Some w → IsGuarded c w
+array_guarded c (Set to v) w is of = absurd (none_array w of)
+array_guarded c (Compute by to x y) w is of = absurd (none_array w of)
+array_guarded c (Load to v i) w is of = subst (IsGuarded c) (same_Some v w of) is
+array_guarded c (Store v i x) w is of = subst (IsGuarded c) (same_Some v w of) is
+array_guarded c (Cas to v i x y) w is of = subst (IsGuarded c) (same_Some v w of) is
+array_guarded c (Lock l) w is of = absurd (none_array w of)
+array_guarded c (Unlock l) w is of = absurd (none_array w of)
+array_guarded c (Await v i x) w is of = absurd (cc)
+array_guarded c (AwaitNot v i x) w is of = absurd (cc)
+array_guarded c (Pick to count) w is of = absurd (none_array w of)
+array_guarded c (Jump target) w is of = absurd (none_array w of)
+array_guarded c (JumpIfZero v target) w is of = absurd (none_array w of)
+array_guarded c (Return v) w is of = absurd (none_array w of)
+
+-- so another thread accesses none of its cells
+others_aside : (s : State) (t u : ℕ) → (t ≡ u → ⊥) → IsOwned s → IsAside s t → AreAtOthers s t u
+others_aside s t u differ owned is p mine other =
+    let x = accesses s t p mine in
+    let y = accesses s u p other in
+    let aside = aside_instr s t x.done x.frame x.instr x.stands x.at is in
+    let guarded = array_guarded s.component x.instr x.array aside x.of in
+    let same : x.array ≡ y.array = one_array s.component x.array y.array x.index y.index p x.cell y.cell in
+    differ (one_accesses s x.array t u x.done y.done x.frame y.frame x.instr y.instr owned guarded x.stands y.stands x.at y.at x.of (subst (λ w. array_of y.instr ≡ Some w) (sym same) y.of))
+
+-- what it looks at is the same before the others' move, where its thread owns the same locks, and its cells have the same values
+module _ (s r : State) (t : ℕ) (f : Frame) (own : (l : ℕ) → owns s t l ≡ owns r t l) (values : (p : ℕ) → IsAtCell r t p → value_at s p ≡ value_at r p) where
+  cells_before : (writes : Bool) (o : Option ℕ) → next_access r t ≡ option_map (of_cell writes) o → AccessSame r s (option_map (of_cell writes) o)
+  cells_before writes o access = cell_still r s writes o (λ p is. values p (writes, access ∙ ap (λ (x : Option ℕ). option_map (of_cell writes) x) is))
+
+  looks_before : (instr : Instr) → StandsAside r.component instr → next_access r t ≡ instr_access r.component f instr → LooksSame r s t f instr
+  looks_before (Set to v) is access = tt
+  looks_before (Compute by to x y) is access = tt
+  looks_before (Load to w i) is access = cells_before false (cell_at r f w i) access
+  looks_before (Store w i v) is access = cells_before true (cell_at r f w i) access
+  looks_before (Cas to w i x y) is access = cells_before true (cell_at r f w i) access
+  looks_before (Lock l) is access = absurd (cc)
+  looks_before (Unlock l) is access = own l
+  looks_before (Await w i v) is access = absurd (cc)
+  looks_before (AwaitNot w i v) is access = absurd (cc)
+  looks_before (Pick to count) is access = absurd (cc)
+  looks_before (Jump target) is access = tt
+  looks_before (JumpIfZero v target) is access = tt
+  looks_before (Return v) is access = tt
 
 -- and what is given back is its own before it too
 gives_before : (s mid : State) (t : ℕ) (w : Shared) → ((l : ℕ) → owns mid t l ≡ owns s t l) → GivesBack mid t w → GivesBack s t w
@@ -183,8 +266,8 @@ gives_before s mid t Nothing own gives = tt
 gives_before s mid t (Cell p n) own gives = tt
 gives_before s mid t (Owner l owner) own gives = (owner_is (owner_of s l) t (sym (own l) ∙ owner_owns (owner_of mid l) t gives.0), gives.1)
 
-goes_aside : (s mid end : State) (x m : Move) (other event : Option Event) → IsAside s m.thread → (x.thread ≡ m.thread → ⊥) → Step s x mid other → Step mid m end event → Aside s m x end event other
-goes_aside s mid end x m other event is differ one two =
+goes_aside : (s mid end : State) (x m : Move) (other event : Option Event) → IsOwned s → IsAside s m.thread → (x.thread ≡ m.thread → ⊥) → Step s x mid other → Step mid m end event → Aside s m x end event other
+goes_aside s mid end x m other event owned is differ one two =
     let t = m.thread in
     let u = x.thread in
     let apart : t ≡ u → ⊥ = λ e. differ (sym e) in
@@ -193,19 +276,20 @@ goes_aside s mid end x m other event is differ one two =
     let moved = step_moved s x mid other one in
     let stays : slice_get mid.threads t ≡ slice_get s.threads t = other_stands s x mid other t differ one in
     let there : IsAside mid t = stays_aside s x mid other t differ one is in
+    let others = others_aside s t u apart owned is in
+    let access : next_access mid t ≡ next_access s t = rw (stays, moved.component) refl in
+    let values : (p : ℕ) → IsAtCell mid t p → value_at s p ≡ value_at mid p = λ p mine. sym (ap (λ (z : State). value_at z p) b.is ∙ value_still s b.wrote u p b.now b.within (others p (mine.0, sym access ∙ mine.1))) in
     let own : (l : ℕ) → owns mid t l ≡ owns s t l = λ l. ap (λ (z : State). owns z t l) b.is ∙ owns_still s b.wrote u t l b.now differ b.hands in
     let back : IsNear t mid s = record {
       component = sym moved.component;
       matrix_is = sym moved.matrix;
       stands = sym stays;
-      looks = λ k f instr stands at. looks_before s mid t f instr (aside_instr mid t k f instr stands at there) (λ l. sym (own l));
+      looks = λ k f instr stands at. looks_before s mid t f (λ l. sym (own l)) values instr (aside_instr mid t k f instr stands at there) (access_at mid t k f instr stands at);
     } in
     let here = a.there s back in
     let now = written s a.wrote t a.now in
-    let access : next_access mid t ≡ next_access s t = rw (stays, moved.component) refl in
     let within : Within a.wrote (next_access s t) = subst (Within a.wrote) access a.within in
     let gives : GivesBack s t a.wrote = gives_before s mid t a.wrote own (a.gives there) in
-    let others = others_aside s t u is in
     let near : IsNear u s now = record {
       component = shared_component s a.wrote;
       matrix_is = shared_matrix s a.wrote;
@@ -262,10 +346,10 @@ front_own s t x w end next e rest h is step leads joined = record {
   reordered = subst (AreReordered (with_event e rest)) (sym joined) (reordered_same (with_event e rest));
 }
 
-front_other : (s : State) (t : ℕ) (x : Move) (w : List Move) (end next : State) (e : Option Event) (rest h : List Event) → (x.thread ≡ t → ⊥) → IsAside s t → Step s x next e → h ≡ with_event e rest → InFront next t (length w) end rest → InFront s t (length (x ∷ w)) end h
-front_other s t x w end next e rest h other unseen step joined r =
+front_other : (s : State) (t : ℕ) (x : Move) (w : List Move) (end next : State) (e : Option Event) (rest h : List Event) → IsOwned s → (x.thread ≡ t → ⊥) → IsAside s t → Step s x next e → h ≡ with_event e rest → InFront next t (length w) end rest → InFront s t (length (x ∷ w)) end h
+front_other s t x w end next e rest h owned other unseen step joined r =
     let here : IsAside s r.m.thread = subst (IsAside s) (sym r.is) unseen in
-    let a = goes_aside s next r.now x r.m e r.event here (λ same. other (same ∙ r.is)) step r.step in
+    let a = goes_aside s next r.now x r.m e r.event owned here (λ same. other (same ∙ r.is)) step r.step in
     let long = r.long in
     let turned = events_turned r.event e r.behind a.unordered in
     let on : AreReordered (with_event e (with_event r.event r.behind)) h = subst (AreReordered (with_event e (with_event r.event r.behind))) (sym joined) (event_before e (with_event r.event r.behind) rest r.reordered) in
@@ -282,11 +366,11 @@ front_other s t x w end next e rest h other unseen step joined r =
       reordered = reordered_both (with_event r.event (with_event e r.behind)) (with_event e (with_event r.event r.behind)) h turned on;
     }
 
-in_front : (s : State) (t : ℕ) (u : List Move) (end : State) (h : List Event) → IsAside s t → Leads s u end h → IsEnded end → InFront s t (length u) end h
-in_front s t [] end h unseen leads ended = absurd (never_ended s t unseen (subst IsEnded leads.0 ended))
-in_front s t (x ∷ w) end h unseen (next, e, rest, step, leads, joined) ended = elim (cases_eq x.thread t) as (λ _. InFront s t (length (x ∷ w)) end h) [
+in_front : (s : State) (t : ℕ) (u : List Move) (end : State) (h : List Event) → IsOwned s → IsAside s t → Leads s u end h → IsEnded end → InFront s t (length u) end h
+in_front s t [] end h owned unseen leads ended = absurd (never_ended s t unseen (subst IsEnded leads.0 ended))
+in_front s t (x ∷ w) end h owned unseen (next, e, rest, step, leads, joined) ended = elim (cases_eq x.thread t) as (λ _. InFront s t (length (x ∷ w)) end h) [
   | inl same ↦ front_own s t x w end next e rest h same step leads joined
-  | inr other ↦ front_other s t x w end next e rest h other unseen step joined (in_front next t w end rest (stays_aside s x next e t other step unseen) leads ended)
+  | inr other ↦ front_other s t x w end next e rest h owned other unseen step joined (in_front next t w end rest (step_owned s x next e step owned) (stays_aside s x next e t other step unseen) leads ended)
 ]
 
 -- ---- all go first
@@ -310,10 +394,10 @@ least p (suc n) = elim (least p n) as (λ _. ((t : ℕ) × (p t ≡ true) × ((u
 pub none_past : (s : State) (t : ℕ) → length s.threads ≤ t → IsAside s t → ⊥
 none_past s t past is = let none = slice_get_past s.threads t past in let some = is.stands in absurd (cc)
 
-first_or_none : (s : State) → ((t : ℕ) × IsFirstAside s t) ⊎ ((t : ℕ) → IsAside s t → ⊥)
-first_or_none s = elim (least (is_aside_at s) (length s.threads)) as (λ _. ((t : ℕ) × IsFirstAside s t) ⊎ ((t : ℕ) → IsAside s t → ⊥)) [
-  | inl found ↦ inl (found.0, record { aside = is_told s found.0 found.1; first = λ u lt. not_told s u (found.2 u lt) })
-  | inr none ↦ inr (λ t. elim (cases_lt t (length s.threads)) as (λ _. IsAside s t → ⊥) [ inl lt ↦ not_told s t (none t lt) | inr past ↦ none_past s t past ])
+first_or_none : (s : State) (guarded : List Bool) → TellsGuarded s.component guarded → ((t : ℕ) × IsFirstAside s t) ⊎ ((t : ℕ) → IsAside s t → ⊥)
+first_or_none s guarded told = elim (least (is_aside_at guarded s) (length s.threads)) as (λ _. ((t : ℕ) × IsFirstAside s t) ⊎ ((t : ℕ) → IsAside s t → ⊥)) [
+  | inl found ↦ inl (found.0, record { aside = is_told s guarded told found.0 found.1; first = λ u lt. not_told s guarded told u (found.2 u lt) })
+  | inr none ↦ inr (λ t. elim (cases_lt t (length s.threads)) as (λ _. IsAside s t → ⊥) [ inl lt ↦ not_told s guarded told t (none t lt) | inr past ↦ none_past s t past ])
 ]
 
 -- there is one first
@@ -337,8 +421,16 @@ move_first s m now event n end behind h first step r re = record {
   reordered = reordered_both (with_event event r.before) (with_event event behind) h (event_before event r.before behind r.reordered) re;
 }
 
-tells : (n : ℕ) (s : State) (u : List Move) (end : State) (h : List Event) → length u ≡ n → Leads s u end h → IsEnded end → LeadsFirst s n end h
-tells zero s [] end h long leads ended = record {
+-- each ended schedule from s has one whose moves all go first
+abbrev pub FirstTells : State → Type 0
+FirstTells s = (u : List Move) (end : State) (h : List Event) → Leads s u end h → IsEnded end → LeadsFirst s (length u) end h
+
+-- a move leaves which arrays are guarded
+told_on : (guarded : List Bool) (s : State) (m : Move) (next : State) (event : Option Event) → Step s m next event → TellsGuarded s.component guarded → TellsGuarded next.component guarded
+told_on guarded s m next event step told = subst (λ (c : Component). TellsGuarded c guarded) (sym (step_moved s m next event step).component) told
+
+tells : (n : ℕ) (guarded : List Bool) (s : State) (u : List Move) (end : State) (h : List Event) → TellsGuarded s.component guarded → IsOwned s → length u ≡ n → Leads s u end h → IsEnded end → LeadsFirst s n end h
+tells zero guarded s [] end h told owned long leads ended = record {
   schedule = [];
   first = tt;
   long = refl;
@@ -346,17 +438,21 @@ tells zero s [] end h long leads ended = record {
   leads = (leads.0, refl);
   reordered = subst (AreReordered []) (sym leads.1) (reordered_same []);
 }
-tells zero s (x ∷ w) end h long leads ended = absurd (omega (arith, long))
-tells (suc n) s [] end h long leads ended = absurd (omega (arith, long))
-tells (suc n) s (x ∷ w) end h long leads ended = elim (first_or_none s) as (λ _. LeadsFirst s (suc n) end h) [
+tells zero guarded s (x ∷ w) end h told owned long leads ended = absurd (omega (arith, long))
+tells (suc n) guarded s [] end h told owned long leads ended = absurd (omega (arith, long))
+tells (suc n) guarded s (x ∷ w) end h told owned long leads ended = elim (first_or_none s guarded told) as (λ _. LeadsFirst s (suc n) end h) [
   | inl found ↦
-      (let f = in_front s found.0 (x ∷ w) end h found.1.aside leads ended in
+      (let f = in_front s found.0 (x ∷ w) end h owned found.1.aside leads ended in
       let shorter = f.long in
-      move_first s f.m f.now f.event n end f.behind h (λ t is. f.is ∙ one_first s found.0 t found.1 is) f.step (tells n f.now f.rest end f.behind (omega (arith, shorter, long)) f.leads ended) f.reordered)
+      move_first s f.m f.now f.event n end f.behind h (λ t is. f.is ∙ one_first s found.0 t found.1 is) f.step
+      (tells n guarded f.now f.rest end f.behind (told_on guarded s f.m f.now f.event f.step told) (step_owned s f.m f.now f.event f.step owned) (omega (arith, shorter, long)) f.leads ended) f.reordered)
   | inr none ↦
-      move_first s x leads.0 leads.1 n end leads.2 h (λ t is. absurd (none t is.aside)) leads.3 (tells n leads.0 w end leads.2 (omega (arith, long)) leads.4 ended)
+      move_first s x leads.0 leads.1 n end leads.2 h (λ t is. absurd (none t is.aside)) leads.3
+      (tells n guarded leads.0 w end leads.2 (told_on guarded s x leads.0 leads.1 leads.3 told) (step_owned s x leads.0 leads.1 leads.3 owned) (omega (arith, long)) leads.4 ended)
       (subst (AreReordered (with_event leads.1 leads.2)) (sym leads.5) (reordered_same (with_event leads.1 leads.2)))
 ]
 
 pub first_tells_all : FirstTellsAll
-first_tells_all s u end h leads ended = tells (length u) s u end h refl leads ended
+first_tells_all c matrix guarded s told start u end h leads ended =
+    let component : s.component ≡ c = ap (λ (x : State). x.component) start.is in
+    tells (length u) guarded s u end h (subst (λ (d : Component). TellsGuarded d guarded) (sym component) told) (start_owned c matrix s start) refl leads ended

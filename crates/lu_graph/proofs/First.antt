@@ -10,7 +10,7 @@ use Rattle.lu_machine.specs.Runs.{Leads}
 use Rattle.lu_machine.specs.States.{State}
 use Rattle.lu_machine.proofs.StepLaws.{step_same}
 use Rattle.lu_horizon.specs.Alike as by
-use Rattle.lu_graph.specs.First.{AllGoFirst, GoesFirst, IsAside}
+use Rattle.lu_graph.specs.First.{AllGoFirst, GoesFirst, IsAside, StandsAside}
 use Rattle.lu_graph.specs.Nodes.{AreStatesAlike, NotDead}
 
 -- ---- one move more
@@ -43,7 +43,7 @@ module _ (s r : State) (alike : AreStatesAlike s r) where
     where
       with_activity : (k : ℕ) (a : Activity) → slice_get r.threads t ≡ Some (record { done = k; activity = a }) → (k ≡ is.done) × by.AreActivitiesAlike (NotDead s.component) (Open is.frame) a → IsAside r t
       with_activity k Idle stands h = absurd h.1
-      with_activity k (Open g) stands h = record { done = k; frame = g; stands = stands; instr = is.instr; at = rw (alike.component, h.1.op, h.1.place) is.at; aside = is.aside }
+      with_activity k (Open g) stands h = record { done = k; frame = g; stands = stands; instr = is.instr; at = rw (alike.component, h.1.op, h.1.place) is.at; aside = subst (λ c. StandsAside c is.instr) (sym alike.component) is.aside }
 
   aside_on : (t : ℕ) → IsAside s t → IsAside r t
   aside_on t is = aside_there t is (slice_get r.threads t) refl (subst (λ o. by.AreStandingAlike (NotDead s.component) o (slice_get r.threads t)) is.stands (alike.threads t))
@@ -54,7 +54,7 @@ module _ (s r : State) (alike : AreStatesAlike s r) where
     where
       with_activity : (k : ℕ) (a : Activity) → slice_get s.threads t ≡ Some (record { done = k; activity = a }) → (is.done ≡ k) × by.AreActivitiesAlike (NotDead s.component) a (Open is.frame) → IsAside s t
       with_activity k Idle stands h = absurd h.1
-      with_activity k (Open g) stands h = record { done = k; frame = g; stands = stands; instr = is.instr; at = rw (← alike.component, ← h.1.op, ← h.1.place) is.at; aside = is.aside }
+      with_activity k (Open g) stands h = record { done = k; frame = g; stands = stands; instr = is.instr; at = rw (← alike.component, ← h.1.op, ← h.1.place) is.at; aside = subst (λ c. StandsAside c is.instr) alike.component is.aside }
 
   aside_back : (t : ℕ) → IsAside r t → IsAside s t
   aside_back t is = aside_here t is (slice_get s.threads t) refl (subst (λ o. by.AreStandingAlike (NotDead s.component) (slice_get s.threads t) o) is.stands (alike.threads t))

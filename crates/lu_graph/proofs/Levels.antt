@@ -26,7 +26,7 @@ use Rattle.lu_graph.proofs.Among.{all_at, at_either, at_first, at_left}
 use Rattle.lu_graph.proofs.Closing.{for_next, step_for, step_of}
 use Rattle.lu_graph.proofs.Explored.{AreGoodBefore, start_is}
 use Rattle.lu_graph.proofs.First.{first_alike, first_back, first_before, first_last, first_more}
-use Rattle.lu_graph.proofs.Aside.{first_tells_all}
+use Rattle.lu_graph.proofs.Aside.{FirstTells}
 
 -- the last move of a schedule
 last_move : (u : List Move) (n : ℕ) → length u ≡ n + 1 → (v : List Move) × (m : Move) × (length v ≡ n) × (u ≡ v ++ m ∷ [])
@@ -186,15 +186,15 @@ module _ (s : State) (members : List (Vec SerialOp)) (dead : DeadTable) (dead_kn
         }
 
       -- it is bad, and none before it is
-      pub shortest_bad : ((end : State) (h : List Event) → IsFor s members end h kept → IsBadAt (IsOneOf members) end h) → IsShortestBad (IsOneOf members) s moves
-      shortest_bad bad =
+      pub shortest_bad : FirstTells s → ((end : State) (h : List Event) → IsFor s members end h kept → IsBadAt (IsOneOf members) end h) → IsShortestBad (IsOneOf members) s moves
+      shortest_bad tells bad =
           let way = reached.way in
           record {
             schedule = way.schedule;
             long = reached.long;
             bad = record { end = way.end; history = way.history; leads = way.leads; holds = bad way.end way.history way.is };
             shortest = λ v lt ends.
-                (let first = first_tells_all s v ends.end ends.history ends.leads ends.holds.0 in
+                (let first = tells v ends.end ends.history ends.leads ends.holds.0 in
                 let long = first.long in
                 let x = known.past first.schedule ends.end first.before (omega (arith, lt, long)) first.first first.leads in
                 let good = known.good x.0 x.1 x.2 x.3 ends.end first.before x.4 ends.holds.0 in

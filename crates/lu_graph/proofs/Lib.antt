@@ -1,4 +1,7 @@
 mod Apart
+mod Guarded
+mod Critical
+mod Sectioned
 mod Aside
 mod First
 mod Turns

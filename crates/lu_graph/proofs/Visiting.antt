@@ -17,6 +17,7 @@ use Rattle.lu_history.specs.declared.serial.SerialOp.{SerialOp}
 use Rattle.lu_history.proofs.Following.{start_agrees}
 use Rattle.lu_graph.specs.Kept.{Kept}
 use Rattle.lu_graph.specs.declared.level.Level.{Level}
+use Rattle.lu_graph.specs.Guards.{TellsGuarded}
 use Rattle.lu_graph.specs.Growing.{AddsNext, HasStart}
 use Rattle.lu_graph.specs.Judging.{IsOneOf, JudgesGood}
 use Rattle.lu_graph.specs.Nodes.{AreStatesAlike, EndsWellOnFewNodes, HasFewNodes, IsBadAt, IsGoodIfEnded, IsShortestBad}
@@ -26,6 +27,7 @@ use Rattle.lu_graph.proofs.Alike.{IsLike, one_kept}
 use Rattle.lu_graph.proofs.Among.{all_at}
 use Rattle.lu_graph.proofs.Closing.{component_of}
 use Rattle.lu_graph.proofs.StatesAlike.{progress_alike, states_back, states_ended, states_good}
+use Rattle.lu_graph.proofs.Aside.{first_tells_all}
 use Rattle.lu_graph.proofs.Explored.{has_all, known, visited_more, visited_none, well}
 use Rattle.lu_graph.proofs.Levels.{AreSearched, searched_level, searched_more, searched_none, shortest_bad}
 use Rattle.lu_graph.proofs.Many.{no_more_apart}
@@ -67,8 +69,8 @@ module _ (members : List (Vec SerialOp)) (c : Component) (matrix : Matrix) (sett
           let many = x.1 in
           (x.0, x.2, omega (arith, many, few))
 
-      pub ends_well_there : (moves end : ℕ) → AreSearchedFrom members c matrix list place moves end → FromEachStart c matrix (λ s. EndsWellOnFewNodes (IsOneOf members) s most)
-      ends_well_there moves end known s is = (few_nodes s is, well s members dead (known_at s is) list place past (all s is) (known s is).good)
+      pub ends_well_there : (guarded : List Bool) → TellsGuarded c guarded → (moves end : ℕ) → AreSearchedFrom members c matrix list place moves end → FromEachStart c matrix (λ s. EndsWellOnFewNodes (IsOneOf members) s most)
+      ends_well_there guarded told moves end known s is = (few_nodes s is, well s members dead (known_at s is) list place past (all s is) (first_tells_all c matrix guarded s told is) (known s is).good)
 
     -- they are too many
     pub no_more_than : (most : ℕ) → AreDifferent dead list → (s : State) → IsStart c matrix s → HasFewNodes (IsOneOf members) s most → length list ≤ most
@@ -165,9 +167,9 @@ module _ (members : List (Vec SerialOp)) (c : Component) (matrix : Matrix) (sett
               searched_more s members dead (known_at s is) list place moves end (searched s is) less kept at new (of_node (λ z bits. AddsNext members z bits list new) s is adds)
               (λ x h for. good_for s is x h for (subst (JudgesGood members (its s kept) kept.alive) fine (judged good says s is) h for.well_formed (agree_for x h for) for.told))
 
-        pub badly : (moves end : ℕ) → AreSearchedFrom members c matrix list place moves end → place < end → (good : Bool) → good ≡ false → JudgesGood members now alive good → FromEachStart c matrix (λ s. IsShortestBad (IsOneOf members) s moves)
-        badly moves end searched less good fails says s is =
-            shortest_bad s members dead (known_at s is) list place moves end (searched s is) less kept at
+        pub badly : (guarded : List Bool) → TellsGuarded c guarded → (moves end : ℕ) → AreSearchedFrom members c matrix list place moves end → place < end → (good : Bool) → good ≡ false → JudgesGood members now alive good → FromEachStart c matrix (λ s. IsShortestBad (IsOneOf members) s moves)
+        badly guarded told moves end searched less good fails says s is =
+            shortest_bad s members dead (known_at s is) list place moves end (searched s is) less kept at (first_tells_all c matrix guarded s told is)
             (λ x h for. bad_for s is x h for (subst (JudgesGood members (its s kept) kept.alive) fails (judged good says s is) h for.well_formed (agree_for x h for) for.told))
 
     -- the level of the place

@@ -1,4 +1,6 @@
 pub mod Alive
+pub mod Guards
+pub mod Sections
 pub mod First
 pub mod Turns
 pub mod Nodes

@@ -3,12 +3,14 @@
 ghost use Rattle.std.specs.Prelude.{◌≡◌, true, false, IfErr, OnOk};
 ghost use Rattle.lu_machine.specs.Starts.{CanRun, IsStart, Settles};
 ghost use Rattle.lu_graph.specs.declared.halted.Halted.TheVariants.{Stopped};
+ghost use Rattle.lu_graph.specs.Guards.{TellsGuarded};
 ghost use Rattle.lu_graph.specs.Holding.{AreFewAsTold, AreVisitedBy, EndsSo, HoldsNone, HoldsStart};
 ghost use Rattle.lu_graph.specs.Nodes.{TellsEndings};
 ghost use Rattle.lu_graph.specs.Rows.{KnowsDead};
 
 use crate::ending::Ending;
 use crate::growing::add_next;
+use crate::guards::Guards;
 use crate::halted::Halted;
 use crate::holding::{Nodes, add_first};
 use crate::judging::is_good;
@@ -29,6 +31,7 @@ fn are_few<W: Watch>(
     alloc: Global,
     machine: &mut Machine<'_>,
     members: &[Vec<SerialOp>],
+    guards: &Guards,
     nodes: &mut Nodes,
     place: usize,
     most: usize,
@@ -36,6 +39,7 @@ fn are_few<W: Watch>(
 ) -> Result<bool, Halted>
     requires settles { Settles machine.old.component machine.old.matrix }
     requires visited { AreVisitedBy members.now machine.old nodes.old place }
+    requires guards { TellsGuarded machine.old.component guards.now }
     requires running { W.is_stopped watch.old ≡ false }
     ensures few { AreFewAsTold members.now most machine.old result }
     ensures base { W.base watch.new ≡ W.base watch.old }
@@ -54,7 +58,7 @@ fn are_few<W: Watch>(
             Some(kept) => kept,
         };
         machine.stand_at(&kept.position);
-        add_next(alloc, machine, members, &kept.row, nodes)?;
+        add_next(alloc, machine, members, guards, &kept.row, nodes)?;
     }
     Ok(nodes.rows.len() <= most)
 }
@@ -65,6 +69,7 @@ fn search<W: Watch>(
     alloc: Global,
     machine: &mut Machine<'_>,
     members: &[Vec<SerialOp>],
+    guards: &Guards,
     nodes: &mut Nodes,
     bound: u16,
     most: usize,
@@ -72,6 +77,7 @@ fn search<W: Watch>(
 ) -> Result<Ending, Halted>
     requires starts { IsStart machine.old.component machine.old.matrix machine.old }
     requires first { HoldsStart members.now machine.old nodes.old }
+    requires guards { TellsGuarded machine.old.component guards.now }
     requires running { W.is_stopped watch.old ≡ false }
     ensures ends { EndsSo members.now bound most machine.old result }
     ensures base { W.base watch.new ≡ W.base watch.old }
@@ -97,10 +103,10 @@ fn search<W: Watch>(
         level = level.at(at, known);
         machine.stand_at(&kept.position);
         let is_good = is_good(machine, members, nodes.parts.alive.list(kept.row.alive));
-        add_next(alloc, machine, members, &kept.row, nodes)?;
+        add_next(alloc, machine, members, guards, &kept.row, nodes)?;
         if !is_good {
             let is_far = level.moves > usize::from(bound);
-            if is_far && !are_few(alloc, machine, members, nodes, at + 1, most, watch)? {
+            if is_far && !are_few(alloc, machine, members, guards, nodes, at + 1, most, watch)? {
                 return Ok(Ending::TooMany);
             }
             return Ok(Ending::Badly(level.moves));
@@ -118,6 +124,7 @@ fn search_from<W: Watch>(
     alloc: Global,
     machine: &mut Machine<'_>,
     members: &[Vec<SerialOp>],
+    guards: &Guards,
     nodes: &mut Nodes,
     bound: u16,
     most: usize,
@@ -126,6 +133,7 @@ fn search_from<W: Watch>(
     requires starts { IsStart machine.old.component machine.old.matrix machine.old }
     requires none { HoldsNone nodes.old }
     requires dead { KnowsDead machine.old.component nodes.old.parts.dead }
+    requires guards { TellsGuarded machine.old.component guards.now }
     requires running { W.is_stopped watch.old ≡ false }
     ensures ends { EndsSo members.now bound most machine.old result }
     ensures base { W.base watch.new ≡ W.base watch.old }
@@ -134,7 +142,7 @@ fn search_from<W: Watch>(
 {
     let alive = all_possible(alloc, members)?;
     add_first(alloc, machine, &alive, nodes)?;
-    search(alloc, machine, members, nodes, bound, most, watch)
+    search(alloc, machine, members, guards, nodes, bound, most, watch)
 }
 
 /// How all schedules of the machine's component on its matrix end. It stands at the start.
@@ -154,8 +162,11 @@ fn search_all<W: Watch>(
     ensures running { OnOk result (W.is_stopped watch.new ≡ false) }
 {
     let dead = DeadRegisters::new(alloc, machine.component())?;
+    let guards = Guards::new(alloc, machine.component())?;
     let mut nodes = Nodes::new(alloc, dead);
-    search_from(alloc, machine, members, &mut nodes, bound, most, watch)
+    search_from(
+        alloc, machine, members, &guards, &mut nodes, bound, most, watch,
+    )
 }
 
 /// As [`ends_well`], but the watch is asked before each node that is gone through, and stops the

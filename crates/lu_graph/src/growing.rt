@@ -2,10 +2,12 @@
 
 ghost use Rattle.std.specs.Prelude.{◌≡◌, OnOk};
 ghost use Rattle.lu_graph.specs.Growing.{TakeTurns};
+ghost use Rattle.lu_graph.specs.Guards.{TellsGuarded};
 ghost use Rattle.lu_graph.specs.Holding.{HoldsHere, HoldsNext};
 ghost use Rattle.lu_graph.specs.Rows.{IsSized};
 ghost use Rattle.lu_graph.specs.Turns.{is_aside, is_aside_at};
 
+use crate::guards::Guards;
 use crate::holding::{Nodes, add_at};
 use crate::possibilities::number_after;
 use crate::row::Row;
@@ -34,25 +36,28 @@ fn add(
 }
 
 /// Whether the instruction stands aside: it is never blocked, and it and what other threads do
-/// before it come out the same in the other order. So it is of what no other thread sees, and of
-/// `unlock`.
-fn is_aside(instr: &Instr) -> bool
-    ensures { result ≡ is_aside instr.now }
+/// before it come out the same in the other order. So it is of what no other thread sees, of
+/// `unlock`, and of an access, other than a wait, to an array that is guarded.
+fn is_aside(instr: &Instr, guards: &Guards) -> bool
+    ensures { result ≡ is_aside guards.now instr.now }
 {
-    matches!(
-        instr,
+    match *instr {
+        Instr::Load { array, .. } | Instr::Store { array, .. } | Instr::Cas { array, .. } => {
+            guards.has(array)
+        }
         Instr::Set { .. }
-            | Instr::Compute { .. }
-            | Instr::Unlock(_)
-            | Instr::Jump(_)
-            | Instr::JumpIfZero { .. }
-            | Instr::Return(_)
-    )
+        | Instr::Compute { .. }
+        | Instr::Unlock(_)
+        | Instr::Jump(_)
+        | Instr::JumpIfZero { .. }
+        | Instr::Return(_) => true,
+        Instr::Lock(_) | Instr::Await { .. } | Instr::AwaitNot { .. } | Instr::Pick { .. } => false,
+    }
 }
 
 /// Whether the thread is at an instruction that stands aside.
-fn is_aside_at(machine: &Machine<'_>, thread: u8) -> bool
-    ensures { result ≡ is_aside_at machine.now thread }
+fn is_aside_at(machine: &Machine<'_>, thread: u8, guards: &Guards) -> bool
+    ensures { result ≡ is_aside_at guards.now machine.now thread }
 {
     let Some(standing) = machine.standing(thread) else {
         return false;
@@ -61,7 +66,7 @@ fn is_aside_at(machine: &Machine<'_>, thread: u8) -> bool
         Activity::Idle => false,
         Activity::Open(frame) => match machine.instr(frame) {
             None => false,
-            Some(instr) => is_aside(instr),
+            Some(instr) => is_aside(instr, guards),
         },
     }
 }
@@ -76,11 +81,12 @@ struct Turns {
 /// The threads whose moves go first where the machine stands: the first thread that is at an
 /// instruction which stands aside, or else all. What the others do meanwhile is the same, and where
 /// a return comes earlier, a history only has more precedence.
-fn turns_at(machine: &Machine<'_>) -> Turns
+fn turns_at(machine: &Machine<'_>, guards: &Guards) -> Turns
+    requires { TellsGuarded machine.now.component guards.now }
     ensures { TakeTurns machine.now result.first result.end }
 {
     for thread in 0..machine.threads() {
-        if is_aside_at(machine, thread) {
+        if is_aside_at(machine, thread, guards) {
             return Turns {
                 first: thread,
                 end: thread + 1,
@@ -99,14 +105,16 @@ pub(crate) fn add_next(
     alloc: Global,
     machine: &mut Machine<'_>,
     members: &[Vec<SerialOp>],
+    guards: &Guards,
     from: &Row,
     nodes: &mut Nodes,
 ) -> Result<(), AllocError>
-    requires { IsSized machine.old }
+    requires sized { IsSized machine.old }
+    requires guards { TellsGuarded machine.old.component guards.now }
     ensures home { OnOk result (machine.new ≡ machine.old) }
     ensures next { OnOk result (HoldsNext members.now machine.old from.now nodes.old nodes.new) }
 {
-    let turns = turns_at(machine);
+    let turns = turns_at(machine, guards);
     for thread in turns.first..turns.end {
         for pick in 0..machine.picks(thread) {
             let undo = machine.apply(Move { thread, pick });

@@ -1,7 +1,9 @@
 use Rattle.std.proofs.Common.{arith, rules, ◌≡◌, ◌≤◌, ◌+◌, length, refl, sym, ◌∙◌, ap, subst}
+use Rattle.lu_component.specs.Component.{Component}
 use Rattle.lu_machine.specs.Positions.{CanStandAt, at_position}
 use Rattle.lu_machine.specs.States.{State}
 use Rattle.lu_graph.specs.declared.holding.Nodes.{Nodes}
+use Rattle.lu_graph.specs.Guards.{TellsGuarded}
 use Rattle.lu_graph.specs.Rows.{KnowsDead}
 use Rattle.lu_graph.proofs.Visiting.{can_stand, few_nodes, many_or_few, too_many, visited_next}
 use Rattle.lu_graph.proofs.Waiting.{all_differ, next_there, none_waits, sized_there}
@@ -34,8 +36,8 @@ stand_at-requires g c =
     (can_stand c.args.members.now c.args.machine.now.component c.args.machine.now.matrix c.requires.settles c.loop-at.nodes.parts.dead c.loop-at.invariant.visited.3 v.0 c.loop-at.at v.2
     c.loop-at.machine c.loop-at.invariant.component c.loop-at.invariant.matrix_is one.kept one.there)
 
-pub add_next-requires : goal.add_next-requires
-add_next-requires g c =
+pub add_next-requires-clause-sized : goal.add_next-requires-clause-sized
+add_next-requires-clause-sized g c =
     let v = c.loop-at.invariant.visited in
     let popped : Nodes = record c.loop-at.nodes { waiting = c.pop_front.new.self } in
     let one = next_there c.args.members.now c.loop-at.nodes v.0 c.loop-at.at v.1 popped c.in-Some.kept refl refl c.in-Some.ensures.items in
@@ -43,6 +45,12 @@ add_next-requires g c =
     (can_stand c.args.members.now c.args.machine.now.component c.args.machine.now.matrix c.requires.settles c.loop-at.nodes.parts.dead c.loop-at.invariant.visited.3 v.0 c.loop-at.at v.2
     c.loop-at.machine c.loop-at.invariant.component c.loop-at.invariant.matrix_is one.kept one.there)
     (c.stand_at.ensures ∙ ap (at_position c.loop-at.machine) (sym one.position))
+
+-- the same arrays are guarded
+pub add_next-requires-clause-guards : goal.add_next-requires-clause-guards
+add_next-requires-clause-guards g c =
+    let same = ap (λ (s : State). s.component) c.stand_at.ensures ∙ c.loop-at.invariant.component in
+    subst (λ (d : Component). TellsGuarded d c.args.guards.now) (sym same) c.requires.guards
 
 pub loop-at-preserved : goal.loop-at-preserved
 loop-at-preserved g c =

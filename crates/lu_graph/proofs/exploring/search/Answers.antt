@@ -6,6 +6,7 @@ use Rattle.lu_machine.specs.States.{State}
 use Rattle.lu_machine.proofs.Starting.{settled_start}
 use Rattle.lu_horizon.specs.Dead.{DeadTable}
 use Rattle.lu_graph.specs.declared.holding.Nodes.{Nodes}
+use Rattle.lu_graph.specs.Guards.{TellsGuarded}
 use Rattle.lu_graph.specs.Judging.{IsOneOf, JudgesGood}
 use Rattle.lu_graph.specs.Nodes.{HasFewNodes}
 use Rattle.lu_graph.specs.Rows.{KnowsDead}
@@ -81,7 +82,7 @@ returns-in-None-clause-ends g c =
     let place = c.loop-at.at in
     let many = hold.many in
     let past : length list ≤ place = none_waits members c.loop-at.nodes list place hold (sym c.loop-at.nodes.waiting.ok.0 ∙ c.in-None.ensures.cases.0) in
-    ends_well_there members decl matrix settles dead dead_known list place visited c.args.most past (omega (arith, many, c.len-known.ensures.len)) c.loop-at.level.moves c.loop-at.level.end searched
+    ends_well_there members decl matrix settles dead dead_known list place visited c.args.most past (omega (arith, many, c.len-known.ensures.len)) c.args.guards.now c.requires.guards c.loop-at.level.moves c.loop-at.level.end searched
 
 pub stand_at-requires : goal.stand_at-requires
 stand_at-requires g c =
@@ -125,8 +126,8 @@ is_good-is_good-requires g c =
     let can = can_stand members decl matrix settles dead dead_known list place visited c.loop-at.machine c.loop-at.invariant.component c.loop-at.invariant.matrix_is kept here in
     as_many members decl matrix settles dead dead_known list place visited c.loop-at.machine c.loop-at.invariant.component c.loop-at.invariant.matrix_is kept here c.list.result.now (c.list.ensures kept.alive one.knows)
 
-pub add_next-requires : goal.add_next-requires
-add_next-requires g c =
+pub add_next-requires-clause-sized : goal.add_next-requires-clause-sized
+add_next-requires-clause-sized g c =
     let members = c.args.members.now in
     let decl = c.args.machine.now.component in
     let matrix = c.args.machine.now.matrix in
@@ -145,6 +146,17 @@ add_next-requires g c =
     let here = one.there in
     let can = can_stand members decl matrix settles dead dead_known list place visited c.loop-at.machine c.loop-at.invariant.component c.loop-at.invariant.matrix_is kept here in
     sized_there c.loop-at.machine c.stand_at.new.self kept can (c.stand_at.ensures ∙ ap (at_position c.loop-at.machine) (sym one.position))
+
+-- the same arrays are guarded
+pub add_next-requires-clause-guards : goal.add_next-requires-clause-guards
+add_next-requires-clause-guards g c =
+    let same = ap (λ (s : State). s.component) c.stand_at.ensures ∙ c.loop-at.invariant.component in
+    subst (λ (d : Component). TellsGuarded d c.args.guards.now) (sym same) c.requires.guards
+
+pub are_few-requires-clause-guards : goal.are_few-requires-clause-guards
+are_few-requires-clause-guards g c =
+    let same = ap (λ (s : State). s.component) c.in_ok-add_next.ensures.home ∙ (ap (λ (s : State). s.component) c.stand_at.ensures ∙ c.loop-at.invariant.component) in
+    subst (λ (d : Component). TellsGuarded d c.args.guards.now) (sym same) c.requires.guards
 
 -- its setup settles
 pub are_few-requires-clause-settles : goal.are_few-requires-clause-settles
@@ -258,7 +270,7 @@ returns-then-not-is_good-clause-ends g c =
     let level = searched_at members decl matrix settles dead dead_known list place visited c.loop-at.level c.at-level.result c.len-known.result (c.len-known.ensures.len ∙ many) searched c.loop-at.invariant.moves kept (sym here) c.at-level.ensures in
     λ s is. (
       badly members decl matrix settles dead dead_known list place visited c.loop-at.machine c.loop-at.invariant.component c.loop-at.invariant.matrix_is kept here c.stand_at.new.self alive stood refl
-          c.at-level.result.moves c.at-level.result.end level.2 level.0 c.is_good-is_good.result other judged s is,
+          c.args.guards.now c.requires.guards c.at-level.result.moves c.at-level.result.end level.2 level.0 c.is_good-is_good.result other judged s is,
       (λ far. elim c.else-is_far.branch as (λ _. HasFewNodes (IsOneOf c.args.members.now) s c.args.most) [
         | else-is_far-via-then-is_far+in_ok-are_few+else-not-branch w ↦
             (let few : w.in_ok-are_few.field-0 ≡ true = search rules in
@@ -341,4 +353,4 @@ returns-clause-ends g c =
     let searched = c.loop-at.invariant.known.3 in
     let place = c.loop-at.at in
     let many = hold.many in
-    ends_well_there members decl matrix settles dead dead_known list place visited c.args.most (omega (arith, many, c.len-2.ensures.len)) (omega (arith, many, c.len-2.ensures.len)) c.loop-at.level.moves c.loop-at.level.end searched
+    ends_well_there members decl matrix settles dead dead_known list place visited c.args.most (omega (arith, many, c.len-2.ensures.len)) (omega (arith, many, c.len-2.ensures.len)) c.args.guards.now c.requires.guards c.loop-at.level.moves c.loop-at.level.end searched
