@@ -121,7 +121,7 @@ fn go_through(code: &[Instr], lock: u8, places: &mut Vec<bool>) -> bool
 }
 
 /// Which places of one operation's code are in critical sections of a lock.
-#[derive(Debug, Drop)]
+#[derive(Drop)]
 struct Inside {
     places: Vec<bool>,
 }
@@ -174,7 +174,7 @@ fn code_of(component: &Component, op: u8) -> &[Instr]
 }
 
 /// Which places in the code of a component's operations are in critical sections of a lock.
-#[derive(Debug, Drop)]
+#[derive(Drop)]
 struct Sections {
     operations: Vec<Inside>,
 }
@@ -188,6 +188,7 @@ impl Model for Sections {
 }
 
 impl Sections {
+    /// Those of all operations.
     fn new(alloc: Global, component: &Component, lock: u8) -> Result<Sections, AllocError>
         ensures { IfOk result (AreSections component.now lock) }
     {
@@ -227,7 +228,7 @@ fn is_guarded(alloc: Global, component: &Component, array: u8) -> Result<bool, A
 }
 
 /// Of each array of a component, whether it is guarded by a lock.
-#[derive(Debug, Drop)]
+#[derive(Drop)]
 pub(crate) struct Guards {
     arrays: Vec<bool>,
 }
