@@ -84,7 +84,8 @@ fn is_nothing_left(history: &History, taken: &[u8; MOST_THREADS]) -> bool
 fn is_next_outcome(history: &History, taken: &[u8; MOST_THREADS], op: SerialOp) -> bool
     requires { IsWellFormed history.now }
     ensures next { IsTrue result ↔ IsNextOutcome taken.now history.now op }
-    ensures room { IsTrue result → (op.thread < MOST_THREADS) × (get_or taken.now op.thread 0 < MOST_CALLS_OF_THREAD) }
+    ensures thread { IsTrue result → op.thread < MOST_THREADS }
+    ensures room { IsTrue result → get_or taken.now op.thread 0 < MOST_CALLS_OF_THREAD }
 {
     if op.thread >= 8 {
         return false;

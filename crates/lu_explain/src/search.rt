@@ -72,7 +72,8 @@ fn behind<P: Copy>(op: SerialOp, mut way: Way<P>) -> Way<P>
 fn is_next(history: &History, taken: &[u8; MOST_THREADS], op: SerialOp) -> bool
     requires { IsWellFormed history.now }
     ensures next { TellsNext taken.now history.now op result }
-    ensures room { IsTrue result → (op.thread < MOST_THREADS) × (get_or taken.now op.thread 0 < MOST_CALLS_OF_THREAD) }
+    ensures thread { IsTrue result → op.thread < MOST_THREADS }
+    ensures room { IsTrue result → get_or taken.now op.thread 0 < MOST_CALLS_OF_THREAD }
 {
     if op.thread >= 8 {
         return false;

@@ -19,6 +19,5 @@ mod stand;
 
 pub use dead_registers::DeadRegisters;
 pub use horizon::Horizon;
-pub use live_thread::{LiveFrame, LiveThread};
 pub use sharers::Sharers;
 pub use stand::{CallPlace, is_unseen_at, only_reads_at, stand_at};

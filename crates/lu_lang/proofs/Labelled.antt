@@ -1,7 +1,7 @@
 -- In a text that is read, the labels stand where its jumps lead.
-use Rattle.std.proofs.Common.{◌≡◌, ℕ, ◌+◌, ◌-◌, ◌<◌, ◌≤◌, Bool, true, false, cond, List, [], ◌∷◌, ◌++◌, length, get_or, Option, Some, None, Result, Ok, Err, refl, subst, sym, ap, ◌∙◌, arith}
-use Rattle.std.specs.Prelude.{◌&&◌, ◌||◌, not, nat_le, nat_lt, is_some, option_and_then, map, slice_get, codes, find}
-use Rattle.std.specs.List.{position, AllByRecursion, list_all}
+use Rattle.std.proofs.Common.{◌≡◌, ℕ, ◌+◌, ◌<◌, Bool, true, false, cond, List, [], ◌∷◌, ◌++◌, length, Option, Some, None, Result, Ok, Err, refl, subst, sym, ap, ◌∙◌, arith}
+use Rattle.std.specs.Prelude.{◌||◌, not, nat_le, nat_lt, is_some, option_and_then, map, slice_get, codes, find}
+use Rattle.std.specs.List.{AllByRecursion, list_all}
 use Rattle.std.specs.Str.{bytes_eq}
 use Rattle.std.specs.Option.{unwrap_or, option_map}
 use Rattle.std.proofs.Math.ListN.{get_or-append}
@@ -28,9 +28,8 @@ use Rattle.lu_lang.specs.declared.fault.LangFaultKind.{LangFaultKind}
 use Rattle.lu_lang.specs.declared.fault.LangFaultKind.TheVariants.{Byte, Missing, Form, Number, Limit, Flow, Name}
 use Rattle.lu_lang.specs.Draft.{OpenOp, ComponentDraft, nothing, named}
 use Rattle.lu_lang.specs.Words.{keyword_in}
-use Rattle.lu_lang.specs.Grammar.{value, is_value, register, is_register, operand, is_operand, array_place, lock_place, label_place, array_number, component_line, local_line, array_line, lock_line, op_line, declaration, set_line, compute_line, load_line, cas_line, locked, cell_and_value, as_plain, pick_line, jump_line, jump_if_zero_line, return_line, statement, sooner, place_fault, with_label, with_statement, placed, instr_line, labelled, label_used, is_there, are_there, ends_well, target, resolved, op_of, end_line, by_label, by_state, closed, by_words, line_of, label_in, declared, component_grammar}
+use Rattle.lu_lang.specs.Grammar.{value, is_value, register, is_register, operand, is_operand, array_place, lock_place, find_label, array_number, component_line, local_line, array_line, lock_line, op_line, declaration, set_line, compute_line, load_line, cas_line, locked, cell_and_value, as_plain, pick_line, jump_line, jump_if_zero_line, return_line, statement, sooner, place_fault, with_label, with_statement, placed, instr_line, labelled, label_used, is_there, are_there, ends_well, target, resolved, op_of, end_line, by_label, by_state, closed, by_words, line_of, label_in, declared, component_grammar}
 use Rattle.lu_lang.specs.Labels.{Marked, nothing_marked, outside_line, inside_line, marked_line, with_words, all_marks, marks_of_lines, name_if, label_on, label_at, label_named, jump_of, jump_on, labels_of, jumps_of, target_of, led_to, AreTargets}
-use Rattle.lu_component.proofs.Named.{is_found}
 use Rattle.lu_lang.proofs.Drafts.{sooner_some}
 use Rattle.lu_lang.proofs.Placing.{no_fault}
 
@@ -175,9 +174,6 @@ open_more b marks jumps h label name s is = record {
 
 -- ---- `end`
 
-found_there : (name : Word) (labels : List Label) → is_some (position (λ l. bytes_eq l.name name) labels) ≡ true → is_some (find (λ l. bytes_eq l.name name) labels) ≡ true
-found_there name labels e = sym (is_found (λ l. bytes_eq l.name name) labels) ∙ e
-
 stands_there : (marks : List (Option Word)) (name : Word) (labels : List Label) → AllByRecursion (StandsAt marks) labels → is_some (find (λ l. bytes_eq l.name name) labels) ≡ true → label_at marks (target labels name) ≡ Some name
 stands_there marks name [] all e = absurd cc
 stands_there marks name (l ∷ ls) all e = go (bytes_eq l.name name) refl (stands_there marks name ls all.1) e
@@ -189,8 +185,8 @@ stands_there marks name (l ∷ ls) all e = go (bytes_eq l.name name) refl (stand
 
 led_one : (marks : List (Option Word)) (labels : List Label) → AllByRecursion (StandsAt marks) labels → (s : Statement) → HasNoTarget s → is_there labels (label_used s) ≡ true → led_to marks (resolved labels s) ≡ label_used s
 led_one marks labels all (Plain i) none there = rw none refl
-led_one marks labels all (Jump name) none there = stands_there marks name labels all (found_there name labels there)
-led_one marks labels all (JumpIfZero v name) none there = stands_there marks name labels all (found_there name labels there)
+led_one marks labels all (Jump name) none there = stands_there marks name labels all there
+led_one marks labels all (JumpIfZero v name) none there = stands_there marks name labels all there
 
 led_all : (marks : List (Option Word)) (labels : List Label) → AllByRecursion (StandsAt marks) labels → (statements : List Statement) → AllByRecursion HasNoTarget statements
     → list_all (λ s. is_there labels (label_used s)) statements ≡ true → map (led_to marks) (map (resolved labels) statements) ≡ map label_used statements
@@ -295,8 +291,8 @@ declaration_agrees d m n h own is word words =
 -- no label is wrong, so that it is a name
 name_is : (b : OpenOp) (label : Word) → place_fault b (Some label) ≡ None → name_if label ≡ Some label
 name_is b label e =
-    let f = no_fault (not (has_name_form label)) Form (cond (is_long label || nat_le 64 (length b.statements)) (Some Limit) (cond (is_some (label_place b.labels label)) (Some Name) None)) e in
-    let l = no_fault (is_long label || nat_le 64 (length b.statements)) Limit (cond (is_some (label_place b.labels label)) (Some Name) None) f.1 in
+    let f = no_fault (not (has_name_form label)) Form (cond (is_long label || nat_le 64 (length b.statements)) (Some Limit) (cond (is_some (find_label b.labels label)) (Some Name) None)) e in
+    let l = no_fault (is_long label || nat_le 64 (length b.statements)) Limit (cond (is_some (find_label b.labels label)) (Some Name) None) f.1 in
     let p = or_parts (is_long label) (nat_le 64 (length b.statements)) l.0 in
     rw (not-false (has_name_form label) f.0, p.0) refl
 

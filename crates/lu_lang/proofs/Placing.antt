@@ -8,7 +8,7 @@ use Rattle.lu_text.proofs.NameText.{name_from}
 use Rattle.lu_lang.specs.declared.fault.LangFaultKind.{LangFaultKind}
 use Rattle.lu_lang.specs.declared.fault.LangFaultKind.TheVariants.{Form, Limit, Name}
 use Rattle.lu_lang.specs.Draft.{OpenOp}
-use Rattle.lu_lang.specs.Grammar.{place_fault, label_place}
+use Rattle.lu_lang.specs.Grammar.{place_fault, find_label}
 
 pub no_fault : (b : Bool) (kind : LangFaultKind) (rest : Option LangFaultKind) → cond b (Some kind) rest ≡ None → (b ≡ false) × (rest ≡ None)
 no_fault true kind rest e = absurd cc
@@ -20,8 +20,8 @@ record Placeable (b : OpenOp) (label : Word) : Type 0 where
 
 placeable : (b : OpenOp) (label : Word) → place_fault b (Some label) ≡ None → Placeable b label
 placeable b label e =
-    let f = no_fault (not (has_name_form label)) Form (cond (is_long label || nat_le 64 (length b.statements)) (Some Limit) (cond (is_some (label_place b.labels label)) (Some Name) None)) e in
-    let l = no_fault (is_long label || nat_le 64 (length b.statements)) Limit (cond (is_some (label_place b.labels label)) (Some Name) None) f.1 in
+    let f = no_fault (not (has_name_form label)) Form (cond (is_long label || nat_le 64 (length b.statements)) (Some Limit) (cond (is_some (find_label b.labels label)) (Some Name) None)) e in
+    let l = no_fault (is_long label || nat_le 64 (length b.statements)) Limit (cond (is_some (find_label b.labels label)) (Some Name) None) f.1 in
     let p = or_parts (is_long label) (nat_le 64 (length b.statements)) l.0 in
     record { name = name_from label f.0 p.0; room = omega (arith, leb-false 64 (length b.statements) p.1) }
 

@@ -21,9 +21,9 @@ use Rattle.lu_lang.specs.declared.draft.Statement.{Statement}
 use Rattle.lu_component.specs.Component.{Component, IsComponent, IsInstr, EndsWell, IsOp}
 use Rattle.lu_lang.specs.Draft.{OpenOp, ComponentDraft}
 use Rattle.lu_lang.specs.Words.{keyword_word}
-use Rattle.lu_lang.specs.Grammar.{component_grammar, label_place, label_used, is_there, are_there, is_last, ends_well, target, resolved, op_of}
+use Rattle.lu_lang.specs.Grammar.{component_grammar, find_label, label_used, is_there, are_there, is_last, ends_well, target, resolved, op_of}
 use Rattle.lu_lang.specs.ComponentText.{label_word, leads_to, instr_words, code_line, code_text, line_of_words}
-use Rattle.lu_component.proofs.Named.{is_found, find_first, find_later}
+use Rattle.lu_component.proofs.Named.{find_first, find_later}
 use Rattle.lu_lang.proofs.WrittenWords.{is_keyword_word, is_name_word, label_name, labels_apart, label_text_is, label_again}
 use Rattle.lu_lang.proofs.WrittenLines.{so_far, said_local, line_reads}
 use Rattle.lu_lang.proofs.WrittenInstrs.{keyword_of, arguments_of, statement_of, IsSaid, is_said}
@@ -98,7 +98,7 @@ labelled_reads : (c : Component) (operations : List Op) (name : Word) (args n : 
 labelled_reads c operations name args n statements labels i said is room fresh =
     let k = is_keyword_word (keyword_of i) in
     let l = is_name_word (label_word n) (label_name n (omega arith)) in
-    let new : is_some (label_place labels (label_word n)) ≡ false = is_found (λ x. bytes_eq x.name (label_word n)) labels ∙ ap (λ (o : Option Label). is_some o) fresh in
+    let new : is_some (find_label labels (label_word n)) ≡ false = ap (λ (o : Option Label). is_some o) fresh in
     let free : nat_le 64 (length statements) ≡ false = lt-leb 64 (length statements) (omega arith) in
     rw (said.words, labelled_text (label_word n) (join_with_byte 32 (keyword_word (keyword_of i) ∷ arguments_of c i)))
     (line_reads (in_op c operations (begun name args statements labels)) (in_op c operations (begun name args (statements ++ statement_of i ∷ []) (labels ++ label_of n ∷ [])))
@@ -177,10 +177,10 @@ record IsResolved (labels : Labels) (i : Instr) : Type 0 where
   there : is_there labels (label_used (statement_of i)) ≡ true
 
 target_again : (code : List Instr) (labels : Labels) (t : ℕ) → AreLabels code (length code) labels → length code ≤ 64 → t < length code → list_any (leads_to t) code ≡ true
-    → (target labels (label_word t) ≡ t) × (is_some (label_place labels (label_word t)) ≡ true)
+    → (target labels (label_word t) ≡ t) × (is_some (find_label labels (label_word t)) ≡ true)
 target_again code labels t are few lt led =
     let at : label_at labels t ≡ Some (label_of t) = are.there t lt (omega arith) led in
-    (rw at refl, is_found (λ l. bytes_eq l.name (label_word t)) labels ∙ ap (λ (o : Option Label). is_some o) at)
+    (rw at refl, ap (λ (o : Option Label). is_some o) at)
 
 is_resolved : (arrays locks : ℕ) (code : List Instr) (labels : Labels) → AreLabels code (length code) labels → length code ≤ 64 → (i : Instr) → IsInstr arrays locks (length code) i → HasTargets code i → IsResolved labels i
 is_resolved a l code labels are few (instr.Set to v) h led = record { again = refl; there = refl }

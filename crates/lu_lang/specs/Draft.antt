@@ -14,6 +14,10 @@ pub record OpenOp : Type 0 where
   pub statements : List Statement
   pub labels : List Label
 
+-- an operation of which no line but `op` is read
+abbrev pub op_begun : List ℕ → ℕ → OpenOp
+op_begun name args = record { name = name; args = args; statements = []; labels = [] }
+
 -- what is declared, and the operation that has no `end` yet
 pub record ComponentDraft : Type 0 where
   pub name : Option (List ℕ)

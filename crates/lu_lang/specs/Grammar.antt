@@ -23,7 +23,7 @@ use Rattle.lu_lang.specs.declared.fault.LangFaultKind.{LangFaultKind}
 use Rattle.lu_lang.specs.declared.fault.LangFaultKind.TheVariants.{Byte, Missing, Form, Number, Limit, Flow, Name}
 use Rattle.lu_lang.specs.Kinds.{rank}
 use Rattle.lu_component.specs.Component.{Component, operation_number}
-use Rattle.lu_lang.specs.Draft.{OpenOp, ComponentDraft, nothing, named}
+use Rattle.lu_lang.specs.Draft.{OpenOp, ComponentDraft, nothing, named, op_begun}
 use Rattle.lu_lang.specs.Words.{keyword_in, register_in, operand_in}
 
 -- ---- words
@@ -55,8 +55,8 @@ array_place d name = position (λ a. bytes_eq a.name name) d.arrays
 abbrev pub lock_place : ComponentDraft → Word → Option ℕ
 lock_place d name = position (λ l. bytes_eq l name) d.locks
 
-abbrev pub label_place : List Label → Word → Option ℕ
-label_place labels name = position (λ l. bytes_eq l.name name) labels
+abbrev pub find_label : List Label → Word → Option Label
+find_label labels name = find (λ l. bytes_eq l.name name) labels
 
 abbrev pub array_number : ComponentDraft → Word → ℕ
 array_number d name = unwrap_or (array_place d name) 0
@@ -114,8 +114,7 @@ op_line d (Some (name, args)) =
     ∷ (not (is_value args), Number)
     ∷ (is_long name || (nat_le 16 (length d.operations) || nat_lt 4 (value args)), Limit)
     ∷ (is_some (operation_number d.operations name), Name) ∷ [])
-    (record d
-    { begun = Some (record { name = name; args = value args; statements = []; labels = [] }) })
+    (record d { begun = Some (op_begun name (value args)) })
 
 abbrev pub declaration : ComponentDraft → Word → List Word → Result ComponentDraft LangFaultKind
 declaration d word words =
@@ -265,7 +264,7 @@ place_fault b None = if nat_le 64 (length b.statements) then Some Limit else Non
 place_fault b (Some label) =
     if not (has_name_form label) then Some Form
     else (if is_long label || nat_le 64 (length b.statements) then Some Limit
-    else (if is_some (label_place b.labels label) then Some Name
+    else (if is_some (find_label b.labels label) then Some Name
     else None))
 
 abbrev pub with_label : OpenOp → Option Word → List Label
@@ -303,15 +302,11 @@ label_used (JumpIfZero v label) = Some label
 
 abbrev pub is_there : List Label → Option Word → Bool
 is_there labels None = true
-is_there labels (Some label) = is_some (label_place labels label)
-
--- each label that these statements use is there
-abbrev pub all_there : List Label → List Statement → Bool
-all_there labels statements = list_all (λ s. is_there labels (label_used s)) statements
+is_there labels (Some label) = is_some (find_label labels label)
 
 -- each label that is used is there
 abbrev pub are_there : OpenOp → Bool
-are_there b = all_there b.labels b.statements
+are_there b = list_all (λ s. is_there b.labels (label_used s)) b.statements
 
 abbrev pub is_last : Option Statement → Bool
 is_last (Some (Jump label)) = true
@@ -325,7 +320,7 @@ ends_well b = is_last (slice_get b.statements (length b.statements - 1))
 -- the place of a label
 abbrev pub target : List Label → Word → ℕ
 target labels label =
-    unwrap_or (option_map (λ l. l.place) (find (λ l. bytes_eq l.name label) labels)) 0
+    unwrap_or (option_map (λ l. l.place) (find_label labels label)) 0
 
 -- the instruction, with the place of its label
 abbrev pub resolved : List Label → Statement → Instr
@@ -355,10 +350,6 @@ by_label d b (Some label) word words = labelled d b label words
 abbrev pub inside : ComponentDraft → OpenOp → Word → List Word → Result ComponentDraft LangFaultKind
 inside d b word words = by_label d b (label_in word) word words
 
-abbrev pub component_first : ComponentDraft → Word → List Word → Result ComponentDraft LangFaultKind
-component_first d word words =
-    if bytes_eq word (codes "component") then component_line d (exactly_one words) else Err Missing
-
 -- what is declared, without the open operation
 abbrev pub closed : ComponentDraft → ComponentDraft
 closed d = record d { begun = None }
@@ -367,7 +358,8 @@ closed d = record d { begun = None }
 -- operation instructions.
 abbrev pub by_state : ComponentDraft → Option Word → Option OpenOp → Word → List Word
     → Result ComponentDraft LangFaultKind
-by_state d None begun word words = component_first d word words
+by_state d None begun word words =
+    if bytes_eq word (codes "component") then component_line d (exactly_one words) else Err Missing
 by_state d (Some name) None word words = declaration d word words
 by_state d (Some name) (Some b) word words = inside (closed d) b word words
 

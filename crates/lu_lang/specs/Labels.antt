@@ -76,10 +76,6 @@ abbrev pub label_on : List Word → Option Word
 label_on [] = None
 label_on (first ∷ words) = option_and_then name_if (label_in first)
 
--- a line of these words inside the operation that has these labels so far
-abbrev pub words_inside : Marked → List (Option Word) → Word → List Word → Marked
-words_inside m marks first words = inside_line m marks (label_on (first ∷ words)) first
-
 -- The labels of a text: for each operation, and each of its instructions, the one that stands
 -- before it, or none.
 abbrev pub labels_of : List ℕ → List (List (Option Word))

@@ -11,13 +11,14 @@ use Rattle.lu_component.specs.Component.{Component}
 use Rattle.lu_lang.specs.declared.fault.LangFaultKind.{LangFaultKind}
 use Rattle.lu_lang.specs.declared.keyword.Keyword.{Keyword}
 use Rattle.lu_lang.specs.declared.keyword.Keyword.TheVariants as keyword
+use Rattle.lu_lang.specs.declared.draft.Label.{Label as ALabel}
 use Rattle.lu_lang.specs.declared.recovery.Family.{Family}
 use Rattle.lu_lang.specs.declared.recovery.Family.TheVariants.{Array, Lock, Label, Operation}
 use Rattle.lu_lang.specs.Draft.{OpenOp, ComponentDraft, nothing}
 use Rattle.lu_lang.specs.Words.{keyword_in}
-use Rattle.lu_lang.specs.Grammar.{array_place, lock_place, label_place, label_in, line_of, component_grammar}
+use Rattle.lu_lang.specs.Grammar.{array_place, lock_place, find_label, label_in, line_of, component_grammar}
 use Rattle.lu_lang.specs.Faulty.{MeantName, FaultyDraft}
-use Rattle.lu_lang.specs.Mend.{bare, mend}
+use Rattle.lu_lang.specs.Mend.{after_label, bare, line_label, mend}
 
 -- ---- names
 
@@ -33,25 +34,22 @@ abbrev pub is_meant : List MeantName → Family → Word → Bool
 is_meant meant family word =
     list_any (λ m. same_family m.family family && bytes_eq m.word word) meant
 
-abbrev pub has_label : Option OpenOp → Word → Bool
-has_label None word = false
-has_label (Some b) word = is_some (label_place b.labels word)
+-- the labels of the open operation, where one is
+abbrev pub open_labels : Option OpenOp → List ALabel
+open_labels None = []
+open_labels (Some b) = b.labels
 
 abbrev pub is_declared : ComponentDraft → Family → Word → Bool
 is_declared d Array word = is_some (array_place d word)
 is_declared d Lock word = is_some (lock_place d word)
-is_declared d (Label n) word = has_label d.begun word
+is_declared d (Label n) word = is_some (find_label (open_labels d.begun) word)
 is_declared d Operation word = false
-
-abbrev pub first_label : Option OpenOp → Option Word
-first_label None = None
-first_label (Some b) = option_map (λ l. l.name) (slice_get b.labels 0)
 
 -- the first declared name of a family
 abbrev pub first_of : ComponentDraft → Family → Option Word
 first_of d Array = option_map (λ a. a.name) (slice_get d.arrays 0)
 first_of d Lock = slice_get d.locks 0
-first_of d (Label n) = first_label d.begun
+first_of d (Label n) = option_map (λ l. l.name) (slice_get (open_labels d.begun) 0)
 first_of d Operation = None
 
 -- ---- a line as it was meant
@@ -145,48 +143,45 @@ declared_by d first =
     if bytes_eq first (codes "word") then Some Array
     else (if bytes_eq first (codes "lock") && not (is_some d.begun) then Some Lock else None)
 
-abbrev pub with_declared : ComponentDraft → List MeantName → Option Family → List Word → List MeantName
-with_declared d meant None words = meant
-with_declared d meant (Some family) [] = meant
-with_declared d meant (Some family) (name ∷ words) = with_name d meant family (bare name)
+abbrev pub with_declared : ComponentDraft → List MeantName → Option Family → Word → List MeantName
+with_declared d meant None name = meant
+with_declared d meant (Some family) name = with_name d meant family name
 
--- a label of the open operation
-abbrev pub with_label_name : ComponentDraft → List MeantName → Word → List MeantName
-with_label_name d meant label =
-    if is_some d.begun then with_name d meant (Label (length d.operations)) label else meant
-
+-- a line of these words, after its label
 abbrev pub with_after : ComponentDraft → List MeantName → List Word → List MeantName
 with_after d meant [] = meant
-with_after d meant (first ∷ words) =
-    with_declared d meant (declared_by d (bare first)) words
+with_after d meant (first ∷ []) = meant
+with_after d meant (first ∷ name ∷ words) =
+    with_declared d meant (declared_by d (bare first)) (bare name)
 
-abbrev pub with_labelled : ComponentDraft → List MeantName → Option Word → Word → List Word → List MeantName
-with_labelled d meant None first words = with_after d meant (first ∷ words)
-with_labelled d meant (Some label) first words =
-    with_after d (with_label_name d meant label) words
+-- a label of the open operation, where there is one
+abbrev pub with_label_name : ComponentDraft → List MeantName → Option Word → List MeantName
+with_label_name d meant None = meant
+with_label_name d meant (Some label) =
+    if is_some d.begun then with_name d meant (Label (length d.operations)) label else meant
 
 abbrev pub with_names : ComponentDraft → List MeantName → List Word → List MeantName
-with_names d meant [] = meant
-with_names d meant (first ∷ words) = with_labelled d meant (label_in (bare first)) first words
+with_names d meant words =
+    with_after d (with_label_name d meant (line_label words)) (after_label words)
 
 -- how many operations are begun, the open one too
 abbrev pub operations_begun : ComponentDraft → ℕ
 operations_begun d =
     if is_some d.begun then length d.operations + 1 else length d.operations
 
-abbrev pub with_open : ComponentDraft → List MeantName → Option OpenOp → List MeantName
-with_open d meant None = meant
-with_open d meant (Some b) = with_name d meant Operation b.name
-
 -- The open operation, where it is more than so many, which were begun before the line: how many
 -- arguments it takes is not known, though its name is declared.
-abbrev pub with_operation : ComponentDraft → List MeantName → ℕ → List MeantName
-with_operation d meant before =
-    if operations_begun d == before then meant else with_open d meant d.begun
+abbrev pub with_operation : ComponentDraft → List MeantName → Option OpenOp → ℕ → List MeantName
+with_operation d meant None before = meant
+with_operation d meant (Some b) before =
+    if operations_begun d == before then meant else with_name d meant Operation b.name
 
 -- what a line with a fault leaves, before these lines
 abbrev pub mend_faulty : FaultyDraft → List ℕ → List (List ℕ) → FaultyDraft
 mend_faulty f line lines =
     let next = mend f.draft line lines in
     let meant = with_names next f.meant (words_of line) in
-    record { draft = next; meant = with_operation next meant (operations_begun f.draft) }
+    record {
+      draft = next;
+      meant = with_operation next meant next.begun (operations_begun f.draft);
+    }

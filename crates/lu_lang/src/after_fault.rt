@@ -1,10 +1,10 @@
 //! What a line with a fault leaves, so that the lines after it are told for their own faults
 //! alone.
 
-ghost use Rattle.std.specs.Prelude.{◌≡◌, IfOk, Some};
-ghost use Rattle.lu_text.specs.Lines.{texts};
+ghost use Rattle.std.specs.Prelude.{◌≡◌, IfOk};
+ghost use Rattle.lu_text.specs.Lines.{text_if, texts};
 ghost use Rattle.lu_lang.specs.Mend as spec;
-ghost use Rattle.lu_lang.specs.Mend.{mend, mend_inside, mend_labelled};
+ghost use Rattle.lu_lang.specs.Mend.{mend};
 ghost use Rattle.lu_text.specs.Results.{Builds};
 
 use crate::draft::{ComponentDraft, Label, OpenOp, Statement};
@@ -49,73 +49,64 @@ fn first_name(alloc: Global, words: &[&[u8]]) -> Result<Name, AllocError>
     }
 }
 
-/// The draft with an array of this name, where there is room.
-fn with_array(mut draft: ComponentDraft, name: Name) -> Result<ComponentDraft, AllocError>
-    ensures { Builds result (spec.with_array draft name) }
+/// The draft with the array that these words declare, where there is room.
+fn with_array(
+    alloc: Global,
+    mut draft: ComponentDraft,
+    words: &[&[u8]],
+) -> Result<ComponentDraft, AllocError>
+    ensures { Builds result (spec.with_array draft (texts words.now)) }
 {
     if has_most_arrays(&draft) {
         return Ok(draft);
     }
     draft.arrays.push(Array {
-        name,
+        name: first_name(alloc, words)?,
         len: 64,
         init: 0,
     })?;
     Ok(draft)
 }
 
-/// The draft with a lock of this name, where there is room.
-fn with_lock(mut draft: ComponentDraft, name: Name) -> Result<ComponentDraft, AllocError>
-    ensures { Builds result (spec.with_lock draft name) }
+/// The draft with the lock that these words declare, where there is room.
+fn with_lock(
+    alloc: Global,
+    mut draft: ComponentDraft,
+    words: &[&[u8]],
+) -> Result<ComponentDraft, AllocError>
+    ensures { Builds result (spec.with_lock draft (texts words.now)) }
 {
     if has_most_locks(&draft) {
         return Ok(draft);
     }
-    draft.locks.push(name)?;
+    draft.locks.push(first_name(alloc, words)?)?;
     Ok(draft)
 }
 
-/// An operation of this name, of which no line is read.
-fn op_begun(alloc: Global, name: Name) -> OpenOp
-    ensures { result ≡ spec.op_begun name }
-{
-    OpenOp {
-        name,
-        args: 0,
-        statements: Vec::new(alloc),
-        labels: Vec::new(alloc),
-    }
-}
-
-/// The draft with an operation begun.
-fn with_op(alloc: Global, mut draft: ComponentDraft, name: Name) -> ComponentDraft
-    ensures { result ≡ spec.with_op draft name }
-{
-    draft.begun = Some(op_begun(alloc, name));
-    draft
-}
-
-/// The draft with this operation closed.
-fn with_end(
+/// The draft with the operation that these words begin.
+fn with_op(
     alloc: Global,
     mut draft: ComponentDraft,
-    op: OpenOp,
+    words: &[&[u8]],
 ) -> Result<ComponentDraft, AllocError>
-    ensures { Builds result (spec.with_end draft op) }
+    ensures { Builds result (spec.with_op draft (texts words.now)) }
 {
-    draft.operations.push(op_of(alloc, op)?)?;
+    draft.begun = Some(OpenOp::new(alloc, first_name(alloc, words)?, 0));
     Ok(draft)
 }
 
-/// The operation with a line's label.
-fn op_labelled(alloc: Global, mut op: OpenOp, label: &[u8]) -> Result<OpenOp, AllocError>
-    ensures { Builds result (spec.op_labelled op (Some label.now)) }
+/// The operation with a line's label, where it has one.
+fn op_labelled(alloc: Global, mut op: OpenOp, label: Option<&[u8]>) -> Result<OpenOp, AllocError>
+    ensures { Builds result (spec.op_labelled op (text_if label.entry)) }
 {
-    if op.labels.len() < MOST_LABELS {
-        let name = name_or_blank(alloc, label)?;
-        op.labels.push(Label { name, place: 0 })?;
+    match label {
+        Some(label) if op.labels.len() < MOST_LABELS => {
+            let name = name_or_blank(alloc, label)?;
+            op.labels.push(Label { name, place: 0 })?;
+            Ok(op)
+        }
+        _ => Ok(op),
     }
-    Ok(op)
 }
 
 /// The draft with one more instruction of this operation.
@@ -126,6 +117,20 @@ fn with_return(mut draft: ComponentDraft, mut op: OpenOp) -> Result<ComponentDra
         .push(Statement::Plain(Instr::Return(Operand::Num(0))))?;
     draft.begun = Some(op);
     Ok(draft)
+}
+
+/// The label of a line of these words, where it has one, and its words after it.
+pub(crate) fn split_label<'a>(words: &'a [&'a [u8]]) -> (Option<&'a [u8]>, &'a [&'a [u8]])
+    ensures label { text_if result.0 ≡ spec.line_label (texts words.now) }
+    ensures after { texts result.1.now ≡ spec.after_label (texts words.now) }
+{
+    match words.split_first() {
+        None => (None, words),
+        Some((word, rest)) => match label_in(bare(word)) {
+            None => (None, words),
+            Some(label) => (Some(label), rest),
+        },
+    }
 }
 
 /// The words of the first of these lines that has any.
@@ -168,196 +173,70 @@ fn begins_outside(words: &[&[u8]]) -> bool
     }
 }
 
-/// Whether a line of this first word, after its label, closes the operation that is open before
-/// it.
-pub(crate) fn closes(word: &[u8], next: &[&[u8]]) -> bool
-    ensures { result ≡ spec.closes word.now (texts next.now) }
+/// Whether a line of these words, after its label, closes the operation that is open before it.
+pub(crate) fn closes(words: &[&[u8]], next: &[&[u8]]) -> bool
+    ensures { result ≡ spec.closes (texts words.now) (texts next.now) }
 {
-    word == b"op".as_slice()
-        || word == b"end".as_slice()
-        || word == b"word".as_slice() && begins_outside(next)
-}
-
-/// The draft with an operation begun, which has one instruction.
-fn with_missing_op(
-    alloc: Global,
-    draft: ComponentDraft,
-    word: &[u8],
-) -> Result<ComponentDraft, AllocError>
-    ensures { Builds result (spec.with_missing_op draft word.now) }
-{
-    let op = op_begun(alloc, Name::new(alloc, b"_")?);
-    match label_in(word) {
-        None => with_return(draft, op),
-        Some(label) => {
-            let op = op_labelled(alloc, op, label)?;
-            with_return(draft, op)
+    match words.split_first() {
+        None => false,
+        Some((word, _)) => {
+            let word = bare(word);
+            word == b"op".as_slice()
+                || word == b"end".as_slice()
+                || word == b"word".as_slice() && begins_outside(next)
         }
     }
 }
 
-/// A line that begins no declaration.
-fn mend_other(
-    alloc: Global,
-    draft: ComponentDraft,
-    word: &[u8],
-    words: &[&[u8]],
-    next: &[&[u8]],
-) -> Result<ComponentDraft, AllocError>
-    ensures { Builds result (spec.mend_other draft word.now (texts words.now) (texts next.now)) }
-{
-    if !begins_code(next) || word == b"end".as_slice() {
-        Ok(draft)
-    } else if is_code(word) {
-        with_missing_op(alloc, draft, word)
-    } else {
-        Ok(with_op(alloc, draft, first_name(alloc, words)?))
-    }
-}
-
+/// What a line of these words leaves outside an operation.
 fn mend_outside(
     alloc: Global,
     draft: ComponentDraft,
-    word: &[u8],
     words: &[&[u8]],
     next: &[&[u8]],
 ) -> Result<ComponentDraft, AllocError>
-    ensures { Builds result (spec.mend_outside draft word.now (texts words.now) (texts next.now)) }
+    ensures { Builds result (spec.mend_outside draft (texts words.now) (texts next.now)) }
 {
+    let Some((word, rest)) = words.split_first() else {
+        return Ok(draft);
+    };
+    let word = bare(word);
     if word == b"word".as_slice() {
-        with_array(draft, first_name(alloc, words)?)
+        with_array(alloc, draft, rest)
     } else if word == b"lock".as_slice() {
-        with_lock(draft, first_name(alloc, words)?)
+        with_lock(alloc, draft, rest)
     } else if word == b"op".as_slice() {
-        Ok(with_op(alloc, draft, first_name(alloc, words)?))
+        with_op(alloc, draft, rest)
+    } else if !begins_code(next) || word == b"end".as_slice() {
+        Ok(draft)
+    } else if is_code(word) {
+        let op = OpenOp::new(alloc, Name::new(alloc, b"_")?, 0);
+        with_return(draft, op_labelled(alloc, op, label_in(word))?)
     } else {
-        mend_other(alloc, draft, word, words, next)
+        with_op(alloc, draft, rest)
     }
 }
 
-/// A line `word` inside an operation.
-fn mend_array_inside(
-    alloc: Global,
-    draft: ComponentDraft,
-    op: OpenOp,
-    words: &[&[u8]],
-    next: &[&[u8]],
-) -> Result<ComponentDraft, AllocError>
-    ensures { Builds result (spec.mend_array_inside draft op (texts words.now) (texts next.now)) }
-{
-    let name = first_name(alloc, words)?;
-    if begins_outside(next) {
-        let draft = with_end(alloc, draft, op)?;
-        return with_array(draft, name);
-    }
-    let draft = with_array(draft, name)?;
-    with_return(draft, op)
-}
-
+/// What a line of these words, after its label, leaves in this operation.
 fn mend_inside(
     alloc: Global,
-    draft: ComponentDraft,
+    mut draft: ComponentDraft,
     op: OpenOp,
-    word: &[u8],
     words: &[&[u8]],
     next: &[&[u8]],
 ) -> Result<ComponentDraft, AllocError>
-    ensures { Builds result (mend_inside draft op word.now (texts words.now) (texts next.now)) }
+    ensures { Builds result (spec.mend_inside draft op (texts words.now) (texts next.now)) }
 {
-    if word == b"op".as_slice() {
-        let draft = with_end(alloc, draft, op)?;
-        Ok(with_op(alloc, draft, first_name(alloc, words)?))
-    } else if word == b"end".as_slice() {
-        with_end(alloc, draft, op)
-    } else if word == b"word".as_slice() {
-        mend_array_inside(alloc, draft, op, words, next)
+    let Some((word, rest)) = words.split_first() else {
+        return with_return(draft, op);
+    };
+    if closes(words, next) {
+        draft.operations.push(op_of(alloc, op)?)?;
+        mend_outside(alloc, draft, words, next)
+    } else if bare(word) == b"word".as_slice() {
+        with_return(with_array(alloc, draft, rest)?, op)
     } else {
         with_return(draft, op)
-    }
-}
-
-/// A line after its label, which the operation has.
-fn mend_after(
-    alloc: Global,
-    draft: ComponentDraft,
-    op: OpenOp,
-    words: &[&[u8]],
-    next: &[&[u8]],
-) -> Result<ComponentDraft, AllocError>
-    ensures { Builds result (spec.mend_after draft op (texts words.now) (texts next.now)) }
-{
-    match words.split_first() {
-        None => with_return(draft, op),
-        Some((word, rest)) => mend_inside(alloc, draft, op, bare(word), rest, next),
-    }
-}
-
-fn mend_labelled(
-    alloc: Global,
-    draft: ComponentDraft,
-    op: OpenOp,
-    word: &[u8],
-    words: &[&[u8]],
-    next: &[&[u8]],
-) -> Result<ComponentDraft, AllocError>
-    ensures { Builds result (mend_labelled draft op word.now (texts words.now) (texts next.now)) }
-{
-    match label_in(word) {
-        None => mend_inside(alloc, draft, op, word, words, next),
-        Some(label) => {
-            let op = op_labelled(alloc, op, label)?;
-            mend_after(alloc, draft, op, words, next)
-        }
-    }
-}
-
-/// Where there is no component line yet, the component is called `_`.
-fn mend_first(
-    alloc: Global,
-    mut draft: ComponentDraft,
-    word: &[u8],
-    words: &[&[u8]],
-    next: &[&[u8]],
-) -> Result<ComponentDraft, AllocError>
-    ensures { Builds result (spec.mend_first draft word.now (texts words.now) (texts next.now)) }
-{
-    draft.name = Some(Name::new(alloc, b"_")?);
-    mend_outside(alloc, draft, word, words, next)
-}
-
-fn mend_by_state(
-    alloc: Global,
-    mut draft: ComponentDraft,
-    word: &[u8],
-    words: &[&[u8]],
-    next: &[&[u8]],
-) -> Result<ComponentDraft, AllocError>
-    ensures { Builds result (spec.mend_by_state draft word.now (texts words.now) (texts next.now)) }
-{
-    let begun = draft.begun.take();
-    if draft.name.is_none() {
-        return mend_first(alloc, draft, word, words, next);
-    }
-    match begun {
-        None => mend_outside(alloc, draft, word, words, next),
-        Some(op) => mend_labelled(alloc, draft, op, word, words, next),
-    }
-}
-
-fn mend_words(
-    alloc: Global,
-    draft: ComponentDraft,
-    words: &[&[u8]],
-    lines: &[&[u8]],
-) -> Result<ComponentDraft, AllocError>
-    ensures { Builds result (spec.mend_words draft (texts words.now) (texts lines.now)) }
-{
-    match words.split_first() {
-        None => Ok(draft),
-        Some((word, rest)) => {
-            let next = next_words(alloc, lines)?;
-            mend_by_state(alloc, draft, bare(word), rest, &next)
-        }
     }
 }
 
@@ -368,12 +247,28 @@ fn mend_words(
 /// There is no memory for what the line leaves.
 pub(crate) fn mended_draft(
     alloc: Global,
-    draft: ComponentDraft,
+    mut draft: ComponentDraft,
     text: &[u8],
     lines: &[&[u8]],
 ) -> Result<ComponentDraft, AllocError>
     ensures { Builds result (mend draft text.now (texts lines.now)) }
 {
     let words = words_of(alloc, text)?;
-    mend_words(alloc, draft, &words, lines)
+    let Some(_) = words.split_first() else {
+        return Ok(draft);
+    };
+    let next = next_words(alloc, lines)?;
+    let begun = draft.begun.take();
+    if draft.name.is_none() {
+        draft.name = Some(Name::new(alloc, b"_")?);
+        return mend_outside(alloc, draft, &words, &next);
+    }
+    match begun {
+        None => mend_outside(alloc, draft, &words, &next),
+        Some(op) => {
+            let (label, rest) = split_label(&words);
+            let op = op_labelled(alloc, op, label)?;
+            mend_inside(alloc, draft, op, rest, &next)
+        }
+    }
 }

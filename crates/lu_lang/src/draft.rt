@@ -1,7 +1,7 @@
 //! What the lines so far have declared.
 
 ghost use Rattle.std.specs.Prelude.{◌≡◌};
-ghost use Rattle.lu_lang.specs.Draft.{nothing};
+ghost use Rattle.lu_lang.specs.Draft.{nothing, op_begun};
 
 use lu_component::{Array, Instr, Op, Operand};
 use lu_text::Name;
@@ -45,6 +45,20 @@ impl Model for OpenOp {
       statements = o.statements.items;
       labels = o.labels.items;
     } };
+}
+
+impl OpenOp {
+    /// Of which no line but `op` is read.
+    pub(crate) fn new(alloc: Global, name: Name, args: u8) -> OpenOp
+        ensures { result ≡ op_begun name args }
+    {
+        OpenOp {
+            name,
+            args,
+            statements: Vec::new(alloc),
+            labels: Vec::new(alloc),
+        }
+    }
 }
 
 /// A component of which not all lines are read.

@@ -7,10 +7,10 @@ ghost use Rattle.lu_lang.specs.Place as spec;
 ghost use Rattle.lu_lang.specs.Place.{backs};
 ghost use Rattle.lu_text.specs.Results.{HasItems};
 
-use crate::after_fault::{bare, closes, next_words};
+use crate::after_fault::{closes, next_words, split_label};
 use crate::draft::{ComponentDraft, OpenOp, Statement};
 use crate::fault::LangFaultKind;
-use crate::reading::{is_there, label_in};
+use crate::reading::is_there;
 use lu_text::words_of;
 use std::alloc::{AllocError, Global};
 
@@ -46,25 +46,12 @@ fn jump_backs(alloc: Global, op: &OpenOp, label: Option<&[u8]>) -> Result<Vec<us
         .collect(alloc)
 }
 
-fn end_backs(
-    alloc: Global,
-    begun: &Option<OpenOp>,
-    words: &[&[u8]],
-) -> Result<Vec<usize>, AllocError>
-    ensures { HasItems result (spec.end_backs begun.now (texts words.now)) }
+fn is_end(words: &[&[u8]]) -> bool
+    ensures { result ≡ spec.is_end (texts words.now) }
 {
-    match begun {
-        None => Ok(Vec::new(alloc)),
-        Some(op) => match words.split_first() {
-            None => Ok(Vec::new(alloc)),
-            Some((word, _)) => {
-                if *word == b"end".as_slice() {
-                    jump_backs(alloc, op, None)
-                } else {
-                    Ok(Vec::new(alloc))
-                }
-            }
-        },
+    match words.split_first() {
+        None => false,
+        Some((word, _)) => *word == b"end".as_slice(),
     }
 }
 
@@ -86,54 +73,13 @@ pub fn message_backs(
     match kind {
         LangFaultKind::Name => {
             let words = words_of(alloc, text)?;
-            end_backs(alloc, &draft.begun, &words)
-        }
-        _ => Ok(Vec::new(alloc)),
-    }
-}
-
-/// Where a line of these words, which stand after this label or none, closes the operation.
-fn closing_backs(
-    alloc: Global,
-    op: &OpenOp,
-    label: Option<&[u8]>,
-    words: &[&[u8]],
-    next: &[&[u8]],
-) -> Result<Vec<usize>, AllocError>
-    ensures { HasItems result (spec.closing_backs_of op.now label.entry words.now next.now) }
-{
-    match words.split_first() {
-        None => Ok(Vec::new(alloc)),
-        Some((word, _)) => {
-            if closes(bare(word), next) {
-                jump_backs(alloc, op, label)
+            if is_end(&words) {
+                open_backs(alloc, draft)
             } else {
                 Ok(Vec::new(alloc))
             }
         }
-    }
-}
-
-fn closed_backs(
-    alloc: Global,
-    begun: &Option<OpenOp>,
-    words: &[&[u8]],
-    lines: &[&[u8]],
-) -> Result<Vec<usize>, AllocError>
-    ensures { HasItems result (spec.closed_backs begun.now (texts words.now) (texts lines.now)) }
-{
-    match begun {
-        None => Ok(Vec::new(alloc)),
-        Some(op) => match words.split_first() {
-            None => Ok(Vec::new(alloc)),
-            Some((word, rest)) => {
-                let next = next_words(alloc, lines)?;
-                match label_in(bare(word)) {
-                    None => closing_backs(alloc, op, None, words, &next),
-                    Some(label) => closing_backs(alloc, op, Some(label), rest, &next),
-                }
-            }
-        },
+        _ => Ok(Vec::new(alloc)),
     }
 }
 
@@ -153,11 +99,17 @@ pub fn left_backs(
 ) -> Result<Vec<usize>, AllocError>
     ensures { HasItems result (spec.left_backs draft.now text.now (texts lines.now) kind) }
 {
-    match kind {
-        LangFaultKind::Name => Ok(Vec::new(alloc)),
-        _ => {
+    match (kind, &draft.begun) {
+        (LangFaultKind::Name, _) | (_, None) => Ok(Vec::new(alloc)),
+        (_, Some(op)) => {
             let words = words_of(alloc, text)?;
-            closed_backs(alloc, &draft.begun, &words, lines)
+            let next = next_words(alloc, lines)?;
+            let (label, rest) = split_label(&words);
+            if closes(rest, &next) {
+                jump_backs(alloc, op, label)
+            } else {
+                Ok(Vec::new(alloc))
+            }
         }
     }
 }

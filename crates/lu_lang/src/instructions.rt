@@ -252,51 +252,6 @@ fn return_line(words: &[&[u8]]) -> Result<Statement, LangFaultKind>
     Ok(Statement::Plain(Instr::Return(value)))
 }
 
-fn lock_line(draft: &ComponentDraft, words: &[&[u8]]) -> Result<Statement, LangFaultKind>
-    ensures { result ≡ spec.statement draft.now (Some Keyword.Lock) (texts words.now) }
-{
-    Ok(Statement::Plain(Instr::Lock(read_lock(draft, words)?)))
-}
-
-fn unlock_line(draft: &ComponentDraft, words: &[&[u8]]) -> Result<Statement, LangFaultKind>
-    ensures { result ≡ spec.statement draft.now (Some Keyword.Unlock) (texts words.now) }
-{
-    Ok(Statement::Plain(Instr::Unlock(read_lock(draft, words)?)))
-}
-
-fn store_line(draft: &ComponentDraft, words: &[&[u8]]) -> Result<Statement, LangFaultKind>
-    ensures { result ≡ spec.statement draft.now (Some Keyword.Store) (texts words.now) }
-{
-    let (array, index, value) = cell_and_value(draft, words)?;
-    Ok(Statement::Plain(Instr::Store {
-        array,
-        index,
-        value,
-    }))
-}
-
-fn await_line(draft: &ComponentDraft, words: &[&[u8]]) -> Result<Statement, LangFaultKind>
-    ensures { result ≡ spec.statement draft.now (Some Keyword.Await) (texts words.now) }
-{
-    let (array, index, value) = cell_and_value(draft, words)?;
-    Ok(Statement::Plain(Instr::Await {
-        array,
-        index,
-        value,
-    }))
-}
-
-fn await_not_line(draft: &ComponentDraft, words: &[&[u8]]) -> Result<Statement, LangFaultKind>
-    ensures { result ≡ spec.statement draft.now (Some Keyword.AwaitNot) (texts words.now) }
-{
-    let (array, index, value) = cell_and_value(draft, words)?;
-    Ok(Statement::Plain(Instr::AwaitNot {
-        array,
-        index,
-        value,
-    }))
-}
-
 /// The instruction of a line, or the first fault that it has.
 pub fn statement(
     alloc: Global,
@@ -313,12 +268,38 @@ pub fn statement(
         Keyword::Set => Ok(set_line(words)),
         Keyword::Compute(arithmetic) => Ok(compute_line(arithmetic, words)),
         Keyword::Load => Ok(load_line(draft, words)),
-        Keyword::Store => Ok(store_line(draft, words)),
+        Keyword::Store => Ok(cell_and_value(draft, words).map(|(array, index, value)| {
+            Statement::Plain(Instr::Store {
+                array,
+                index,
+                value,
+            })
+        })),
         Keyword::Cas => Ok(cas_line(draft, words)),
-        Keyword::Lock => Ok(lock_line(draft, words)),
-        Keyword::Unlock => Ok(unlock_line(draft, words)),
-        Keyword::Await => Ok(await_line(draft, words)),
-        Keyword::AwaitNot => Ok(await_not_line(draft, words)),
+        Keyword::Lock => Ok(
+            read_lock(draft, words)
+                .map(Instr::Lock)
+                .map(Statement::Plain),
+        ),
+        Keyword::Unlock => Ok(
+            read_lock(draft, words)
+                .map(Instr::Unlock)
+                .map(Statement::Plain),
+        ),
+        Keyword::Await => Ok(cell_and_value(draft, words).map(|(array, index, value)| {
+            Statement::Plain(Instr::Await {
+                array,
+                index,
+                value,
+            })
+        })),
+        Keyword::AwaitNot => Ok(cell_and_value(draft, words).map(|(array, index, value)| {
+            Statement::Plain(Instr::AwaitNot {
+                array,
+                index,
+                value,
+            })
+        })),
         Keyword::Pick => Ok(pick_line(words)),
         Keyword::Jump => jump_line(alloc, words),
         Keyword::JumpIfZero => jump_if_zero_line(alloc, words),

@@ -1,11 +1,12 @@
 //! The labels of a component's text.
 
-ghost use Rattle.std.specs.Prelude.{◌≡◌, ◌∷◌, None};
+ghost use Rattle.std.specs.Prelude.{◌≡◌, option_and_then};
 ghost use Rattle.std.specs.Option.{option_copied};
 ghost use Rattle.lu_text.specs.Lines.{texts};
 ghost use Rattle.lu_text.specs.Results.{Builds};
 ghost use Rattle.lu_lang.specs.Labels as spec;
-ghost use Rattle.lu_lang.specs.Labels.{label_on};
+ghost use Rattle.lu_lang.specs.Labels.{label_on, name_if};
+ghost use Rattle.lu_lang.specs.Grammar.{label_in};
 
 use crate::reading::label_in;
 use lu_text::{Name, has_name_form, is_long, lines_of, words_of};
@@ -70,72 +71,40 @@ impl Model for Marked {
     ghost view = { λ m. record { closed = m.closed.items; begun = m.begun } };
 }
 
-/// The word, where it is a name.
-fn name_if(alloc: Global, word: &[u8]) -> Result<Option<Name>, AllocError>
-    ensures { Builds result (spec.name_if word.now) }
-{
-    if has_name_form(word) && !is_long(word) {
-        Ok(Some(Name::new(alloc, word)?))
-    } else {
-        Ok(None)
-    }
-}
-
-/// The label of a line with this first word.
-fn label_on(alloc: Global, first: &[u8], words: &[&[u8]]) -> Result<Option<Name>, AllocError>
-    ensures { Builds result (label_on (first.now ∷ texts words.now)) }
+/// The label of a line with this first word: a name with a colon after it.
+fn label_on(alloc: Global, first: &[u8]) -> Result<Option<Name>, AllocError>
+    ensures { Builds result (option_and_then name_if (label_in first.now)) }
 {
     match label_in(first) {
-        None => Ok(None),
-        Some(label) => name_if(alloc, label),
+        Some(label) if has_name_form(label) && !is_long(label) => {
+            Ok(Some(Name::new(alloc, label)?))
+        }
+        _ => Ok(None),
     }
-}
-
-/// A line outside operations.
-fn outside_line(alloc: Global, mut marked: Marked, first: &[u8]) -> Marked
-    requires { marked.begun ≡ None }
-    ensures { result ≡ spec.outside_line marked first.now }
-{
-    if first == b"op".as_slice() {
-        marked.begun = Some(Marks {
-            names: Vec::new(alloc),
-        });
-    }
-    marked
-}
-
-/// A line of the operation that has these labels so far.
-fn inside_line<'a>(
-    alloc: Global,
-    mut marked: Marked,
-    mut marks: Marks,
-    first: &'a [u8],
-    words: &'a [&'a [u8]],
-) -> Result<Marked, AllocError>
-    requires { marked.begun ≡ None }
-    ensures { Builds result (spec.words_inside marked marks first.now (texts words.now)) }
-{
-    if first == b"end".as_slice() {
-        marked.closed.push(marks)?;
-        return Ok(marked);
-    }
-    marks.names.push(label_on(alloc, first, words)?)?;
-    marked.begun = Some(marks);
-    Ok(marked)
 }
 
 /// A line of these words.
 fn with_words(alloc: Global, mut marked: Marked, words: &[&[u8]]) -> Result<Marked, AllocError>
     ensures { Builds result (spec.with_words label_on marked (texts words.now)) }
 {
-    let Some((first, rest)) = words.split_first() else {
+    let Some((first, _)) = words.split_first() else {
         return Ok(marked);
     };
-    let begun = marked.begun.take();
-    match begun {
-        None => Ok(outside_line(alloc, marked, first)),
-        Some(marks) => inside_line(alloc, marked, marks, first, rest),
+    match marked.begun.take() {
+        None => {
+            if *first == b"op".as_slice() {
+                marked.begun = Some(Marks {
+                    names: Vec::new(alloc),
+                });
+            }
+        }
+        Some(marks) if *first == b"end".as_slice() => marked.closed.push(marks)?,
+        Some(mut marks) => {
+            marks.names.push(label_on(alloc, first)?)?;
+            marked.begun = Some(marks);
+        }
     }
+    Ok(marked)
 }
 
 /// The labels on these lines.
@@ -151,18 +120,6 @@ fn marked_after(alloc: Global, lines: &[&[u8]]) -> Result<Marked, AllocError>
         marked = with_words(alloc, marked, &words)?;
     }
     Ok(marked)
-}
-
-/// The labels of all operations.
-fn all_marks(marked: Marked) -> Result<Labels, AllocError>
-    ensures { Builds result (spec.all_marks marked marked.begun) }
-{
-    let Marked { closed, begun } = marked;
-    let mut operations = closed;
-    if let Some(marks) = begun {
-        operations.push(marks)?;
-    }
-    Ok(Labels { operations })
 }
 
 /// The labels of a component's text: `again` of `again: load r0 x 0`, at the operation and the
@@ -181,5 +138,10 @@ pub fn labels_of(alloc: Global, text: &[u8]) -> Result<Labels, AllocError>
     ensures { Builds result (spec.labels_of text.now) }
 {
     let lines = lines_of(alloc, text)?;
-    all_marks(marked_after(alloc, &lines)?)
+    let Marked { closed, begun } = marked_after(alloc, &lines)?;
+    let mut operations = closed;
+    if let Some(marks) = begun {
+        operations.push(marks)?;
+    }
+    Ok(Labels { operations })
 }

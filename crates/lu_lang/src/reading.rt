@@ -1,8 +1,7 @@
 //! Reading of components, line by line.
 
-ghost use Rattle.std.specs.Prelude.{◌≡◌, ◌==◌, ◌<◌, ◌≤◌, ◌∷◌, Ok, Some, None, length, map, nat_le, is_some};
-ghost use Rattle.std.specs.Option.{option_map};
-ghost use Rattle.std.specs.List.{position};
+ghost use Rattle.std.specs.Prelude.{◌≡◌, Some, None, length, map, nat_le};
+ghost use Rattle.std.specs.Option.{option_copied, option_map};
 ghost use Rattle.lu_component.specs.declared.component.TheConstants.{MOST_ARRAYS, MOST_INSTRS, MOST_LOCKS, MOST_OPS};
 ghost use Rattle.lu_text.specs.Lines.{text_if, texts};
 ghost use Rattle.lu_text.specs.Words.{exactly_one, exactly_two, exactly_three};
@@ -11,7 +10,7 @@ ghost use Rattle.lu_lang.specs.Lines.{Changes, Closes, Takes, TakesInside, code_
 ghost use Rattle.lu_text.specs.Results.{Builds, HasItems};
 ghost use Rattle.lu_lang.specs.Sound.{IsSoundDraft};
 ghost use Rattle.lu_lang.specs.Grammar as spec;
-ghost use Rattle.lu_lang.specs.Grammar.{component_grammar, labelled};
+ghost use Rattle.lu_lang.specs.Grammar.{component_grammar};
 
 use crate::draft::{ComponentDraft, Label, OpenOp, Statement};
 use crate::fault::{LangFault, LangFaultKind};
@@ -65,16 +64,11 @@ pub(crate) fn label_in(word: &[u8]) -> Option<&[u8]>
     }
 }
 
-fn label_place(labels: &[Label], label: &[u8]) -> Option<usize>
-    ensures { result ≡ spec.label_place labels.now label.now }
+/// The label of this name, where it is one of them.
+pub(crate) fn find_label<'a>(labels: &'a [Label], name: &[u8]) -> Option<&'a Label>
+    ensures { option_copied result ≡ spec.find_label labels.now name.now }
 {
-    labels.iter().position(|other| other.name.is(label))
-}
-
-pub(crate) fn has_label(op: &OpenOp, label: &[u8]) -> bool
-    ensures { result ≡ is_some (spec.label_place op.now.labels label.now) }
-{
-    label_place(&op.labels, label).is_some()
+    labels.iter().find(|label| label.name.is(name))
 }
 
 fn has_most_statements(op: &OpenOp) -> bool
@@ -98,39 +92,28 @@ fn place_fault(op: &OpenOp, label: Option<&[u8]>) -> Option<LangFaultKind>
         Some(LangFaultKind::Form)
     } else if is_long(label) || has_most_statements(op) {
         Some(LangFaultKind::Limit)
-    } else if has_label(op, label) {
+    } else if find_label(&op.labels, label).is_some() {
         Some(LangFaultKind::Name)
     } else {
         None
     }
 }
 
-/// The open operation with the label of the instruction that comes next.
-fn with_label(alloc: Global, mut op: OpenOp, label: Option<&[u8]>) -> Result<OpenOp, AllocError>
-    requires { spec.place_fault op (text_if label) ≡ None }
-    ensures { Builds result (record op { labels = spec.with_label op (text_if label.entry) }) }
-{
-    if let Some(label) = label {
-        let place = op.statements.len() as u8;
-        op.labels.push(Label {
-            name: Name::new(alloc, label)?,
-            place,
-        })?;
-    }
-    Ok(op)
-}
-
-/// The open operation with one more instruction.
+/// The open operation with one more instruction, and with its label, where it has one.
 fn with_statement(
     alloc: Global,
-    op: OpenOp,
+    mut op: OpenOp,
     label: Option<&[u8]>,
     statement: Statement,
 ) -> Result<OpenOp, AllocError>
     requires { spec.place_fault op (text_if label) ≡ None }
     ensures { Builds result (spec.with_statement op (text_if label.entry) statement) }
 {
-    let mut op = with_label(alloc, op, label)?;
+    if let Some(label) = label {
+        let name = Name::new(alloc, label)?;
+        let place = op.statements.len() as u8;
+        op.labels.push(Label { name, place })?;
+    }
     op.statements.push(statement)?;
     Ok(op)
 }
@@ -143,23 +126,14 @@ pub(crate) struct CodeLine<'a> {
     pub rest: &'a [&'a [u8]],
 }
 
-fn is_last(statement: &Statement) -> bool
-    ensures { result ≡ spec.is_last (Some statement.now) }
-{
-    matches!(
-        statement,
-        Statement::Jump(_) | Statement::Plain(Instr::Return(_))
-    )
-}
-
 /// Whether there is an instruction, and the last is `return` or `jump`.
 fn ends_well(op: &OpenOp) -> bool
     ensures { result ≡ spec.ends_well op.now }
 {
-    match op.statements.last() {
-        None => false,
-        Some(statement) => is_last(statement),
-    }
+    matches!(
+        op.statements.last(),
+        Some(Statement::Jump(_) | Statement::Plain(Instr::Return(_)))
+    )
 }
 
 /// Whether the label that a statement uses is there.
@@ -168,31 +142,26 @@ pub(crate) fn is_there(labels: &[Label], statement: &Statement) -> bool
 {
     match statement {
         Statement::Plain(_) => true,
-        Statement::Jump(label) => label_place(labels, label.as_bytes()).is_some(),
-        Statement::JumpIfZero(_, label) => label_place(labels, label.as_bytes()).is_some(),
+        Statement::Jump(label) | Statement::JumpIfZero(_, label) => {
+            find_label(labels, label.as_bytes()).is_some()
+        }
     }
-}
-
-fn all_there(labels: &[Label], statements: &[Statement]) -> bool
-    ensures { result ≡ spec.all_there labels.now statements.now }
-{
-    statements
-        .iter()
-        .all(|statement| is_there(labels, statement))
 }
 
 /// Whether each label that is used is there.
 fn are_there(op: &OpenOp) -> bool
     ensures { result ≡ spec.are_there op.now }
 {
-    all_there(&op.labels, &op.statements)
+    op.statements
+        .iter()
+        .all(|statement| is_there(&op.labels, statement))
 }
 
 /// The place of a label, which is there.
 fn target(labels: &[Label], label: &[u8]) -> u8
     ensures { result ≡ spec.target labels.now label.now }
 {
-    match labels.iter().find(|other| other.name.is(label)) {
+    match find_label(labels, label) {
         None => 0,
         Some(found) => found.place,
     }
@@ -375,12 +344,8 @@ impl ComponentDraft {
         if operation_number(&self.operations, name).is_some() {
             return Ok(Some(LangFaultKind::Name));
         }
-        self.begun = Some(OpenOp {
-            name: Name::new(alloc, name)?,
-            args: args as u8,
-            statements: Vec::new(alloc),
-            labels: Vec::new(alloc),
-        });
+        let name = Name::new(alloc, name)?;
+        self.begun = Some(OpenOp::new(alloc, name, args as u8));
         Ok(None)
     }
 
@@ -403,22 +368,6 @@ impl ComponentDraft {
             Ok(self.take_local(words))
         } else {
             Ok(Some(LangFaultKind::Form))
-        }
-    }
-
-    /// The first line with words.
-    fn take_first(
-        &mut self,
-        alloc: Global,
-        word: &[u8],
-        words: &[&[u8]],
-    ) -> Result<Option<LangFaultKind>, AllocError>
-        ensures { Takes self (spec.component_first self.old word.now (texts words.now)) result }
-    {
-        if word == b"component".as_slice() {
-            self.take_name(alloc, words)
-        } else {
-            Ok(Some(LangFaultKind::Missing))
         }
     }
 
@@ -449,28 +398,6 @@ impl ComponentDraft {
                 Ok(None)
             }
         }
-    }
-
-    /// An instruction after a label.
-    fn take_labelled<'a>(
-        &mut self,
-        alloc: Global,
-        op: OpenOp,
-        label: &'a [u8],
-        words: &'a [&'a [u8]],
-    ) -> Result<Option<LangFaultKind>, AllocError>
-        ensures { TakesInside self op (labelled self.old op label.now (texts words.now)) result }
-    {
-        let Some((word, rest)) = words.split_first() else {
-            self.begun = Some(op);
-            return Ok(Some(LangFaultKind::Form));
-        };
-        let code = CodeLine {
-            label: Some(label),
-            word,
-            rest,
-        };
-        self.take_code(alloc, op, code)
     }
 
     /// `end`
@@ -507,7 +434,16 @@ impl ComponentDraft {
         ensures { TakesInside self op (spec.inside self.old op word.now (texts words.now)) result }
     {
         if let Some(label) = label_in(word) {
-            return self.take_labelled(alloc, op, label, words);
+            let Some((word, rest)) = words.split_first() else {
+                self.begun = Some(op);
+                return Ok(Some(LangFaultKind::Form));
+            };
+            let code = CodeLine {
+                label: Some(label),
+                word,
+                rest,
+            };
+            return self.take_code(alloc, op, code);
         }
         if word == b"end".as_slice() {
             self.take_end(alloc, op, words)
@@ -533,7 +469,11 @@ impl ComponentDraft {
             return Ok(None);
         };
         if self.name.is_none() {
-            return self.take_first(alloc, word, rest);
+            return if *word == b"component".as_slice() {
+                self.take_name(alloc, rest)
+            } else {
+                Ok(Some(LangFaultKind::Missing))
+            };
         }
         match self.begun.take() {
             None => self.take_declaration(alloc, word, rest),

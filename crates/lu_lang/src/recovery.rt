@@ -11,12 +11,12 @@ ghost use Rattle.lu_text.specs.Results.{Builds, HasItems};
 ghost use Rattle.lu_lang.specs.Results.{BuildsLine};
 ghost use Rattle.lu_lang.specs.declared.recovery.Family.TheVariants.{Operation};
 
-use crate::after_fault::{bare, mended_draft};
-use crate::draft::{ComponentDraft, OpenOp};
+use crate::after_fault::{bare, mended_draft, split_label};
+use crate::draft::{ComponentDraft, Label, OpenOp};
 use crate::fault::LangFaultKind;
 use crate::instructions::{array_number, lock_number};
 use crate::keyword::{Keyword, keyword_in};
-use crate::reading::{has_label, label_in};
+use crate::reading::{find_label, label_in};
 use lu_text::{are_allowed, words_of};
 use std::alloc::{AllocError, Global};
 use std::marker::Model;
@@ -107,12 +107,13 @@ fn is_meant(meant: &[MeantName], family: Family, word: &[u8]) -> bool
     meant.iter().any(|name| name.family.is_same(family) && name.word.as_slice() == word)
 }
 
-fn open_has(begun: &Option<OpenOp>, label: &[u8]) -> bool
-    ensures { result ≡ spec.has_label begun.now label.now }
+/// The labels of the open operation, where one is.
+fn open_labels(begun: &Option<OpenOp>) -> &[Label]
+    ensures { result.now ≡ spec.open_labels begun.now }
 {
     match begun {
-        None => false,
-        Some(op) => has_label(op, label),
+        None => &[],
+        Some(op) => op.labels.as_slice(),
     }
 }
 
@@ -122,20 +123,8 @@ fn is_declared(draft: &ComponentDraft, family: Family, word: &[u8]) -> bool
     match family {
         Family::Array => array_number(draft, word).is_some(),
         Family::Lock => lock_number(draft, word).is_some(),
-        Family::Label(_) => open_has(&draft.begun, word),
+        Family::Label(_) => find_label(open_labels(&draft.begun), word).is_some(),
         Family::Operation => false,
-    }
-}
-
-fn first_label(begun: &Option<OpenOp>) -> Option<&[u8]>
-    ensures { text_if result ≡ spec.first_label begun.now }
-{
-    match begun {
-        None => None,
-        Some(op) => match op.labels.get(0) {
-            None => None,
-            Some(label) => Some(label.name.as_bytes()),
-        },
     }
 }
 
@@ -144,15 +133,9 @@ fn first_of(draft: &ComponentDraft, family: Family) -> Option<&[u8]>
     ensures { text_if result ≡ spec.first_of draft.now family }
 {
     match family {
-        Family::Array => match draft.arrays.get(0) {
-            None => None,
-            Some(array) => Some(array.name.as_bytes()),
-        },
-        Family::Lock => match draft.locks.get(0) {
-            None => None,
-            Some(lock) => Some(lock.as_bytes()),
-        },
-        Family::Label(_) => first_label(&draft.begun),
+        Family::Array => Some(draft.arrays.first()?.name.as_bytes()),
+        Family::Lock => Some(draft.locks.first()?.as_bytes()),
+        Family::Label(_) => Some(open_labels(&draft.begun).first()?.name.as_bytes()),
         Family::Operation => None,
     }
 }
@@ -362,53 +345,21 @@ fn declared_by(draft: &ComponentDraft, first: &[u8]) -> Option<Family>
     }
 }
 
-fn with_declared(
-    alloc: Global,
-    draft: &ComponentDraft,
-    meant: Vec<MeantName>,
-    family: Option<Family>,
-    words: &[&[u8]],
-) -> Result<Vec<MeantName>, AllocError>
-    ensures { HasItems result (spec.with_declared draft.now meant.items family (texts words.now)) }
-{
-    match (family, words.split_first()) {
-        (Some(family), Some((name, _))) => with_name(alloc, draft, meant, family, bare(name)),
-        _ => Ok(meant),
-    }
-}
-
-/// The names with that of a label of the open operation.
+/// The names with that of a label of the open operation, where there is one.
 fn with_label_name(
     alloc: Global,
     draft: &ComponentDraft,
     meant: Vec<MeantName>,
-    label: &[u8],
+    label: Option<&[u8]>,
 ) -> Result<Vec<MeantName>, AllocError>
-    ensures { HasItems result (spec.with_label_name draft.now meant.items label.now) }
+    ensures { HasItems result (spec.with_label_name draft.now meant.items (text_if label.entry)) }
 {
-    if draft.begun.is_some() {
-        let family = Family::Label(draft.operations.len());
-        with_name(alloc, draft, meant, family, label)
-    } else {
-        Ok(meant)
-    }
-}
-
-/// The names with those of a line after its label.
-fn with_after(
-    alloc: Global,
-    draft: &ComponentDraft,
-    meant: Vec<MeantName>,
-    words: &[&[u8]],
-) -> Result<Vec<MeantName>, AllocError>
-    ensures { HasItems result (spec.with_after draft.now meant.items (texts words.now)) }
-{
-    match words.split_first() {
-        None => Ok(meant),
-        Some((first, rest)) => {
-            let family = declared_by(draft, bare(first));
-            with_declared(alloc, draft, meant, family, rest)
+    match label {
+        Some(label) if draft.begun.is_some() => {
+            let family = Family::Label(draft.operations.len());
+            with_name(alloc, draft, meant, family, label)
         }
+        _ => Ok(meant),
     }
 }
 
@@ -421,15 +372,14 @@ fn with_names(
 ) -> Result<Vec<MeantName>, AllocError>
     ensures { HasItems result (spec.with_names draft.now meant.items (texts words.now)) }
 {
-    match words.split_first() {
-        None => Ok(meant),
-        Some((first, rest)) => match label_in(bare(first)) {
-            None => with_after(alloc, draft, meant, words),
-            Some(label) => {
-                let meant = with_label_name(alloc, draft, meant, label)?;
-                with_after(alloc, draft, meant, rest)
-            }
-        },
+    let (label, words) = split_label(words);
+    let meant = with_label_name(alloc, draft, meant, label)?;
+    let Some((first, rest)) = words.split_first() else {
+        return Ok(meant);
+    };
+    match (declared_by(draft, bare(first)), rest.split_first()) {
+        (Some(family), Some((name, _))) => with_name(alloc, draft, meant, family, bare(name)),
+        _ => Ok(meant),
     }
 }
 
@@ -444,20 +394,6 @@ fn operations_begun(draft: &ComponentDraft) -> usize
     }
 }
 
-/// The names with that of the open operation.
-fn with_open(
-    alloc: Global,
-    draft: &ComponentDraft,
-    meant: Vec<MeantName>,
-) -> Result<Vec<MeantName>, AllocError>
-    ensures { HasItems result (spec.with_open draft.now meant.items draft.now.begun) }
-{
-    match &draft.begun {
-        None => Ok(meant),
-        Some(op) => with_name(alloc, draft, meant, Family::Operation, op.name.as_bytes()),
-    }
-}
-
 /// The names with that of the open operation, where it is more than so many, which were begun
 /// before the line.
 fn with_operation(
@@ -466,12 +402,13 @@ fn with_operation(
     meant: Vec<MeantName>,
     before: usize,
 ) -> Result<Vec<MeantName>, AllocError>
-    ensures { HasItems result (spec.with_operation draft.now meant.items before) }
+    ensures { HasItems result (spec.with_operation draft.now meant.items draft.now.begun before) }
 {
-    if operations_begun(draft) == before {
-        Ok(meant)
-    } else {
-        with_open(alloc, draft, meant)
+    match &draft.begun {
+        Some(op) if operations_begun(draft) != before => {
+            with_name(alloc, draft, meant, Family::Operation, op.name.as_bytes())
+        }
+        _ => Ok(meant),
     }
 }
 

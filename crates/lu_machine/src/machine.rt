@@ -13,7 +13,7 @@ ghost use Rattle.lu_machine.specs.Acts.{IsDoneInOpen, IsOpening, Opens};
 ghost use Rattle.lu_machine.specs.Layout.{IsInCode, IsSound, IsSoundNext, IsStanding, StandsIn, ThreadStoodIn, WasIn};
 ghost use Rattle.lu_machine.specs.Events.{IsEventInRange};
 ghost use Rattle.lu_machine.specs.Ends.{HasStatus, IsFinished};
-ghost use Rattle.lu_machine.specs.Positions.{CanStandAt, at_position};
+ghost use Rattle.lu_machine.specs.Positions.{CanStand, CanStandAt, at_position, standing_so};
 ghost use Rattle.lu_machine.specs.Undoes.{CanTake, IsThere, LeadsBack, restored, with_shared, with_thread_before};
 ghost use Rattle.lu_machine.specs.Starts.{CanRun, IsMaking, IsStart, Makes, MakesAll, empty_state};
 ghost use Rattle.lu_machine.specs.Tasks.{IsAwaitable, task_at};
@@ -254,6 +254,20 @@ impl<'a> Machine<'a> {
         ensures { result ≡ value_at self.now place }
     {
         self.cells[place]
+    }
+
+    /// The value of each cell, those of one array after those of the other.
+    pub fn cells(&self) -> &[u32]
+        ensures { result.now ≡ self.now.cells }
+    {
+        &self.cells
+    }
+
+    /// Of each lock its owner, if it has one.
+    pub fn locks(&self) -> &[Option<u8>]
+        ensures { result.now ≡ self.now.locks }
+    {
+        &self.locks
     }
 
     /// The owner of the lock, if it has one. The lock is asked to be one of the component's.
@@ -616,9 +630,18 @@ impl<'a> Machine<'a> {
         requires { CanStandAt self.old.component self.old.matrix position.now }
         ensures { self.new ≡ at_position self.old position.now }
     {
-        self.cells.copy_from_slice(&position.cells);
-        self.locks.copy_from_slice(&position.locks);
-        self.threads.copy_from_slice(&position.threads);
+        self.stand_with(&position.cells, &position.locks, &position.threads);
+    }
+
+    /// Stands where the cells have these values, the locks have these owners, and the threads stand
+    /// so. A machine of the component and the matrix is asked to be able to.
+    pub fn stand_with(&mut self, cells: &[u32], locks: &[Option<u8>], threads: &[Thread])
+        requires { CanStand self.old.component self.old.matrix cells.now locks.now threads.now }
+        ensures { self.new ≡ standing_so self.old cells.now locks.now threads.now }
+    {
+        self.cells.copy_from_slice(cells);
+        self.locks.copy_from_slice(locks);
+        self.threads.copy_from_slice(threads);
     }
 
     /// The component that is run.

@@ -19,7 +19,8 @@ pub(crate) type Registers = [u32; 8];
 /// An open operation.
 #[derive(Clone, Copy, Debug, PartialEq, Eq, Hash)]
 pub struct Frame {
-    pub(crate) registers: Registers,
+    /// The values of `r0` to `r7`.
+    pub registers: [u32; 8],
 
     /// The number of the operation in its component.
     pub op: u8,

@@ -75,7 +75,8 @@ fn all_taken(history: &Kept<'_>, taken: &[u8; 8]) -> bool
 fn is_next(history: &Kept<'_>, taken: &[u8; 8], op: SerialOp) -> bool
     requires { IsWellFormed history.now }
     ensures next { TellsNext taken.now history.now op result }
-    ensures room { IsTrue result → (op.thread < MOST_THREADS) × (get_or taken.now op.thread 0 < MOST_CALLS_OF_THREAD) }
+    ensures thread { IsTrue result → op.thread < MOST_THREADS }
+    ensures room { IsTrue result → get_or taken.now op.thread 0 < MOST_CALLS_OF_THREAD }
 {
     if op.thread >= 8 {
         return false;
