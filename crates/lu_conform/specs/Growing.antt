@@ -8,7 +8,7 @@ use Rattle.lu_machine.specs.declared.event.Event.{Event}
 use Rattle.lu_machine.specs.Positions.{CanStandAt}
 use Rattle.lu_machine.specs.States.{State}
 use Rattle.lu_machine.specs.Steps.{Step}
-use Rattle.lu_conform.specs.declared.growing.Behind.{Behind}
+use Rattle.lu_conform.specs.declared.growing.SoFar.{SoFar}
 use Rattle.lu_conform.specs.declared.kept.Kept.{Kept}
 use Rattle.lu_conform.specs.declared.kept.Way.{Way}
 use Rattle.lu_conform.specs.Stages.{Follows, Stage, stage_of}
@@ -89,14 +89,14 @@ AddsHere s seen way old new =
     AddsStage s.component s.matrix (stage_of s seen) way.moves.items old.entries new.entries
 
 -- s is there after the move m with this event, or none, where that follows
-abbrev pub AddsAfter : {S : Type 0} → State → Behind → Move → Option Event
+abbrev pub AddsAfter : {S : Type 0} → State → SoFar → Move → Option Event
     → IndexMap Kept Way S → IndexMap Kept Way S → Type 0
-AddsAfter s behind m event old new =
-    AddsFollowing s behind.events.now behind.seen event (behind.moves.now ++ m ∷ [])
+AddsAfter s so_far m event old new =
+    AddsFollowing s so_far.events.now so_far.seen event (so_far.moves.now ++ m ∷ [])
     old.entries new.entries
 
 -- all stages to which moves of s lead that follow are there
-abbrev pub AddsAhead : {S : Type 0} → State → Behind → IndexMap Kept Way S → IndexMap Kept Way S
+abbrev pub AddsAhead : {S : Type 0} → State → SoFar → IndexMap Kept Way S → IndexMap Kept Way S
     → Type 0
-AddsAhead s behind old new =
-    AddsNext s behind.events.now behind.seen behind.moves.now old.entries new.entries
+AddsAhead s so_far old new =
+    AddsNext s so_far.events.now so_far.seen so_far.moves.now old.entries new.entries

@@ -9,10 +9,10 @@ use lu_machine::{Event, Machine};
 use lu_test::Move;
 use std::alloc::{AllocError, Global};
 
-/// What is after the stage from which moves are made: so many of the events of the history were
-/// seen, and these moves led there.
+/// How far a search has come at the stage from which moves are made: the first `seen` events of the
+/// history were seen, and these moves led there.
 #[derive(Clone, Copy)]
-pub(crate) struct Behind<'a> {
+pub(crate) struct SoFar<'a> {
     pub(crate) events: &'a [Event],
     pub(crate) seen: usize,
     pub(crate) moves: &'a [Move],
@@ -55,20 +55,20 @@ fn longer(alloc: Global, moves: &[Move], next: Move) -> Result<Way, AllocError>
 fn add_after(
     alloc: Global,
     machine: &Machine<'_>,
-    behind: Behind<'_>,
+    so_far: SoFar<'_>,
     next: Move,
     event: Option<Event>,
     stages: &mut Stages,
 ) -> Result<(), AllocError>
-    ensures { OnOk result (AddsAfter machine.now behind.entry next event stages.old stages.new) }
+    ensures { OnOk result (AddsAfter machine.now so_far.entry next event stages.old stages.new) }
 {
-    match seen_after(behind.events, behind.seen, event) {
+    match seen_after(so_far.events, so_far.seen, event) {
         None => Ok(()),
         Some(after) => add(
             alloc,
             machine,
             after,
-            longer(alloc, behind.moves, next)?,
+            longer(alloc, so_far.moves, next)?,
             stages,
         ),
     }
@@ -78,17 +78,17 @@ fn add_after(
 pub(crate) fn add_next(
     alloc: Global,
     machine: &mut Machine<'_>,
-    behind: Behind<'_>,
+    so_far: SoFar<'_>,
     stages: &mut Stages,
 ) -> Result<(), AllocError>
     ensures home { OnOk result (machine.new ≡ machine.old) }
-    ensures next { OnOk result (AddsAhead machine.old behind.entry stages.old stages.new) }
+    ensures next { OnOk result (AddsAhead machine.old so_far.entry stages.old stages.new) }
 {
     for thread in 0..machine.threads() {
         for pick in 0..machine.picks(thread) {
             let next = Move { thread, pick };
             let undo = machine.apply(next);
-            add_after(alloc, machine, behind, next, undo.event(), stages)?;
+            add_after(alloc, machine, so_far, next, undo.event(), stages)?;
             machine.undo(undo);
         }
     }

@@ -11,7 +11,7 @@ ghost use Rattle.lu_conform.specs.Showing.{IsShown};
 ghost use Rattle.lu_conform.specs.declared.shown.Shown.TheVariants.{By, Undecided};
 
 use crate::ending::is_end;
-use crate::growing::{Behind, add, add_next};
+use crate::growing::{SoFar, add, add_next};
 use crate::kept::Way;
 use crate::shown::Shown;
 use indexmap::IndexMap;
@@ -78,12 +78,12 @@ pub fn shown_by(
         if is_end(&machine, recorded, seen) {
             return Ok(by_way(moves));
         }
-        let behind = Behind {
+        let so_far = SoFar {
             events,
             seen,
             moves: &moves,
         };
-        add_next(alloc, &mut machine, behind, &mut stages)?;
+        add_next(alloc, &mut machine, so_far, &mut stages)?;
     }
     if stages.len() > MOST_STAGES {
         return Ok(Shown::Undecided);

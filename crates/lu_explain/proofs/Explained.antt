@@ -28,7 +28,7 @@ use Rattle.lu_witness.proofs.Beginnings.{begun_push, begun_witness}
 use Rattle.lu_witness.proofs.Entries.{entries-append, entries_own}
 use Rattle.lu_explain.specs.declared.explanation.Reason.{Reason}
 use Rattle.lu_explain.specs.declared.explanation.Reason.TheVariants.{After, Outcome, Nothing}
-use Rattle.lu_explain.specs.Explanations.{Begins, Behind, Explanation, IsBlocker, IsExplanation, IsFirstLongest, IsIn, IsLeastOutcome, IsPartialWitness, IsReasonNotNext, IsReasonOrDone, next, reason_of}
+use Rattle.lu_explain.specs.Explanations.{Begins, Following, Explanation, IsBlocker, IsExplanation, IsFirstLongest, IsIn, IsLeastOutcome, IsPartialWitness, IsReasonNotNext, IsReasonOrDone, next, reason_of}
 use Rattle.lu_explain.specs.Search.{GoesOnBy, IsLongestFrom, TellsStandings}
 use Rattle.lu_explain.specs.Laws.{AllIsWitness, ClosedHasEnds, FullHasEnds, NoneGoesOn, NothingLeft, OneExplanation, OneOutcomeAfter, OtherOutcome, StuckHasEnds, Taken}
 use Rattle.lu_explain.proofs.Partial.{begins_few, begun_parts, free_tells, in_counts, partial_from, partial_is}
@@ -65,9 +65,9 @@ module _ (h : List Event) (well : IsWellFormed h) where
         witnessed = is;
         order = found_order members order taken rest found;
         threads = l8;
-        left = λ t. elim (cases_lt t 8) as (λ _. IsReasonOrDone (Behind (IsMember members) order) h order t (get_or left t None)) [
-          | inl lt ↦ same_standing (IsMember rest) (Behind (IsMember members) order) (λ q m. sym (found.rest_is q) ∙ m) (λ q m. found.rest_is q ∙ m) h order t (get_or left t None) (stand t lt order found.taken_are begun)
-          | inr past ↦ subst (IsReasonOrDone (Behind (IsMember members) order) h order t) (sym (get_or_past left t None (omega arith))) (past_standing order t (begun_parts h order begun t) past)
+        left = λ t. elim (cases_lt t 8) as (λ _. IsReasonOrDone (Following (IsMember members) order) h order t (get_or left t None)) [
+          | inl lt ↦ same_standing (IsMember rest) (Following (IsMember members) order) (λ q m. sym (found.rest_is q) ∙ m) (λ q m. found.rest_is q ∙ m) h order t (get_or left t None) (stand t lt order found.taken_are begun)
+          | inr past ↦ subst (IsReasonOrDone (Following (IsMember members) order) h order t) (sym (get_or_past left t None (omega arith))) (past_standing order t (begun_parts h order begun t) past)
         ];
       }
 
@@ -136,8 +136,8 @@ one_explanation test h d e is also =
     let witnessed : d.witnessed ≡ e.witnessed = one_answer d.witnessed e.witnessed (HasWitness (Taken test) h) is.witnessed also.witnessed in
     let order : d.order ≡ e.order = same_order (IsPartialWitness (Taken test) h) d.order e.order is.order also.order in
     let left : d.left ≡ e.left = same_lists d.left e.left (is.threads ∙ sym also.threads) (λ t x lt.
-    let here = subst (λ p. IsReasonOrDone (Behind (Taken test) p) h p t (reason_of d t)) order (is.left t) in
-    let same : reason_of d t ≡ reason_of e t = one_standing (Behind (Taken test) e.order) h e.order t (reason_of d t) (reason_of e t) here (also.left t) in
+    let here = subst (λ p. IsReasonOrDone (Following (Taken test) p) h p t (reason_of d t)) order (is.left t) in
+    let same : reason_of d t ≡ reason_of e t = one_standing (Following (Taken test) e.order) h e.order t (reason_of d t) (reason_of e t) here (also.left t) in
     let within : t < length e.left = omega (arith, is.threads, also.threads) in
     get_or_default d.left t x None lt ∙ same ∙ get_or_default e.left t None x within) in
     same_parts d e.witnessed e.order e.left witnessed order left
@@ -181,12 +181,12 @@ none_left Rest h p t (Some r) all is = absurd (omega (arith, is.0))
 
 pub nothing_left : NothingLeft
 nothing_left test h e well is has t =
-    none_left (Behind (Taken test) e.order) h e.order t (reason_of e t) (whole_order h well (Taken test) e.order is.order has t) (is.left t)
+    none_left (Following (Taken test) e.order) h e.order t (reason_of e t) (whole_order h well (Taken test) e.order is.order has t) (is.left t)
 
 pub all_is_witness : AllIsWitness
 all_is_witness test h e well ends is all =
     let begun = partial_is h well (Taken test) e.order is.order.is in
-    let whole : (t : ℕ) → length (entries t e.order) ≡ length (part t h) = λ t. subst (IsReasonOrDone (Behind (Taken test) e.order) h e.order t) (all t) (is.left t) in
+    let whole : (t : ℕ) → length (entries t e.order) ≡ length (part t h) = λ t. subst (IsReasonOrDone (Following (Taken test) e.order) h e.order t) (all t) (is.left t) in
     let witness = begun_witness h well e.order begun whole in
     (witness, ends e.order is.order.is.begun witness.parts)
 
@@ -277,7 +277,7 @@ pub other_outcome : OtherOutcome
 other_outcome test h e t o well is reason same =
     let p : List SerialOp = e.order in
     let op : SerialOp = entry t o in
-    let standing = subst (IsReasonOrDone (Behind (Taken test) p) h p t) reason (is.left t) in
+    let standing = subst (IsReasonOrDone (Following (Taken test) p) h p t) reason (is.left t) in
     let free = standing.1.0 in
     let first = standing.1.1.is in
     let next_is : CanComeNext h p op = record { outcome = same; before = λ j u call. free_tells h well p (next t p) free j u call } in

@@ -10,7 +10,7 @@ use Rattle.lu_trie.specs.Conflicts.{IsDeterministic}
 use Rattle.lu_witness.specs.Witnesses.{HasWitness, IsMember, IsWitness, entries}
 use Rattle.lu_explain.specs.declared.explanation.Reason.TheVariants.{Outcome}
 use Rattle.lu_explain.specs.AnyOrders.{IsAnyOrder, AnyOrder, TellsAnyOrder}
-use Rattle.lu_explain.specs.Explanations.{Behind, Explanation, HasFirst, IsBeginningInSet, IsExplanation, IsPartialWitness, reason_of}
+use Rattle.lu_explain.specs.Explanations.{Following, Explanation, HasFirst, IsBeginningInSet, IsExplanation, IsPartialWitness, reason_of}
 
 -- the serial histories that a test takes
 abbrev pub Taken : (List SerialOp → Bool) → List SerialOp → Type 0
@@ -75,8 +75,8 @@ NoneGoesOn =
 abbrev pub OneOutcomeAfter : Type 0
 OneOutcomeAfter =
     (members : List (List SerialOp)) (p : List SerialOp) (t : ℕ) (o x : SerialOutcome)
-    → IsDeterministic members → HasFirst (Behind (IsMember members) p) t o
-    → HasFirst (Behind (IsMember members) p) t x → o ≡ x
+    → IsDeterministic members → HasFirst (Following (IsMember members) p) t o
+    → HasFirst (Following (IsMember members) p) t x → o ≡ x
 
 -- there is one least order of a kind with one first broken precedence, or none
 abbrev pub OneAnyOrder : Type 0

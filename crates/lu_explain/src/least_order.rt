@@ -6,6 +6,7 @@
 
 ghost use Rattle.std.specs.Prelude.{◌≡◌, ◌↔◌, ◌+◌, [], ◌∷◌, ◌≤◌, ◌<◌, IfSome, IsTrue, length, get_or};
 ghost use Rattle.lu_history.specs.Histories.{IsWellFormed};
+ghost use Rattle.lu_explain.specs.declared.operations.TheConstants.{MOST_OPERATIONS};
 ghost use Rattle.lu_explain.specs.AnyOrders.{TellsLeast};
 ghost use Rattle.lu_explain.specs.Search.{AreFewTaken, Completes, HasRestOfParts, IsNextOutcome, number};
 ghost use Rattle.lu_test.specs.declared.matrix.TheConstants.{MOST_CALLS_OF_THREAD, MOST_THREADS};
@@ -26,7 +27,7 @@ pub(crate) fn least<T: SerialTree>(
     requires history { IsWellFormed history.now }
     requires place { T.is_place tree.now place }
     requires few { AreFewTaken taken.now }
-    ensures count { IfSome result (λ order. length order + number taken.now ≤ 64) }
+    ensures count { IfSome result (λ order. length order + number taken.now ≤ MOST_OPERATIONS) }
     ensures least { TellsLeast (Completes (T.below tree.now place) history.now taken.now) result }
 {
     if is_done(tree, place, history, taken) {
@@ -46,7 +47,7 @@ pub(crate) fn least<T: SerialTree>(
 
 /// The order with the operation in front.
 fn in_front(op: SerialOp, mut order: Order) -> Order
-    requires { length order < 64 }
+    requires { length order < MOST_OPERATIONS }
     ensures { result ≡ op ∷ order }
 {
     order.put_first(op);

@@ -8,6 +8,7 @@ ghost use Rattle.std.specs.Prelude.{◌≡◌, ◌+◌, ◌<◌, ◌∷◌, IsTr
 ghost use Rattle.lu_history.specs.Histories.{IsWellFormed};
 ghost use Rattle.lu_test.specs.declared.matrix.TheConstants.{MOST_CALLS_OF_THREAD, MOST_THREADS};
 ghost use Rattle.lu_witness.specs.Search.{TakesOne, TellsNext};
+ghost use Rattle.lu_explain.specs.declared.operations.TheConstants.{MOST_OPERATIONS};
 ghost use Rattle.lu_explain.specs.Search.{AreFewTaken, IsLongestWay, IsOneMoreTaken, number};
 
 use crate::left_calls::blocker;
@@ -49,7 +50,7 @@ pub(crate) fn longest<T: SerialTree>(
         if is_next(history, taken, op) {
             let way = longest(tree, below, history, &one_more(taken, op.thread));
             if best.order.as_slice().len() <= way.order.as_slice().len() {
-                best = behind(op, way);
+                best = in_front(op, way);
             }
         }
     }
@@ -57,8 +58,8 @@ pub(crate) fn longest<T: SerialTree>(
 }
 
 /// The way with the operation in front.
-fn behind<P: Copy>(op: SerialOp, mut way: Way<P>) -> Way<P>
-    requires { length way.order < 64 }
+fn in_front<P: Copy>(op: SerialOp, mut way: Way<P>) -> Way<P>
+    requires { length way.order < MOST_OPERATIONS }
     ensures order { result.order ≡ op ∷ way.order }
     ensures taken { result.taken ≡ way.taken }
     ensures place { result.place ≡ way.place }

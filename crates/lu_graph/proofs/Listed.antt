@@ -14,7 +14,7 @@ use Rattle.lu_machine.specs.States.{State}
 use Rattle.lu_history.specs.declared.serial.SerialOp.{SerialOp}
 use Rattle.lu_history.proofs.Events.{at_push, take_next}
 use Rattle.lu_trie.specs.Branches.{Branch, joined}
-use Rattle.lu_trie.specs.Members.{behind, contains, empty_if, same_history}
+use Rattle.lu_trie.specs.Members.{after, contains, empty_if, same_history}
 use Rattle.lu_trie.proofs.Ops.{histories_equiv, same_histories_are}
 use Rattle.lu_witness.specs.Witnesses.{IsMember}
 use Rattle.lu_graph.specs.declared.ending.Ending.{Ending}
@@ -33,16 +33,16 @@ use Rattle.lu_graph.proofs.OtherSet.{ending_too}
 abbrev onto : List SerialOp → List (List SerialOp) → List (List SerialOp)
 onto path hs = map (λ q. path ++ q) hs
 
-onto_after : (path : List SerialOp) (op : SerialOp) (hs : List (List SerialOp)) → onto (path ++ op ∷ []) hs ≡ onto path (behind op hs)
+onto_after : (path : List SerialOp) (op : SerialOp) (hs : List (List SerialOp)) → onto (path ++ op ∷ []) hs ≡ onto path (after op hs)
 onto_after path op [] = refl
 onto_after path op (h ∷ hs) =
     ap (λ x. x ∷ onto (path ++ op ∷ []) hs) (append_assoc path (op ∷ []) h) ∙ ap (λ xs. (path ++ op ∷ h) ∷ xs) (onto_after path op hs)
 
-joined_push : (bs : List Branch) (b : Branch) → joined (bs ++ b ∷ []) ≡ joined bs ++ behind b.0 b.1
-joined_push [] b = append-nil (behind b.0 b.1)
-joined_push (c ∷ bs) b = ap (λ x. behind c.0 c.1 ++ x) (joined_push bs b) ∙ sym (append_assoc (behind c.0 c.1) (joined bs) (behind b.0 b.1))
+joined_push : (bs : List Branch) (b : Branch) → joined (bs ++ b ∷ []) ≡ joined bs ++ after b.0 b.1
+joined_push [] b = append-nil (after b.0 b.1)
+joined_push (c ∷ bs) b = ap (λ x. after c.0 c.1 ++ x) (joined_push bs b) ∙ sym (append_assoc (after c.0 c.1) (joined bs) (after b.0 b.1))
 
-joined_more : (bs : List Branch) (i : ℕ) (b : Branch) → slice_get bs i ≡ Some b → joined (take (i + 1) bs) ≡ joined (take i bs) ++ behind b.0 b.1
+joined_more : (bs : List Branch) (i : ℕ) (b : Branch) → slice_get bs i ≡ Some b → joined (take (i + 1) bs) ≡ joined (take i bs) ++ after b.0 b.1
 joined_more bs i b at =
     let next : take (i + 1) bs ≡ take i bs ++ b ∷ [] = rw (add-one i) (take_next bs b i at) in
     ap joined next ∙ joined_push (take i bs) b
@@ -52,7 +52,7 @@ module _ (base : List (List SerialOp)) (path : List SerialOp) (first : List (Lis
   pub listed_more : (found now : List (List SerialOp)) (i : ℕ) (op : SerialOp) (hs : List (List SerialOp)) → slice_get bs i ≡ Some (op, hs) → found ≡ base ++ map (λ q. path ++ q) (first ++ joined (take i bs)) → now ≡ found ++ map (λ q. (path ++ op ∷ []) ++ q) hs → now ≡ base ++ map (λ q. path ++ q) (first ++ joined (take (i + 1) bs))
   listed_more found now i op hs at before grown =
       let front = first ++ joined (take i bs) in
-      let more = behind op hs in
+      let more = after op hs in
       let whole : front ++ more ≡ first ++ joined (take (i + 1) bs) = append_assoc first (joined (take i bs)) more ∙ ap (λ x. first ++ x) (sym (joined_more bs i (op, hs) at)) in
       grown ∙ (ap (λ x. x ++ onto (path ++ op ∷ []) hs) before ∙ (append_assoc base (onto path front) (onto (path ++ op ∷ []) hs)
       ∙ ap (λ x. base ++ x) (ap (λ x. onto path front ++ x) (onto_after path op hs) ∙ (sym (map-append (λ q. path ++ q) front more) ∙ ap (onto path) whole))))

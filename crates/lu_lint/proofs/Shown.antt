@@ -5,7 +5,7 @@ use Rattle.std.proofs.lemmas.List.{drop_more, take_more, take_all, drop_all}
 use Rattle.std.proofs.lemmas.List.Concat.{flat_map-cons}
 use Rattle.std.proofs.lemmas.Grind.{flat_map-append}
 use Rattle.lu_history.specs.declared.serial.SerialOp.{SerialOp}
-use Rattle.lu_trie.specs.Members.{behind, contains, empty_if}
+use Rattle.lu_trie.specs.Members.{after, contains, empty_if}
 use Rattle.lu_trie.specs.Branches.{Branch, IsBranching, branches_of, joined, members_from}
 use Rattle.lu_spec.proofs.Sets.{joined_next}
 use Rattle.lu_lint.specs.declared.remark.Ending.{Ending}
@@ -44,11 +44,11 @@ no_more h i told total past so_far = rw (drop_all i h past) at so_far
 -- ---- the histories below a place
 
 -- those of a kid
-kid_hints : (path : List SerialOp) (op : SerialOp) (kid : List (List SerialOp)) → flat_map (λ h. history_hints (path ++ h)) (behind op kid) ≡ flat_map (λ h. history_hints ((path ++ op ∷ []) ++ h)) kid
+kid_hints : (path : List SerialOp) (op : SerialOp) (kid : List (List SerialOp)) → flat_map (λ h. history_hints (path ++ h)) (after op kid) ≡ flat_map (λ h. history_hints ((path ++ op ∷ []) ++ h)) kid
 kid_hints path op [] = refl
 kid_hints path op (h ∷ hs) =
-    flat_map-cons (λ x. history_hints (path ++ x)) (op ∷ h) (behind op hs)
-    ∙ (ap (λ (x : List SerialOp). history_hints x ++ flat_map (λ y. history_hints (path ++ y)) (behind op hs)) (sym (append_assoc path (op ∷ []) h))
+    flat_map-cons (λ x. history_hints (path ++ x)) (op ∷ h) (after op hs)
+    ∙ (ap (λ (x : List SerialOp). history_hints x ++ flat_map (λ y. history_hints (path ++ y)) (after op hs)) (sym (append_assoc path (op ∷ []) h))
     ∙ (ap (λ (x : List SerialHint). history_hints ((path ++ op ∷ []) ++ h) ++ x) (kid_hints path op hs)
     ∙ sym (flat_map-cons (λ x. history_hints ((path ++ op ∷ []) ++ x)) h hs)))
 
@@ -66,8 +66,8 @@ not_here told path ends e = rw e refl
 abbrev pub of_kids : List SerialHint → List SerialOp → List (List SerialOp) → ℕ → List SerialHint
 of_kids told path hs i = with_set told path (members_from (contains hs []) (take i (branches_of hs)))
 
-behind-append : (told : List SerialHint) (path : List SerialOp) (xs ys : List (List SerialOp)) → with_set told path (xs ++ ys) ≡ with_set (with_set told path xs) path ys
-behind-append told path xs ys =
+after-append : (told : List SerialHint) (path : List SerialOp) (xs ys : List (List SerialOp)) → with_set told path (xs ++ ys) ≡ with_set (with_set told path xs) path ys
+after-append told path xs ys =
     ap (with_firsts told) (flat_map-append (λ h. history_hints (path ++ h)) xs ys)
     ∙ firsts-append told (flat_map (λ h. history_hints (path ++ h)) xs) (flat_map (λ h. history_hints (path ++ h)) ys)
 
@@ -78,11 +78,11 @@ pub kid_more : (told so_far next : List SerialHint) (path : List SerialOp) (hs :
 kid_more told so_far next path hs i op kid at is more =
     let ends = empty_if (contains hs []) in
     let before = joined (take i (branches_of hs)) in
-    let all : ends ++ joined (take (i + 1) (branches_of hs)) ≡ (ends ++ before) ++ behind op kid = ap (λ (x : List (List SerialOp)). ends ++ x) (joined_next (branches_of hs) i op kid at) ∙ sym (append_assoc ends before (behind op kid)) in
+    let all : ends ++ joined (take (i + 1) (branches_of hs)) ≡ (ends ++ before) ++ after op kid = ap (λ (x : List (List SerialOp)). ends ++ x) (joined_next (branches_of hs) i op kid at) ∙ sym (append_assoc ends before (after op kid)) in
     more
     ∙ (ap (with_firsts so_far) (sym (kid_hints path op kid))
-    ∙ (ap (λ (x : List SerialHint). with_set x path (behind op kid)) is
-    ∙ (sym (behind-append told path (ends ++ before) (behind op kid))
+    ∙ (ap (λ (x : List SerialHint). with_set x path (after op kid)) is
+    ∙ (sym (after-append told path (ends ++ before) (after op kid))
     ∙ ap (with_set told path) (sym all))))
 
 pub all_kids : (told so_far : List SerialHint) (path : List SerialOp) (hs : List (List SerialOp)) (i : ℕ) → IsBranching hs → length (branches_of hs) ≤ i → so_far ≡ of_kids told path hs i → so_far ≡ with_set told path hs

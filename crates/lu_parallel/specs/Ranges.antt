@@ -1,6 +1,8 @@
 -- The options of a check, and their ranges.
 use Rattle.std.specs.Prelude.{ℕ, ◌≤◌}
+use Rattle.lu_board.specs.declared.view.TheConstants.{MAX_WORKERS}
 use Rattle.lu_report.specs.Limits.{IsSerialBound, most_moves}
+use Rattle.lu_tree.specs.declared.pieces.TheConstants.{MOST_DEPTH}
 
 -- what is chosen for a check
 pub record Options : Type 0 where
@@ -28,5 +30,5 @@ with_head_start looks c = record c { head_start = looks }
 pub record IsInRange (c : Options) : Type 0 where
   pub bound : c.bound ≤ most_moves
   pub serial : IsSerialBound c.serial
-  pub workers : (1 ≤ c.workers) × (c.workers ≤ 16)
-  pub depth : c.depth ≤ 8
+  pub workers : (1 ≤ c.workers) × (c.workers ≤ MAX_WORKERS)
+  pub depth : c.depth ≤ MOST_DEPTH

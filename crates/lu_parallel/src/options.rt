@@ -1,10 +1,14 @@
 //! The options of a check.
 
 ghost use Rattle.std.specs.Prelude.{◌≡◌, ◌≤◌, ◌↔◌, IsSome, IfSome};
+ghost use Rattle.lu_board.specs.declared.view.TheConstants.{MAX_WORKERS};
 ghost use Rattle.lu_report.specs.Limits.{IsSerialBound, most_moves};
+ghost use Rattle.lu_tree.specs.declared.pieces.TheConstants.{MOST_DEPTH};
 ghost use Rattle.lu_parallel.specs.Ranges.{IsInRange, choice, with_head_start};
 
+use lu_board::view::MAX_WORKERS;
 use lu_report::Bounds;
+use lu_tree::MOST_DEPTH;
 use std::marker::Model;
 
 /// The options of a check.
@@ -49,7 +53,7 @@ impl Options {
         ensures choice { IfSome result (λ o. o ≡ choice bound serial workers depth) }
     {
         let bounds = Bounds::new(bound, serial)?;
-        if workers < 1 || workers > 16 || depth > 8 {
+        if workers < 1 || u64::from(workers) > MAX_WORKERS || depth > MOST_DEPTH {
             return None;
         }
         Some(Options {
@@ -96,7 +100,7 @@ impl Options {
     /// The number of workers, 1 to 16.
     pub fn workers(&self) -> u8
         ensures workers { result ≡ self.now.workers }
-        ensures range { (1 ≤ result) × (result ≤ 16) }
+        ensures range { (1 ≤ result) × (result ≤ MAX_WORKERS) }
     {
         self.workers
     }
@@ -104,7 +108,7 @@ impl Options {
     /// The most moves of a piece, 0 to 8.
     pub fn depth(&self) -> u8
         ensures depth { result ≡ self.now.depth }
-        ensures range { result ≤ 8 }
+        ensures range { result ≤ MOST_DEPTH }
     {
         self.depth
     }

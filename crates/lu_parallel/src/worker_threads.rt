@@ -1,6 +1,7 @@
 //! Workers in threads of their own.
 
 ghost use Rattle.std.specs.Prelude.{◌≡◌, ◌≤◌, IfOk, All, vec_len};
+ghost use Rattle.lu_board.specs.declared.view.TheConstants.{MAX_WORKERS};
 ghost use Rattle.lu_parallel.specs.Works.{AreWorksFor, IsFresh, IsJob, IsLent, IsWorkFor};
 
 use crate::fault::CheckFault;
@@ -42,7 +43,7 @@ where
     T::Place: Send + Sync,
     requires job { IsLent job }
     requires fresh { All (IsFresh job.board.now.board) seats.items }
-    requires few { vec_len seats ≤ 16 }
+    requires few { vec_len seats ≤ MAX_WORKERS }
     ensures all { IfOk result (λ works. vec_len works ≡ vec_len seats) }
     ensures each { AreWorksFor job.entry (T.members job.entry.tree.now) result }
 {
@@ -97,7 +98,7 @@ where
     T::Place: Send + Sync,
     requires job { IsLent job }
     requires fresh { All (IsFresh job.board.now.board) seats.items }
-    requires few { vec_len seats ≤ 16 }
+    requires few { vec_len seats ≤ MAX_WORKERS }
     ensures all { IfOk result (λ works. vec_len works ≡ vec_len seats) }
     ensures each { AreWorksFor job.entry (T.members job.entry.tree.now) result }
 {
@@ -116,7 +117,7 @@ where
         |scope| -> Result<Vec<Work>, CheckFault>
             requires job { IsJob component.now matrix.now bound pieces.now board.now }
             requires fresh { All (IsFresh board.now.board) seats.items }
-            requires few { vec_len seats ≤ 16 }
+            requires few { vec_len seats ≤ MAX_WORKERS }
         {
             let space = SearchSpace {
                 alloc,

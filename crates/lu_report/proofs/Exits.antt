@@ -21,7 +21,7 @@ use Rattle.lu_report.specs.Parts.{AreLimits, IsJudgement, IsSerialBound, IsThrea
 use Rattle.lu_report.specs.Text.{number_line, earlier_line, fail_line, finding_lines, version_of, version_line, serial_lines, local_lines}
 use Rattle.lu_text.specs.Lines.{kept_lines}
 use Rattle.lu_history.specs.Serial.{IsOutcome}
-use Rattle.lu_report.specs.Forms.{AreBeforeLines, AreNone, IsEarlierLine, AreAfter, AreBounded, AreConflict, AreCountLines, AreCounts, AreCut, AreEarlier, AreFinding, AreJudgement, AreLocal, AreReport, AreRun, AreStuck, IsLineThen, Cuts, HasNo, IsBehind, IsFirst, IsNumberLine, IsScheduleLine, IsSoundFinding, IsVersionLine, SaysNumber, Spells, Stops, StopsAt}
+use Rattle.lu_report.specs.Forms.{AreBeforeLines, AreNone, IsEarlierLine, AreAfter, AreBounded, AreConflict, AreCountLines, AreCounts, AreCut, AreEarlier, AreFinding, AreJudgement, AreLocal, AreReport, AreRun, AreStuck, IsLineThen, Cuts, HasNo, IsAfterBound, IsFirst, IsNumberLine, IsScheduleLine, IsSoundFinding, IsVersionLine, SaysNumber, Spells, Stops, StopsAt}
 use Rattle.std.specs.Fmt.{decimal}
 use Rattle.std.proofs.lemmas.Fmt.{decimal_injective}
 use Rattle.std.proofs.lemmas.List.{append_assoc, append_cancel_left, append_cancel_right}
@@ -353,7 +353,7 @@ module _ (text : List ℕ) (e : Unread) where
     report_after bound rest says s = after_version (past_number (codes "bound ") 0 256 (AreAfter version) first e rest bound says s)
 
 -- the report that is read is spelled
-pub spelt : (version : Version) (bound : ℕ) (text first rest : List ℕ) (r : Report) → Cuts text (version_line version) first → SaysNumber (codes "bound ") 0 256 first bound rest → IsBehind version bound rest r → Spells text r
+pub spelt : (version : Version) (bound : ℕ) (text first rest : List ℕ) (r : Report) → Cuts text (version_line version) first → SaysNumber (codes "bound ") 0 256 first bound rest → IsAfterBound version bound rest r → Spells text r
 spelt version bound text first rest r kept says is =
     let whole : kept_lines text ≡ version_line version ∷ bound_line r.bound ∷ behind version r.serial r.local r.finding =
     kept ∙ ap (λ (x : List (List ℕ)). version_line version ∷ x) (says.2 ∙ (ap (λ n. bound_line n ∷ kept_lines rest) (sym is.bounded) ∙ ap (λ (x : List (List ℕ)). bound_line r.bound ∷ x) is.lines)) in

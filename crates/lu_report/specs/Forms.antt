@@ -173,7 +173,7 @@ IsConflictOf text f =
     IsSoundFinding f × (codes "nondeterministic\n" ∷ kept_lines text ≡ finding_lines f)
 
 -- the text is that of a report of this version after the line of this bound
-pub record IsBehind (version : Version) (bound : ℕ) (text : List ℕ) (r : Report) : Type 0 where
+pub record IsAfterBound (version : Version) (bound : ℕ) (text : List ℕ) (r : Report) : Type 0 where
   pub bounded : r.bound ≡ bound
   pub of : version ≡ version_of r.serial r.local
   pub limits : AreLimits r

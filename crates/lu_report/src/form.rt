@@ -5,7 +5,7 @@ ghost use Rattle.lu_report.specs.EveryLine as spec;
 ghost use Rattle.lu_report.specs.EveryLine.{IsFindingLine, IsJudgementLine, IsLineOf};
 ghost use Rattle.lu_report.specs.Forms.{IsEarlierLine, IsFailLine, IsNumberLine, IsScheduleLine, IsVersionLine};
 
-use crate::line::{earlier_in, is_line, number_behind, version_in, why_in};
+use crate::line::{earlier_in, is_line, number_after, version_in, why_in};
 use crate::version::Version;
 use lu_machine::MOST_MOVES;
 use lu_test::{ScheduleFault, read_schedule};
@@ -82,7 +82,7 @@ fn is_fail(line: &[u8]) -> bool
 fn is_number(line: &[u8], front: &str, least: u64, most: u64) -> bool
     ensures { IsTrue result ↔ IsNumberLine front.now least most line.now }
 {
-    match number_behind(line, front, most) {
+    match number_after(line, front, most) {
         None => false,
         Some(number) => least <= number,
     }

@@ -40,7 +40,7 @@ pub(crate) fn version_in(line: &[u8]) -> Option<Version>
 }
 
 /// The number of a line that has one of at most `most` after this front.
-pub(crate) fn number_behind(line: &[u8], front: &str, most: u64) -> Option<u64>
+pub(crate) fn number_after(line: &[u8], front: &str, most: u64) -> Option<u64>
     ensures some { IfSome result (λ n. (n ≤ most) × (line.now ≡ number_line front.now n)) }
     ensures none { IfNone result ((n : ℕ) →
         n ≤ most → line.now ≡ number_line front.now n → ⊥) }
@@ -61,7 +61,7 @@ pub(crate) fn earlier_in(line: &[u8]) -> Option<SerialOutcome>
     if is_line(line, "earlier stuck\n") {
         return Some(SerialOutcome::Stuck);
     }
-    let number = number_behind(line, "earlier ret ", 4_294_967_295)?;
+    let number = number_after(line, "earlier ret ", 4_294_967_295)?;
     Some(SerialOutcome::Ret(number as u32))
 }
 
@@ -74,6 +74,6 @@ pub(crate) fn why_in(line: &[u8]) -> Option<Why>
     if is_line(line, "fail complete\n") {
         return Some(Why::Complete);
     }
-    let thread = number_behind(line, "fail stuck ", 7)?;
+    let thread = number_after(line, "fail stuck ", 7)?;
     Some(Why::Stuck(thread as u8))
 }

@@ -9,10 +9,10 @@ ghost use Rattle.lu_report.specs.Text as spec;
 ghost use Rattle.lu_report.specs.Text.{earlier_line};
 ghost use Rattle.lu_report.specs.Parts.{IsJudgement, most_moves};
 ghost use Rattle.lu_history.specs.Serial.{IsOutcome};
-ghost use Rattle.lu_report.specs.Forms.{AreAfter, AreConflict, AreCountLines, AreCountsOf, AreFinding, AreJudgement, AreNone, AreReport, AreRun, Cuts, GivesReport, HasNo, IsBehind, IsConflictOf, IsEarlierLine, IsFault, IsFindingOf, IsNumberLine, IsScheduleLine, IsVersionLine, SaysNumber, Spells, Stops};
+ghost use Rattle.lu_report.specs.Forms.{AreAfter, AreConflict, AreCountLines, AreCountsOf, AreFinding, AreJudgement, AreNone, AreReport, AreRun, Cuts, GivesReport, HasNo, IsAfterBound, IsConflictOf, IsEarlierLine, IsFault, IsFindingOf, IsNumberLine, IsScheduleLine, IsVersionLine, SaysNumber, Spells, Stops};
 
 use crate::fault::{ReportFault, ReportFaultKind};
-use crate::line::{earlier_in, is_line, number_behind, version_in, why_in};
+use crate::line::{earlier_in, is_line, number_after, version_in, why_in};
 use crate::report::{Finding, Report};
 use crate::version::Version;
 use lu_history::SerialOutcome;
@@ -42,7 +42,7 @@ fn number_line<'a>(
     ensures fault { IfErr result (HasNo (IsNumberLine front.now least most) text.now) }
 {
     let (first, rest) = cut_line(text);
-    let Some(number) = number_behind(first, front, most) else {
+    let Some(number) = number_after(first, front, most) else {
         return Err(Unread::From(text));
     };
     if number < least {
@@ -187,7 +187,7 @@ fn read_after_bound(
     text: &[u8],
 ) -> Result<Report, Unread<'_>>
     requires { bound ≤ most_moves }
-    ensures found { IfOk result (IsBehind version bound text.now) }
+    ensures found { IfOk result (IsAfterBound version bound text.now) }
     ensures fault { IfErr result (Stops (AreAfter version) text.now) }
 {
     match version {

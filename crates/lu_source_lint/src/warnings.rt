@@ -4,6 +4,7 @@ ghost use Rattle.std.specs.Prelude.{false, ◌≡◌, ◌≤◌, ◌++◌, ◌+�
 ghost use Rattle.lu_text.specs.Lines.{lines_of, text_if, texts};
 ghost use Rattle.lu_text.specs.Results.{HasItems};
 ghost use Rattle.lu_source_text.specs.Grammar.{is_among, source_words};
+ghost use Rattle.lu_source_lint.specs.declared.warnings.TheConstants.{MOST_BLOCKS};
 ghost use Rattle.lu_source_lint.specs.Warnings as spec;
 ghost use Rattle.lu_source_lint.specs.Warnings.{lines_in};
 
@@ -146,7 +147,7 @@ fn one_if(so: bool) -> usize
 
 /// How many blocks are open after a line, where so many are before it.
 fn depth_after(depth: usize, words: &[&[u8]]) -> usize
-    requires { depth ≤ 16 }
+    requires { depth ≤ MOST_BLOCKS }
     ensures { result ≡ spec.depth_after depth (texts words.now) }
 {
     let closed = one_if(word_is(words, 0, b"}"));
@@ -156,7 +157,7 @@ fn depth_after(depth: usize, words: &[&[u8]]) -> usize
 
 fn stops(shared: &[&[u8]], depth: usize, words: &[&[u8]]) -> bool
     ensures stops { result ≡ spec.stops (texts shared.now) depth (texts words.now) }
-    ensures few { result ≡ false → depth ≤ 16 }
+    ensures few { result ≡ false → depth ≤ MOST_BLOCKS }
 {
     depth > MOST_BLOCKS || acts(shared, words)
 }

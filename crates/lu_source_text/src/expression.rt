@@ -3,6 +3,7 @@
 ghost use Rattle.std.specs.Prelude.{◌≡◌, ◌<◌, ◌≤◌, IfOk, length};
 ghost use Rattle.std.specs.Option.{option_map};
 ghost use Rattle.lu_text.specs.Lines.{texts};
+ghost use Rattle.lu_source.specs.declared.expr.TheConstants.{REGISTERS};
 ghost use Rattle.lu_source.specs.Evaluations.{expr_of};
 ghost use Rattle.lu_source.specs.Expressions.Expr.{Not};
 ghost use Rattle.lu_source_text.specs.Grammar as spec;
@@ -69,7 +70,7 @@ pub(crate) fn first_number<'a>(
 
 /// The register of a local.
 pub(crate) fn local_in(locals: &[Name], word: &[u8]) -> Option<u8>
-    requires { length locals.now ≤ 8 }
+    requires { length locals.now ≤ REGISTERS }
     ensures { result ≡ spec.local_in locals.now word.now }
 {
     Some(place_from(0, locals, word)? as u8)

@@ -2,6 +2,7 @@
 
 ghost use Rattle.std.specs.Prelude.{◌≡◌, ◌<◌, length, IfOk};
 ghost use Rattle.lu_text.specs.Lines.{texts};
+ghost use Rattle.lu_source.specs.declared.expr.TheConstants.{REGISTERS};
 ghost use Rattle.lu_source.specs.Evaluations.{expr_of};
 ghost use Rattle.lu_source.specs.Expressions as expressions;
 ghost use Rattle.lu_source.specs.Shapes.{tree_of};
@@ -48,7 +49,7 @@ fn let_in(
     words: &[&[u8]],
 ) -> Result<(Name, Stmt), Refusal>
     ensures read { ReadsLet result (in_begun spec.let_in draft.now begun.now words.now) }
-    ensures room { IfOk result (λ _. length begun.now.locals.items < 8) }
+    ensures room { IfOk result (λ _. length begun.now.locals.items < REGISTERS) }
 {
     let Some((word, rest)) = words.split_first() else {
         return Err(Refusal::Kind(SourceFaultKind::Form));

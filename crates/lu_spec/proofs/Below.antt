@@ -5,7 +5,7 @@ use Rattle.std.proofs.lemmas.List.{append-nil, take_all}
 use Rattle.std.proofs.lemmas.List.Elements.{All-cons, All-nil}
 use Rattle.lu_history.specs.declared.serial.SerialOp.{SerialOp}
 use Rattle.lu_history.specs.Serial.{IsSerial}
-use Rattle.lu_trie.specs.Members.{Adds, behind}
+use Rattle.lu_trie.specs.Members.{Adds, after}
 use Rattle.lu_trie.specs.Branches.{Branch, joined, branches_of, IsBranching}
 use Rattle.lu_spec.specs.Beginnings.{Has, IsBelow, AddsBelow}
 use Rattle.lu_spec.specs.Specs.{AllHaveOutcomes, HasOutcome}
@@ -29,14 +29,14 @@ below_more path xs ys q (inl is) = inl is
 below_more path xs ys q (inr (begin, h, e, b, has)) = inr (begin, h, e, b, has_left xs ys h has)
 
 -- with one kid more
-kid_below : (path : List SerialOp) (xs below : List (List SerialOp)) (op : SerialOp) (some : (h : List SerialOp) × Has below h) (q : List SerialOp) → IsBelow (path ++ op ∷ []) below q → IsBelow path (xs ++ behind op below) q
-kid_below path xs below op some q (inl is) = inr (op ∷ [], op ∷ some.0, is, (some.0, refl), has_right xs (behind op below) (op ∷ some.0) (after_has op below some.0 some.1))
+kid_below : (path : List SerialOp) (xs below : List (List SerialOp)) (op : SerialOp) (some : (h : List SerialOp) × Has below h) (q : List SerialOp) → IsBelow (path ++ op ∷ []) below q → IsBelow path (xs ++ after op below) q
+kid_below path xs below op some q (inl is) = inr (op ∷ [], op ∷ some.0, is, (some.0, refl), has_right xs (after op below) (op ∷ some.0) (after_has op below some.0 some.1))
 kid_below path xs below op some q (inr (begin, h, e, b, has)) =
-    inr (op ∷ begin, op ∷ h, e ∙ append_assoc path (op ∷ []) begin, (b.0, ap (λ (x : List SerialOp). op ∷ x) b.1), has_right xs (behind op below) (op ∷ h) (after_has op below h has))
+    inr (op ∷ begin, op ∷ h, e ∙ append_assoc path (op ∷ []) begin, (b.0, ap (λ (x : List SerialOp). op ∷ x) b.1), has_right xs (after op below) (op ∷ h) (after_has op below h has))
 
-below_kid : (path : List SerialOp) (xs below : List (List SerialOp)) (op : SerialOp) (q : List SerialOp) → IsBelow path (xs ++ behind op below) q → IsBelow path xs q ⊎ IsBelow (path ++ op ∷ []) below q
+below_kid : (path : List SerialOp) (xs below : List (List SerialOp)) (op : SerialOp) (q : List SerialOp) → IsBelow path (xs ++ after op below) q → IsBelow path xs q ⊎ IsBelow (path ++ op ∷ []) below q
 below_kid path xs below op q (inl is) = inl (inl is)
-below_kid path xs below op q (inr (begin, h, e, b, has)) = elim (has_either xs (behind op below) h has) [
+below_kid path xs below op q (inr (begin, h, e, b, has)) = elim (has_either xs (after op below) h has) [
   | inl before ↦ inl (inr (begin, h, e, b, before))
   | inr kid ↦ let found = has_after op below h kid in by_begin begin b.0 found.0 e (sym b.1 ∙ found.1) found.2
 ]
@@ -59,14 +59,14 @@ kid_added old mid new path hs i op below is at before kid q =
     let bs = branches_of hs in
     let xs = joined (take i bs) in
     let some = below_some bs i (op, below) is.branches.full at in
-    let next : joined (take (i + 1) bs) ≡ xs ++ behind op below = joined_next bs i op below at in
+    let next : joined (take (i + 1) bs) ≡ xs ++ after op below = joined_next bs i op below at in
     (λ has. subst (λ (x : List (List SerialOp)). Has old q ⊎ IsBelow path x q) (sym next) (forth ((kid q).0 has)), λ h. (kid q).1 (back (subst (λ (x : List (List SerialOp)). Has old q ⊎ IsBelow path x q) next h) some))
   where
-    forth : Has mid q ⊎ IsBelow (path ++ op ∷ []) below q → Has old q ⊎ IsBelow path (joined (take i (branches_of hs)) ++ behind op below) q
-    forth (inl has) = elim ((before q).0 has) [ inl was ↦ inl was | inr on ↦ inr (below_more path (joined (take i (branches_of hs))) (behind op below) q on) ]
+    forth : Has mid q ⊎ IsBelow (path ++ op ∷ []) below q → Has old q ⊎ IsBelow path (joined (take i (branches_of hs)) ++ after op below) q
+    forth (inl has) = elim ((before q).0 has) [ inl was ↦ inl was | inr on ↦ inr (below_more path (joined (take i (branches_of hs))) (after op below) q on) ]
     forth (inr on) = inr (kid_below path (joined (take i (branches_of hs))) below op (below_some (branches_of hs) i (op, below) is.branches.full at) q on)
 
-    back : Has old q ⊎ IsBelow path (joined (take i (branches_of hs)) ++ behind op below) q → ((h : List SerialOp) × Has below h) → Has mid q ⊎ IsBelow (path ++ op ∷ []) below q
+    back : Has old q ⊎ IsBelow path (joined (take i (branches_of hs)) ++ after op below) q → ((h : List SerialOp) × Has below h) → Has mid q ⊎ IsBelow (path ++ op ∷ []) below q
     back (inl was) some = inl ((before q).1 (inl was))
     back (inr on) some = elim (below_kid path (joined (take i (branches_of hs))) below op q on) [ inl left ↦ inl ((before q).1 (inr left)) | inr right ↦ inr right ]
 
@@ -109,7 +109,7 @@ kid_path hs path i op below is at serial =
 
 pub kid_outcomes : (hs : List (List SerialOp)) (i : ℕ) (op : SerialOp) (below : List (List SerialOp)) → slice_get (branches_of hs) i ≡ Some (op, below) → HasOutcome op → AllHaveOutcomes below → AllHaveOutcomes (joined (take i (branches_of hs))) → AllHaveOutcomes (joined (take (i + 1) (branches_of hs)))
 kid_outcomes hs i op below at first kid before q has =
-    elim (has_either (joined (take i (branches_of hs))) (behind op below) q (subst (λ (x : List (List SerialOp)). Has x q) (joined_next (branches_of hs) i op below at) has)) [
+    elim (has_either (joined (take i (branches_of hs))) (after op below) q (subst (λ (x : List (List SerialOp)). Has x q) (joined_next (branches_of hs) i op below at) has)) [
       | inl was ↦ before q was
       | inr here ↦
           let found = has_after op below q here in

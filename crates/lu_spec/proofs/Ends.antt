@@ -11,7 +11,7 @@ use Rattle.std.proofs.lemmas.List.Concat.{flat_map-cons}
 use Rattle.lu_text.proofs.Written.{each_append}
 use Rattle.lu_history.specs.declared.serial.SerialOp.{SerialOp}
 use Rattle.lu_history.specs.Order.{op_cmp}
-use Rattle.lu_trie.specs.Members.{behind}
+use Rattle.lu_trie.specs.Members.{after}
 use Rattle.lu_trie.specs.Branches.{Branch, joined, labels, branches_of, IsBranching}
 use Rattle.lu_trie.proofs.Trees.{branching-at}
 use Rattle.lu_spec.specs.Beginnings.{Has}
@@ -54,7 +54,7 @@ taken_below : (bs : List Branch) (i : ℕ) (b : Branch) (h : List SerialOp) → 
 unfolding IsStrictlySortedBy
 taken_below [] i b h sorted at has = absurd cc
 taken_below (k ∷ ks) zero b h sorted at has = absurd cc
-taken_below (k ∷ ks) (suc i) b h sorted at has = elim (has_either (behind k.0 k.1) (joined (take i ks)) h has) [
+taken_below (k ∷ ks) (suc i) b h sorted at has = elim (has_either (after k.0 k.1) (joined (take i ks)) h has) [
   | inl first ↦ let found = has_after k.0 k.1 h first in (k.0, found.0, found.1, label_below ks i sorted.0 at)
   | inr later ↦ taken_below ks i b h sorted.1 at later
 ]
@@ -116,19 +116,19 @@ module _ (below : List (List SerialOp)) (law : IsBranching below) (i : ℕ) (op 
     kid_ends listed more so_far ends = record {
       only = λ q has. elim (has_either listed more q has) [ inl was ↦ so_far.only q was | inr now ↦ kid_end q ((ends.are q).0 now) ];
       among = λ q has. elim (has_either listed more q has) [
-        | inl was ↦ let found = so_far.among q was in (found.0, found.1, subst (λ (x : List (List SerialOp)). Has x found.0) (sym next) (has_left (joined (take i (branches_of below))) (behind op kid) found.0 found.2))
+        | inl was ↦ let found = so_far.among q was in (found.0, found.1, subst (λ (x : List (List SerialOp)). Has x found.0) (sym next) (has_left (joined (take i (branches_of below))) (after op kid) found.0 found.2))
         | inr now ↦
             let end = (ends.are q).0 now in
-            (op ∷ end.rest, end.is ∙ append_assoc path (op ∷ []) end.rest, subst (λ (x : List (List SerialOp)). Has x (op ∷ end.rest)) (sym next) (has_right (joined (take i (branches_of below))) (behind op kid) (op ∷ end.rest) (after_has op kid end.rest end.member)))
+            (op ∷ end.rest, end.is ∙ append_assoc path (op ∷ []) end.rest, subst (λ (x : List (List SerialOp)). Has x (op ∷ end.rest)) (sym next) (has_right (joined (take i (branches_of below))) (after op kid) (op ∷ end.rest) (after_has op kid end.rest end.member)))
       ];
-      each = λ q end has. elim (has_either (joined (take i (branches_of below))) (behind op kid) end.rest (subst (λ (x : List (List SerialOp)). Has x end.rest) next has)) [
+      each = λ q end has. elim (has_either (joined (take i (branches_of below))) (after op kid) end.rest (subst (λ (x : List (List SerialOp)). Has x end.rest) next has)) [
         | inl was ↦ has_left listed more q (so_far.each q end was)
         | inr here ↦ let found = has_after op kid end.rest here in has_right listed more q ((ends.are q).1 (end_kid q end found.0 found.1 found.2))
       ];
       rises = rises_on listed more so_far.rises ends.rises across;
     }
       where
-        next : joined (take (i + 1) (branches_of below)) ≡ joined (take i (branches_of below)) ++ behind op kid
+        next : joined (take (i + 1) (branches_of below)) ≡ joined (take i (branches_of below)) ++ after op kid
         next = joined_next (branches_of below) i op kid at
 
         across : (p q : List SerialOp) → Has listed p → Has more q → ComesAfter p q

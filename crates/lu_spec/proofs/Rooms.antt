@@ -8,7 +8,7 @@ use Rattle.std.proofs.lemmas.Option.{slice_get_past}
 use Rattle.lu_test.specs.declared.matrix.Call.{Call}
 use Rattle.lu_test.specs.Matrix.{Matrix, calls_of}
 use Rattle.lu_history.specs.declared.serial.SerialOp.{SerialOp}
-use Rattle.lu_trie.specs.Members.{behind}
+use Rattle.lu_trie.specs.Members.{after}
 use Rattle.lu_trie.specs.Branches.{Branch, joined, branches_of, IsBranching}
 use Rattle.lu_witness.specs.Witnesses.{entries}
 use Rattle.lu_witness.proofs.Entries.{entries_own}
@@ -51,7 +51,7 @@ fit_none left q has = absurd cc
 module _ (left : List ℕ) (hs : List (List SerialOp)) (is : IsBranching hs) (i : ℕ) (op : SerialOp) (below : List (List SerialOp)) (at : slice_get (branches_of hs) i ≡ Some (op, below)) where
   pub kid_fits : op.thread < length left → 0 < get_or left op.thread 0 → AllFitIn left (joined (take i (branches_of hs))) → AllFitIn (lessened left op.thread) below → AllFitIn left (joined (take (i + 1) (branches_of hs)))
   kid_fits within some before kid q has =
-      elim (has_either (joined (take i (branches_of hs))) (behind op below) q (subst (λ (x : List (List SerialOp)). Has x q) (joined_next (branches_of hs) i op below at) has)) [
+      elim (has_either (joined (take i (branches_of hs))) (after op below) q (subst (λ (x : List (List SerialOp)). Has x q) (joined_next (branches_of hs) i op below at) has)) [
         | inl was ↦ before q was
         | inr here ↦ let found = has_after op below q here in subst (FitsIn left) (sym found.1) (fits_more left op found.0 within some (kid found.0 found.2))
       ]

@@ -4,7 +4,7 @@ use Rattle.std.proofs.lemmas.List.{append-nil}
 use Rattle.lu_history.specs.declared.serial.SerialOp.{SerialOp}
 use Rattle.lu_history.specs.Serial.{IsSerial}
 use Rattle.lu_history.proofs.Events.{take_next}
-use Rattle.lu_trie.specs.Members.{contains, same_history, Adds, behind, empty_if}
+use Rattle.lu_trie.specs.Members.{contains, same_history, Adds, after, empty_if}
 use Rattle.lu_trie.specs.Branches.{Branch, joined, branches_of, NoneBare, IsBranching}
 use Rattle.lu_trie.proofs.Membership.{split_or, contains-append}
 use Rattle.lu_trie.proofs.Ops.{histories_equiv, same_histories_are}
@@ -46,18 +46,18 @@ has_some [] some = absurd (some refl)
 has_some (h ∷ hs) some = (h, has_first h hs)
 
 -- after an entry
-pub has_after : (op : SerialOp) (hs : List (List SerialOp)) (q : List SerialOp) → Has (behind op hs) q → (h : List SerialOp) × (q ≡ op ∷ h) × Has hs h
+pub has_after : (op : SerialOp) (hs : List (List SerialOp)) (q : List SerialOp) → Has (after op hs) q → (h : List SerialOp) × (q ≡ op ∷ h) × Has hs h
 has_after op [] q has = absurd cc
-has_after op (h ∷ hs) q has = elim (has_cons (op ∷ h) (behind op hs) q has) [
+has_after op (h ∷ hs) q has = elim (has_cons (op ∷ h) (after op hs) q has) [
   | inl is ↦ (h, is, has_first h hs)
   | inr later ↦ let found = has_after op hs q later in (found.0, found.1, has_next h hs found.0 found.2)
 ]
 
-pub after_has : (op : SerialOp) (hs : List (List SerialOp)) (h : List SerialOp) → Has hs h → Has (behind op hs) (op ∷ h)
+pub after_has : (op : SerialOp) (hs : List (List SerialOp)) (h : List SerialOp) → Has hs h → Has (after op hs) (op ∷ h)
 after_has op [] h has = absurd cc
 after_has op (first ∷ hs) h has = elim (has_cons first hs h has) [
-  | inl is ↦ let same : op ∷ h ≡ op ∷ first = ap (λ (x : List SerialOp). op ∷ x) is in subst (Has (behind op (first ∷ hs))) (sym same) (has_first (op ∷ first) (behind op hs))
-  | inr later ↦ has_next (op ∷ first) (behind op hs) (op ∷ h) (after_has op hs h later)
+  | inl is ↦ let same : op ∷ h ≡ op ∷ first = ap (λ (x : List SerialOp). op ∷ x) is in subst (Has (after op (first ∷ hs))) (sym same) (has_first (op ∷ first) (after op hs))
+  | inr later ↦ has_next (op ∷ first) (after op hs) (op ∷ h) (after_has op hs h later)
 ]
 
 -- the old members, and one more
@@ -73,15 +73,15 @@ old_kept old new h q adds has = adds q ∙ or_right (same_history q h) (contains
 -- the branches up to one, and that one
 joined-append : (xs ys : List Branch) → joined (xs ++ ys) ≡ joined xs ++ joined ys
 joined-append [] ys = refl
-joined-append (k ∷ ks) ys = ap (λ (z : List (List SerialOp)). behind k.0 k.1 ++ z) (joined-append ks ys) ∙ sym (append_assoc (behind k.0 k.1) (joined ks) (joined ys))
+joined-append (k ∷ ks) ys = ap (λ (z : List (List SerialOp)). after k.0 k.1 ++ z) (joined-append ks ys) ∙ sym (append_assoc (after k.0 k.1) (joined ks) (joined ys))
 
-pub joined_next : (bs : List Branch) (i : ℕ) (op : SerialOp) (below : List (List SerialOp)) → slice_get bs i ≡ Some (op, below) → joined (take (i + 1) bs) ≡ joined (take i bs) ++ behind op below
+pub joined_next : (bs : List Branch) (i : ℕ) (op : SerialOp) (below : List (List SerialOp)) → slice_get bs i ≡ Some (op, below) → joined (take (i + 1) bs) ≡ joined (take i bs) ++ after op below
 joined_next bs i op below at =
     let e : i + 1 ≡ suc i = omega arith in
     ap (λ (n : ℕ). joined (take n bs)) e
     ∙ (ap joined (take_next bs (op, below) i at)
     ∙ (joined-append (take i bs) ((op, below) ∷ [])
-    ∙ ap (λ (z : List (List SerialOp)). joined (take i bs) ++ z) (append-nil (behind op below))))
+    ∙ ap (λ (z : List (List SerialOp)). joined (take i bs) ++ z) (append-nil (after op below))))
 
 -- below each branch there is a history
 pub below_some : (bs : List Branch) (i : ℕ) (b : Branch) → NoneBare bs → slice_get bs i ≡ Some b → (h : List SerialOp) × Has b.1 h
@@ -92,8 +92,8 @@ below_some (k ∷ ks) (suc i) b full at = below_some ks i b full.1 at
 -- a history of a branch
 pub in_joined : (bs : List Branch) (i : ℕ) (b : Branch) (h : List SerialOp) → slice_get bs i ≡ Some b → Has b.1 h → Has (joined bs) (b.0 ∷ h)
 in_joined [] i b h at has = absurd cc
-in_joined (k ∷ ks) zero b h at has = let e : b ≡ k = cc in has_left (behind k.0 k.1) (joined ks) (b.0 ∷ h) (subst (λ (x : Branch). Has (behind x.0 x.1) (b.0 ∷ h)) e (after_has b.0 b.1 h has))
-in_joined (k ∷ ks) (suc i) b h at has = has_right (behind k.0 k.1) (joined ks) (b.0 ∷ h) (in_joined ks i b h at has)
+in_joined (k ∷ ks) zero b h at has = let e : b ≡ k = cc in has_left (after k.0 k.1) (joined ks) (b.0 ∷ h) (subst (λ (x : Branch). Has (after x.0 x.1) (b.0 ∷ h)) e (after_has b.0 b.1 h has))
+in_joined (k ∷ ks) (suc i) b h at has = has_right (after k.0 k.1) (joined ks) (b.0 ∷ h) (in_joined ks i b h at has)
 
 -- the members: the empty one, or one of a branch
 pub parted : (hs : List (List SerialOp)) (q : List SerialOp) → IsBranching hs → Has hs q → (q ≡ []) ⊎ Has (joined (branches_of hs)) q

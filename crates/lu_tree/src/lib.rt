@@ -38,7 +38,7 @@ mod walk;
 mod watch;
 
 pub use found::Found;
-pub use pieces::frontier;
+pub use pieces::{MOST_DEPTH, frontier};
 pub use searching::{search, search_watched, search_with};
 pub use space::SearchSpace;
 pub use tables::Tables;

@@ -8,6 +8,7 @@ ghost use Rattle.lu_test.specs.Matrix.{IsMatrix};
 ghost use Rattle.lu_test.specs.Schedule.{IsMove};
 ghost use Rattle.lu_machine.specs.Schedules.{IsSchedule, Lists};
 ghost use Rattle.lu_machine.specs.Starts.{CanRun};
+ghost use Rattle.lu_tree.specs.declared.pieces.TheConstants.{MOST_DEPTH, MOST_PIECES};
 ghost use Rattle.lu_tree.specs.Pieces.{AreDeeper, GrowByKids, HasKids, IsCoverFrom, IsFrontierFrom, TooMany};
 
 use lu_component::Component;
@@ -17,6 +18,9 @@ use std::alloc::{AllocError, Global};
 
 /// How many pieces a frontier has at most.
 const MOST_PIECES: usize = 65_536;
+
+/// The most moves of a piece.
+pub const MOST_DEPTH: u8 = 8;
 
 /// The piece with one more move.
 fn extend(alloc: Global, piece: &Schedule, next: Move) -> Result<Schedule, AllocError>
@@ -91,7 +95,7 @@ fn go_deeper(
     requires short { (u : List AMove) → Lists pieces.now u → length u ≤ MOST_MOVES }
     requires leads { (u : List AMove) → Lists pieces.now u → IsSchedule machine.old u }
     ensures home { OnOk result (machine.new ≡ machine.old) }
-    ensures few { IfOk result (λ deeper. IfSome deeper (λ next. length next.items ≤ 65536)) }
+    ensures few { IfOk result (λ deeper. IfSome deeper (λ next. length next.items ≤ MOST_PIECES)) }
     ensures some { IfOk result (λ d. IfSome d (λ p. AreDeeper machine.old pieces.now p.items)) }
     ensures none { IfOk result (λ deeper. IfNone deeper (TooMany machine.old pieces.now)) }
 {
@@ -122,7 +126,7 @@ pub fn frontier(
 ) -> Result<Vec<Schedule>, AllocError>
     requires of { CanRun component.now matrix.now }
     requires few { bound ≤ MOST_MOVES }
-    requires shallow { depth ≤ 8 }
+    requires shallow { depth ≤ MOST_DEPTH }
     ensures frontier { IfOk result (IsFrontierFrom component.now matrix.now bound depth) }
     ensures cover { IfOk result (λ p. IsCoverFrom component.now matrix.now bound p.items) }
     ensures limits { IsComponent component.now × IsMatrix matrix.now }

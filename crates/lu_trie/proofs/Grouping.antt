@@ -5,7 +5,7 @@ use Rattle.std.specs.Ordering.{is_eq}
 use Rattle.std.proofs.lemmas.Option.{slice_get_read}
 use Rattle.lu_history.specs.declared.serial.SerialOp.{SerialOp}
 use Rattle.lu_history.specs.Order.{op_cmp}
-use Rattle.lu_trie.specs.Members.{same_op, contains, behind}
+use Rattle.lu_trie.specs.Members.{same_op, contains, after}
 use Rattle.lu_trie.specs.Branches.{Branch, labels, joined, members_from, with_first, branches_of, NoneBare, AreBranches, IsBranching}
 use Rattle.lu_trie.proofs.Ops.{ops_equiv}
 use Rattle.lu_trie.proofs.Membership.{node-nil}
@@ -22,11 +22,11 @@ alone op h (b ∷ bs) apart = ap (λ t. if t then (b.0, h ∷ b.1) ∷ bs else (
 joins : (op : SerialOp) (h : List SerialOp) (hs : List (List SerialOp)) (bs : List Branch) → with_first op h ((op, hs) ∷ bs) ≡ (op, h ∷ hs) ∷ bs
 joins op h hs bs = ap (λ t. if t then (op, h ∷ hs) ∷ bs else (op, h ∷ []) ∷ (op, hs) ∷ bs) (ops_equiv.refl op)
 
-branches-behind : (op : SerialOp) (hs rest : List (List SerialOp)) → hs ≢ [] → StartsApart op (branches_of rest) → branches_of (behind op hs ++ rest) ≡ (op, hs) ∷ branches_of rest
-branches-behind op [] rest full apart = absurd (full refl)
-branches-behind op (h ∷ []) rest full apart = alone op h (branches_of rest) apart
-branches-behind op (h ∷ x ∷ hs) rest full apart =
-    ap (with_first op h) (branches-behind op (x ∷ hs) rest (λ e. cc) apart)
+branches-after : (op : SerialOp) (hs rest : List (List SerialOp)) → hs ≢ [] → StartsApart op (branches_of rest) → branches_of (after op hs ++ rest) ≡ (op, hs) ∷ branches_of rest
+branches-after op [] rest full apart = absurd (full refl)
+branches-after op (h ∷ []) rest full apart = alone op h (branches_of rest) apart
+branches-after op (h ∷ x ∷ hs) rest full apart =
+    ap (with_first op h) (branches-after op (x ∷ hs) rest (λ e. cc) apart)
     ∙ joins op h (x ∷ hs) (branches_of rest)
 
 starts_apart : (op : SerialOp) (bs : List Branch) → IsStrictlySortedBy op_cmp (op ∷ labels bs) → StartsApart op bs
@@ -39,7 +39,7 @@ unfolding IsStrictlySortedBy
 branches-joined [] rise full = refl
 branches-joined (k ∷ ks) rise full =
     let rest = branches-joined ks rise.1 full.1 in
-    branches-behind k.0 k.1 (joined ks) full.0 (subst (StartsApart k.0) (sym rest) (starts_apart k.0 ks rise))
+    branches-after k.0 k.1 (joined ks) full.0 (subst (StartsApart k.0) (sym rest) (starts_apart k.0 ks rise))
     ∙ ap (λ bs. (k.0, k.1) ∷ bs) rest
 
 -- a node's members have the branches that they are made from

@@ -31,9 +31,9 @@ or_false true = refl
 or_false false = refl
 
 -- a node has one more history, where its kids do
-adds-behind : (ends : Bool) (kids kids' : List (Branch)) (label : SerialOp) (rest : List SerialOp) → ((p : SerialOp) (q : List SerialOp) → kids_contain kids' p q ≡ ((same_op p label && same_history q rest) || kids_contain kids p q)) → Adds (members_from ends kids) (members_from ends kids') (label ∷ rest)
-adds-behind ends kids kids' label rest more [] = node-nil ends kids' ∙ sym (node-nil ends kids)
-adds-behind ends kids kids' label rest more (p ∷ q) =
+adds-after : (ends : Bool) (kids kids' : List (Branch)) (label : SerialOp) (rest : List SerialOp) → ((p : SerialOp) (q : List SerialOp) → kids_contain kids' p q ≡ ((same_op p label && same_history q rest) || kids_contain kids p q)) → Adds (members_from ends kids) (members_from ends kids') (label ∷ rest)
+adds-after ends kids kids' label rest more [] = node-nil ends kids' ∙ sym (node-nil ends kids)
+adds-after ends kids kids' label rest more (p ∷ q) =
     node-cons ends kids' p q
     ∙ more p q
     ∙ ap (λ b. b || kids_contain kids p q) (sym (then_is_eq (op_cmp p label) (history_cmp q rest)))
@@ -44,12 +44,12 @@ module _ (ends : Bool) (kids : List (Branch)) (h : List SerialOp) (d : SerialOp)
   adds-set read is_read at label adds =
       let old : read.1 ≡ (get_or kids i kid).1 = ap (λ (k : Branch). k.1) (is_read ∙ get_or_default kids i read kid at.in_range) in
       subst (Adds (members_from ends kids) (members_from ends (set kids i kid))) (ap (λ l. l ∷ rest_of h) label ∙ sym (first_and_rest h d some))
-      (adds-behind ends kids (set kids i kid) kid.0 (rest_of h) (kids-set kids i kid (rest_of h) at.in_range (label ∙ sym (at.has_label kid)) (subst (λ b. Adds b kid.1 (rest_of h)) old adds)))
+      (adds-after ends kids (set kids i kid) kid.0 (rest_of h) (kids-set kids i kid (rest_of h) at.in_range (label ∙ sym (at.has_label kid)) (subst (λ b. Adds b kid.1 (rest_of h)) old adds)))
 
   pub adds-insert : kid.0 ≡ get_or h 0 d → kid.1 ≡ rest_of h ∷ [] → Adds (members_from ends kids) (members_from ends (insert kids i kid)) h
   adds-insert label one =
       subst (Adds (members_from ends kids) (members_from ends (insert kids i kid))) (ap (λ l. l ∷ rest_of h) label ∙ sym (first_and_rest h d some))
-      (adds-behind ends kids (insert kids i kid) kid.0 (rest_of h) (λ p q.
+      (adds-after ends kids (insert kids i kid) kid.0 (rest_of h) (λ p q.
       kids-insert kids i kid p q
       ∙ ap (λ xs. (same_op p kid.0 && contains xs q) || kids_contain kids p q) one
       ∙ ap (λ b. (same_op p kid.0 && b) || kids_contain kids p q) (or_false (same_history q (rest_of h)))))

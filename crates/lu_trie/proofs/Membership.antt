@@ -8,7 +8,7 @@ use Rattle.std.specs.declared.cmp.Ordering.{Ordering}
 use Rattle.std.specs.declared.cmp.Ordering.TheVariants.{Less, Greater}
 use Rattle.lu_history.specs.declared.serial.SerialOp.{SerialOp}
 use Rattle.lu_history.specs.Order.{op_cmp}
-use Rattle.lu_trie.specs.Members.{same_op, same_history, history_cmp, contains, Adds, behind}
+use Rattle.lu_trie.specs.Members.{same_op, same_history, history_cmp, contains, Adds, after}
 use Rattle.lu_trie.specs.Branches.{Branch, labels, joined, members_from, AreBranches, IsBranchAt, IsGapFor}
 use Rattle.lu_trie.proofs.Ops.{then_is_eq, ops_equiv, ops_total}
 use Rattle.lu_trie.proofs.Kids.{all-from_places}
@@ -39,19 +39,19 @@ pub contains-append : (xs ys : List (List SerialOp)) (q : List SerialOp) → con
 contains-append [] ys q = refl
 contains-append (x ∷ xs) ys q = ap (λ b. same_history q x || b) (contains-append xs ys q) ∙ sym (or_assoc (same_history q x) (contains xs q) (contains ys q))
 
-behind-nil : (op : SerialOp) (xs : List (List SerialOp)) → contains (behind op xs) [] ≡ false
-behind-nil op [] = refl
-behind-nil op (x ∷ xs) = behind-nil op xs
+after-nil : (op : SerialOp) (xs : List (List SerialOp)) → contains (after op xs) [] ≡ false
+after-nil op [] = refl
+after-nil op (x ∷ xs) = after-nil op xs
 
 and_false : (a : Bool) → (a && false) ≡ false
 and_false true = refl
 and_false false = refl
 
-behind-cons : (op : SerialOp) (xs : List (List SerialOp)) (p : SerialOp) (q : List SerialOp) → contains (behind op xs) (p ∷ q) ≡ (same_op p op && contains xs q)
-behind-cons op [] p q = sym (and_false (same_op p op))
-behind-cons op (x ∷ xs) p q =
-    ap (λ b. b || contains (behind op xs) (p ∷ q)) (then_is_eq (op_cmp p op) (history_cmp q x))
-    ∙ ap (λ b. (same_op p op && same_history q x) || b) (behind-cons op xs p q)
+after-cons : (op : SerialOp) (xs : List (List SerialOp)) (p : SerialOp) (q : List SerialOp) → contains (after op xs) (p ∷ q) ≡ (same_op p op && contains xs q)
+after-cons op [] p q = sym (and_false (same_op p op))
+after-cons op (x ∷ xs) p q =
+    ap (λ b. b || contains (after op xs) (p ∷ q)) (then_is_eq (op_cmp p op) (history_cmp q x))
+    ∙ ap (λ b. (same_op p op && same_history q x) || b) (after-cons op xs p q)
     ∙ and_over_or (same_op p op) (same_history q x) (contains xs q)
 
 -- where a kid has one more history
@@ -67,15 +67,15 @@ kids_contain (kid ∷ kids) p q = (same_op p kid.0 && contains kid.1 q) || kids_
 kids-nil : (kids : List (Branch)) → contains (joined kids) [] ≡ false
 kids-nil [] = refl
 kids-nil (k ∷ ks) =
-    contains-append (behind k.0 k.1) (joined ks) []
-    ∙ ap (λ b. b || contains (joined ks) []) (behind-nil k.0 k.1)
+    contains-append (after k.0 k.1) (joined ks) []
+    ∙ ap (λ b. b || contains (joined ks) []) (after-nil k.0 k.1)
     ∙ kids-nil ks
 
 kids-cons : (kids : List (Branch)) (p : SerialOp) (q : List SerialOp) → contains (joined kids) (p ∷ q) ≡ kids_contain kids p q
 kids-cons [] p q = refl
 kids-cons (k ∷ ks) p q =
-    contains-append (behind k.0 k.1) (joined ks) (p ∷ q)
-    ∙ ap (λ b. b || contains (joined ks) (p ∷ q)) (behind-cons k.0 k.1 p q)
+    contains-append (after k.0 k.1) (joined ks) (p ∷ q)
+    ∙ ap (λ b. b || contains (joined ks) (p ∷ q)) (after-cons k.0 k.1 p q)
     ∙ ap (λ b. (same_op p k.0 && contains k.1 q) || b) (kids-cons ks p q)
 
 pub node-nil : (ends : Bool) (kids : List (Branch)) → contains (members_from ends kids) [] ≡ ends

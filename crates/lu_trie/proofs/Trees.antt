@@ -5,9 +5,9 @@ use Rattle.std.proofs.lemmas.List.{take_more}
 use Rattle.std.proofs.lemmas.Bool.{cases_lt}
 use Rattle.lu_trie.proofs.Ops.{ops_not_same}
 use Rattle.lu_history.specs.declared.serial.SerialOp.{SerialOp}
-use Rattle.lu_trie.specs.Members.{same_op, contains, weight, behind, empty_if}
+use Rattle.lu_trie.specs.Members.{same_op, contains, weight, after, empty_if}
 use Rattle.lu_trie.specs.Branches.{Branch, joined, members_from, branches_of, NoneBare, IsBranching, IsBranchAt}
-use Rattle.lu_trie.specs.Weights.{weight-append, behind-full}
+use Rattle.lu_trie.specs.Weights.{weight-append, after-full}
 use Rattle.lu_trie.proofs.Kids.{all-from_places}
 use Rattle.lu_trie.proofs.Sorted.{length-joined-push, length-node}
 use Rattle.lu_trie.proofs.Histories.{first_and_rest}
@@ -15,8 +15,8 @@ use Rattle.lu_trie.proofs.Membership.{kids_contain, node-cons, kids-at, kids-apa
 
 pub lighter-at : (bs : List Branch) (i : ℕ) (b : Branch) → NoneBare bs → slice_get bs i ≡ Some b → weight b.1 < weight (joined bs)
 lighter-at [] i b full is = cc
-lighter-at (k ∷ ks) zero b full is = let e : k ≡ b = cc in subst (λ x. weight x.1 < weight (joined (k ∷ ks))) e (omega (arith, weight-append (behind k.0 k.1) (joined ks), behind-full k.0 k.1 full.0))
-lighter-at (k ∷ ks) (suc i) b full is = omega (arith, weight-append (behind k.0 k.1) (joined ks), lighter-at ks i b full.1 is)
+lighter-at (k ∷ ks) zero b full is = let e : k ≡ b = cc in subst (λ x. weight x.1 < weight (joined (k ∷ ks))) e (omega (arith, weight-append (after k.0 k.1) (joined ks), after-full k.0 k.1 full.0))
+lighter-at (k ∷ ks) (suc i) b full is = omega (arith, weight-append (after k.0 k.1) (joined ks), lighter-at ks i b full.1 is)
 
 module _ (hs : List (List SerialOp)) (is : IsBranching hs) where
   -- the members with a first entry are those of the branches

@@ -6,7 +6,7 @@ use Rattle.std.specs.List.Sorted.{IsStrictlySortedBy}
 use Rattle.std.specs.declared.cmp.Ordering.TheVariants.{Less, Greater}
 use Rattle.lu_history.specs.declared.serial.SerialOp.{SerialOp}
 use Rattle.lu_history.specs.Order.{op_cmp}
-use Rattle.lu_trie.specs.Members.{contains, same_op, behind, empty_if, AllSerial}
+use Rattle.lu_trie.specs.Members.{contains, same_op, after, empty_if, AllSerial}
 
 -- a label, and the histories after it
 abbrev pub Branch : Type 0
@@ -18,7 +18,7 @@ labels branches = map (λ branch. branch.0) branches
 -- the histories of the branches, each after its label
 abbrev pub joined : List Branch → List (List SerialOp)
 joined [] = []
-joined (branch ∷ branches) = behind branch.0 branch.1 ++ joined branches
+joined (branch ∷ branches) = after branch.0 branch.1 ++ joined branches
 
 -- the members of a node
 abbrev pub members_from : Bool → List Branch → List (List SerialOp)

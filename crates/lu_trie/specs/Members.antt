@@ -36,8 +36,8 @@ Adds old new history =
     → contains new other ≡ (same_history other history || contains old other)
 
 -- each history after the entry
-abbrev pub behind : SerialOp → List (List SerialOp) → List (List SerialOp)
-behind op histories = map (λ history. op ∷ history) histories
+abbrev pub after : SerialOp → List (List SerialOp) → List (List SerialOp)
+after op histories = map (λ history. op ∷ history) histories
 
 -- the empty history, where it is a member
 abbrev pub empty_if : Bool → List (List SerialOp)

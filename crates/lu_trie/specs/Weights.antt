@@ -2,7 +2,7 @@
 use Rattle.std.specs.Prelude.{◌≡◌, ◌≢◌, ℕ, ◌+◌, ◌≤◌, max, Bool, List, [], ◌∷◌, ◌++◌, length}
 use Rattle.std.proofs.Common.{arith, refl}
 use Rattle.lu_history.specs.declared.serial.SerialOp.{SerialOp}
-use Rattle.lu_trie.specs.Members.{weight, behind, empty_if}
+use Rattle.lu_trie.specs.Members.{weight, after, empty_if}
 use Rattle.lu_trie.specs.Branches.{Branch, joined, members_from, NoneBare, AreBranches}
 use denote.Param.Weighed.{most}
 
@@ -10,15 +10,15 @@ pub weight-append : (xs ys : List (List SerialOp)) → weight (xs ++ ys) ≡ wei
 weight-append [] ys = omega arith
 weight-append (x ∷ xs) ys = omega (arith, weight-append xs ys)
 
-weight-behind : (op : SerialOp) (xs : List (List SerialOp))
-    → weight (behind op xs) ≡ weight xs + length xs
-weight-behind op [] = omega arith
-weight-behind op (x ∷ xs) = omega (arith, weight-behind op xs)
+weight-after : (op : SerialOp) (xs : List (List SerialOp))
+    → weight (after op xs) ≡ weight xs + length xs
+weight-after op [] = omega arith
+weight-after op (x ∷ xs) = omega (arith, weight-after op xs)
 
-pub behind-full : (op : SerialOp) (xs : List (List SerialOp)) → xs ≢ []
-    → weight xs + 1 ≤ weight (behind op xs)
-behind-full op [] ne = absurd (ne refl)
-behind-full op (x ∷ xs) ne = omega (arith, weight-behind op (x ∷ xs))
+pub after-full : (op : SerialOp) (xs : List (List SerialOp)) → xs ≢ []
+    → weight xs + 1 ≤ weight (after op xs)
+after-full op [] ne = absurd (ne refl)
+after-full op (x ∷ xs) ne = omega (arith, weight-after op (x ∷ xs))
 
 branches_lighter : (f : Branch → ℕ) → ((branch : Branch) → f branch ≤ weight branch.1 + 1)
     → (branches : List Branch) → NoneBare branches → most f branches ≤ weight (joined branches)
@@ -27,8 +27,8 @@ branches_lighter f le (k ∷ ks) full =
     omega (
       arith,
       le k,
-      weight-append (behind k.0 k.1) (joined ks),
-      behind-full k.0 k.1 full.0,
+      weight-append (after k.0 k.1) (joined ks),
+      after-full k.0 k.1 full.0,
       branches_lighter f le ks full.1,
     )
 

@@ -1,5 +1,5 @@
 use Rattle.std.proofs.lemmas.Result.{err_from_is_err_and}
-use Rattle.lu_report.specs.Forms.{AreAfter, AreReport, IsBehind, Spells, Stops}
+use Rattle.lu_report.specs.Forms.{AreAfter, AreReport, IsAfterBound, Spells, Stops}
 use Rattle.lu_report.proofs.Exits.{report_after, report_bound, report_version, spelt}
 use Rattle.lu_report.proofs.Numbers.{err_weaker, ok_weaker}
 use Rattle.lu_report.proofs.reader.report_in.Goals as goal
@@ -19,7 +19,7 @@ pub returns-clause-found : goal.returns-clause-found
 returns-clause-found c =
     let v = c.in_ok-version in
     let b = c.in_ok-bound in
-    ok_weaker c.read_after_bound.result (IsBehind v.version b.bound b.rest.now) (Spells c.args.text.now)
+    ok_weaker c.read_after_bound.result (IsAfterBound v.version b.bound b.rest.now) (Spells c.args.text.now)
     (λ r is. spelt v.version b.bound c.args.text.now v.rest.now b.rest.now r v.ensures.found b.ensures.found is) c.read_after_bound.ensures.found
 
 pub returns-clause-fault : goal.returns-clause-fault

@@ -2,7 +2,7 @@ use Rattle.std.proofs.Common.{None, Some, arith}
 use Rattle.std.proofs.lemmas.Bool.Decides.{Decides-eqb}
 use Rattle.std.proofs.lemmas.Slice.Eq.{strip_prefix_is, strip_suffix_is}
 use Rattle.lu_report.proofs.Numbers.{if_none, no_front, said, not_said}
-use Rattle.lu_report.proofs.line.number_behind.Goals as goal
+use Rattle.lu_report.proofs.line.number_after.Goals as goal
 
 pub returns-in_err-strip_prefix-clause-none : goal.returns-in_err-strip_prefix-clause-none
 returns-in_err-strip_prefix-clause-none c =
