@@ -7,7 +7,6 @@ use Rattle.std.proofs.lemmas.Option.{same_Some, slice_get_within}
 use Rattle.lu_test.specs.declared.schedule.Move.{Move}
 use Rattle.lu_machine.specs.declared.event.Event.{Event}
 use Rattle.lu_machine.specs.Runs.{Leads, with_event}
-use Rattle.lu_machine.specs.Positions.{CanStandAt}
 use Rattle.lu_machine.specs.States.{State, progress}
 use Rattle.lu_machine.specs.Steps.{Step}
 use Rattle.lu_machine.proofs.Paths.{child_leads, leads_split}
@@ -18,7 +17,7 @@ use Rattle.lu_tree.proofs.Reordering.{good_reordered}
 use Rattle.lu_graph.specs.First.{AllGoFirst, GoesFirst}
 use Rattle.lu_graph.specs.Kept.{Kept}
 use Rattle.lu_graph.specs.Rows.{KnowsDead}
-use Rattle.lu_graph.specs.Growing.{AddsNext, ComesBy, HasStart, IsNext}
+use Rattle.lu_graph.specs.Growing.{AddsNext, CanStandThere, ComesBy, HasStart, IsNext}
 use Rattle.lu_graph.specs.Judging.{IsOneOf}
 use Rattle.lu_graph.specs.Nodes.{IsBadAt, IsGoodIfEnded, IsShortestBad, longer}
 use Rattle.lu_graph.specs.Visiting.{AreVisited, IsFor, IsReached, its}
@@ -82,7 +81,7 @@ module _ (s : State) (members : List (Vec SerialOp)) (dead : DeadTable) (dead_kn
     within = omega arith;
     now = λ i kept le lt is.
         (let adds = start.2 in
-        let one = all_at (λ (k : Kept). CanStandAt s.component s.matrix k.position × ComesBy s.component s.matrix members s start.0 None k) adds.grows.0 adds.grows.2 i kept (subst (λ (x : List Kept). slice_get x i ≡ Some kept) adds.grows.1 is) in
+        let one = all_at (λ (k : Kept). CanStandThere s.component s.matrix k × ComesBy s.component s.matrix members s start.0 None k) adds.grows.0 adds.grows.2 i kept (subst (λ (x : List Kept). slice_get x i ≡ Some kept) adds.grows.1 is) in
         record {
           way = record { schedule = []; first = tt; end = s; history = []; leads = (refl, refl); is = start_is s members dead dead_known agree list start kept one.1 };
           long = refl;
@@ -146,7 +145,7 @@ module _ (s : State) (members : List (Vec SerialOp)) (dead : DeadTable) (dead_kn
         still : (i : ℕ) (one : Kept) → slice_get list i ≡ Some one → slice_get new i ≡ Some one
         still i one is = subst (λ (x : List Kept). slice_get x i ≡ Some one) (sym adds.grows.1) (at_left list adds.grows.0 i one is)
 
-        next_reached : (one : Kept) → CanStandAt s.component s.matrix one.position × IsNext members (its s kept) kept.alive one → IsReachedIn s members (moves + 1) one
+        next_reached : (one : Kept) → CanStandThere s.component s.matrix one × IsNext members (its s kept) kept.alive one → IsReachedIn s members (moves + 1) one
         next_reached one (stands, (m, next, event, first, step, by)) =
             let u = reached.way.schedule in
             let h = reached.way.history in
@@ -181,7 +180,7 @@ module _ (s : State) (members : List (Vec SerialOp)) (dead : DeadTable) (dead_kn
           now = λ i one le lt is. (let within = known.within in known.now i one (omega (arith, le)) lt (stood i one (omega (arith, lt, within)) is));
           next = λ i one le is. elim (at_either list adds.grows.0 i one (subst (λ (x : List Kept). slice_get x i ≡ Some one) adds.grows.1 is)) as (λ _. IsReachedIn s members (moves + 1) one) [
             | inl old ↦ known.next i one le old.1
-            | inr more ↦ next_reached one (all_at (λ (k : Kept). CanStandAt s.component s.matrix k.position × IsNext members (its s kept) kept.alive k) adds.grows.0 adds.grows.2 more.0 one more.2)
+            | inr more ↦ next_reached one (all_at (λ (k : Kept). CanStandThere s.component s.matrix k × IsNext members (its s kept) kept.alive k) adds.grows.0 adds.grows.2 more.0 one more.2)
           ];
         }
 

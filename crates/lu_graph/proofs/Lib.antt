@@ -27,6 +27,8 @@ mod Explored
 mod Levels
 mod Judged
 mod Same
+mod Sized
+mod Stood
 mod Many
 mod Alike
 mod Visiting

@@ -6,7 +6,6 @@ use Rattle.std.specs.Global.{Vec}
 use Rattle.std.proofs.lemmas.List.{append-nil, map-append, take_all}
 use Rattle.std.proofs.lemmas.List.Elements.{All-cons, All-nil}
 use Rattle.std.proofs.lemmas.Option.{same_Some}
-use Rattle.lu_machine.specs.Positions.{CanStandAt}
 use Rattle.lu_component.specs.Component.{Component}
 use Rattle.lu_test.specs.Matrix.{Matrix}
 use Rattle.lu_machine.specs.Starts.{FromEachStart}
@@ -20,7 +19,7 @@ use Rattle.lu_witness.specs.Witnesses.{IsMember}
 use Rattle.lu_graph.specs.declared.ending.Ending.{Ending}
 use Rattle.lu_graph.specs.Kept.{Kept}
 use Rattle.lu_graph.specs.declared.holding.Nodes.{Nodes}
-use Rattle.lu_graph.specs.Growing.{ComesBy}
+use Rattle.lu_graph.specs.Growing.{CanStandThere, ComesBy}
 use Rattle.lu_graph.specs.Holding.{HoldsOne, HoldsStart}
 use Rattle.lu_graph.specs.Nodes.{IsEnding, TellsEnding}
 use Rattle.lu_graph.specs.Alive.{AreTold, IsPossible}
@@ -129,7 +128,7 @@ true_more alive new grown all i b at = elim (at_push alive true b i (subst (λ x
 pub holds_start : (s : State) (members : List (Vec SerialOp)) (alive bits : List Bool) (nodes : Nodes) → bits ≡ alive → AreTold members [] alive → HoldsOne s bits nodes → HoldsStart members s nodes
 holds_start s members alive bits nodes same told (kept, hold, can, is, known) =
     let comes : ComesBy s.component s.matrix members s bits None kept = record { state = is.0; follows = subst (Follows members s bits None) (sym is.1) (follows_none members s bits bits refl) } in
-    let Such : Kept → Type 0 = λ k. CanStandAt s.component s.matrix k.position × ComesBy s.component s.matrix members s bits None k in (
+    let Such : Kept → Type 0 = λ k. CanStandThere s.component s.matrix k × ComesBy s.component s.matrix members s bits None k in (
       kept ∷ [],
       hold members,
       (

@@ -1,21 +1,25 @@
 -- Numbers in tables.
-use Rattle.std.proofs.Common.{arith, ◌≡◌, ℕ, suc, ◌+◌, ◌<◌, ◌≤◌, Bool, true, false, cond, List, [], ◌∷◌, ◌++◌, length, Option, Some, None, slice_get, get_or, set, refl, sym, ◌∙◌, ap, subst, append_assoc, inl, inr}
-use Rattle.std.specs.Prelude.{not, position}
+use Rattle.std.proofs.Common.{arith, ◌≡◌, ℕ, suc, zero, ◌+◌, ◌<◌, ◌≤◌, Bool, true, false, cond, List, [], ◌∷◌, ◌++◌, length, Option, Some, None, slice_get, get_or, replicate, set, refl, sym, ◌∙◌, ap, subst, append_assoc, inl, inr}
+use Rattle.std.specs.Prelude.{All, not, position}
 use Rattle.std.specs.List.{IsDistinct, position_or_len, slice_index}
 use Rattle.std.proofs.lemmas.Bool.{cases_lt, le-ltb, lt-ltb}
-use Rattle.std.proofs.lemmas.List.{append-nil, get_or-set_other, get_or-set_same, length-set}
+use Rattle.std.proofs.lemmas.List.{append-nil, get_or-set_other, get_or-set_same, length-set, length_push}
+use Rattle.std.proofs.lemmas.List.Elements.{All-nil, All-push}
 use Rattle.std.proofs.lemmas.List.Sums.{passes_at_first, position_or_len_is}
 use Rattle.std.proofs.lemmas.Map.Keys.{apart_from_distinct}
 use Rattle.std.proofs.lemmas.Option.{get_or_from_slice_get, same_Some, slice_get_past, slice_get_within}
+use Rattle.lu_component.specs.Component.{Component}
 use Rattle.lu_machine.specs.declared.thread.Thread.{Thread}
+use Rattle.lu_machine.specs.declared.thread.Activity.{Activity}
+use Rattle.lu_machine.specs.declared.thread.Activity.TheVariants.{Idle, Open}
+use Rattle.lu_machine.specs.Layout.{HasRoom, IsInCode, IsStanding, StandsIn}
 use Rattle.lu_machine.specs.States.{State}
-use Rattle.lu_horizon.specs.declared.live_thread.LiveThread.{LiveThread}
 use Rattle.lu_horizon.specs.Dead.{DeadTable}
-use Rattle.lu_horizon.specs.Live.{IsLiveThread}
+use Rattle.lu_horizon.specs.Live.{IsLiveActivity, IsLiveThread}
 use Rattle.lu_graph.specs.Discovering.{Extends}
-use Rattle.lu_graph.specs.Numbered.{IsNumber, IsNumbered}
+use Rattle.lu_graph.specs.Numbered.{IsNumber, IsNumbered, with_number}
 use Rattle.lu_graph.specs.Rows.{AreNumbers, IsNumberOrNone, NumbersThreads, same_standing}
-use Rattle.lu_graph.proofs.Among.{at_left}
+use Rattle.lu_graph.proofs.Among.{at_either, at_last, at_left, only_one}
 use Rattle.lu_graph.proofs.Many.{some_at}
 
 -- ---- the first that passes
@@ -102,68 +106,140 @@ same_number one other test alike table n first second =
     let same : a.1 ≡ b.1 = same_Some a.1 b.1 (sym a.3 ∙ (ap (slice_get table) place ∙ b.3)) in
     alike a.1 a.4 (subst (λ y. test other y ≡ true) (sym same) b.4)
 
+-- what stands at a place has the number after it
+pub with_next : {A : Type 0} (table : List A) (place n : ℕ) → n ≡ place + 1 → with_number table n ≡ slice_get table place
+with_next table place n is =
+    let next : n ≡ suc place = omega (arith, is) in
+    ap (with_number table) next
+
+pub with_none : {A : Type 0} (table : List A) (n : ℕ) → n ≡ 0 → with_number table n ≡ None
+with_none table n is = ap (with_number table) is
+
+-- what is there with a number stands at the place before it
+pub with_place : {A : Type 0} (table : List A) (n : ℕ) (x : A) → with_number table n ≡ Some x → (place : ℕ) × (place + 1 ≡ n) × (slice_get table place ≡ Some x)
+with_place table zero x is = absurd (cc)
+with_place table (suc place) x is = (place, omega arith, is)
+
+-- what is the same as what the number stands for is what the table has there
+pub number_with : {A B : Type 0} (test : B → A → Bool) (table : List A) (n : ℕ) (one : B) → IsNumber (test one) table n → (y : A) × (with_number table n ≡ Some y) × (test one y ≡ true)
+number_with test table n one is =
+    let there = numbered (test one) table n is in
+    (there.1, with_next table there.0 n there.2 ∙ there.3, there.4)
+
 -- ---- threads
 
+pub all_zero : (n t : ℕ) → slice_index (replicate n 0) t ≡ 0
+all_zero zero t = refl
+all_zero (suc n) zero = refl
+all_zero (suc n) (suc t) = all_zero n t
+
+-- a thread without its dead registers can stand where it can
 module _ (dead : DeadTable) where
-  pub number_or_none_stays : (old new : List LiveThread) (o : Option Thread) (n : ℕ) → Extends old new → IsNumberOrNone dead old o n → IsNumberOrNone dead new o n
-  number_or_none_stays old new None n grown is = is
-  number_or_none_stays old new (Some thread) n grown (live, of, is) = (live, of, number_stays (same_standing live) old new n grown is)
+  activity_stands : (done : ℕ) (a b : Activity) → IsLiveActivity dead a b → HasRoom done a → HasRoom done b
+  activity_stands done Idle b is room = subst (HasRoom done) (sym is) tt
+  activity_stands done (Open f) b (live, is, of) room = subst (HasRoom done) (sym is) room
 
-  pub numbers_stay : (threads : List Thread) (old new : List LiveThread) (numbers : List ℕ) → Extends old new → AreNumbers dead threads old numbers → AreNumbers dead threads new numbers
-  numbers_stay threads old new numbers grown are = record {
-    eight = are.eight;
-    each = λ t. number_or_none_stays old new (slice_get threads t) (slice_index numbers t) grown (are.each t);
-  }
+  live_stands : (thread one : Thread) → IsLiveThread dead thread one → IsStanding thread → IsStanding one
+  live_stands thread one of stands = activity_stands one.done thread.activity one.activity of.activity (subst (λ n. HasRoom n thread.activity) (sym of.done) stands)
 
+  activity_in_code : (c : Component) (a b : Activity) → IsLiveActivity dead a b → IsInCode c a → IsInCode c b
+  activity_in_code c Idle b is there = subst (IsInCode c) (sym is) tt
+  activity_in_code c (Open f) b (live, is, of) there =
+      subst (IsInCode c) (sym is) (subst (λ n. n < length c.operations) (sym of.op) there.0, subst (λ n. n ≤ 64) (sym of.place) there.1)
+
+  live_in_code : (c : Component) (thread one : Thread) → IsLiveThread dead thread one → StandsIn c thread → StandsIn c one
+  live_in_code c thread one of there = activity_in_code c thread.activity one.activity of.activity there
+
+pub number_or_none_stays : (old new : List Thread) (o : Option Thread) (n : ℕ) → Extends old new → IsNumberOrNone old o n → IsNumberOrNone new o n
+number_or_none_stays old new None n grown is = is
+number_or_none_stays old new (Some thread) n grown is = number_stays (same_standing thread) old new n grown is
+
+pub numbers_stay : (threads old new : List Thread) (numbers : List ℕ) → Extends old new → AreNumbers threads old numbers → AreNumbers threads new numbers
+numbers_stay threads old new numbers grown are = record {
+  eight = are.eight;
+  each = λ t. number_or_none_stays old new (slice_get threads t) (slice_index numbers t) grown (are.each t);
+}
+
+module _ (dead : DeadTable) (s : State) where
   -- of the first threads
-  pub record AreNumbersSoFar (threads : List Thread) (old table : List LiveThread) (done : ℕ) (numbers : List ℕ) : Type 0 where
-    pub eight : length numbers ≡ 8
-    pub before : (t : ℕ) → t < done → IsNumberOrNone dead table (slice_get threads t) (slice_index numbers t)
-    pub behind : (t : ℕ) → done ≤ t → slice_index numbers t ≡ 0
+  pub record AreNumbersSoFar (old table : List Thread) (done : ℕ) (numbers : List ℕ) : Type 0 where
+    pub live : List Thread
+    pub many : length live ≡ done
+    pub each : (t : ℕ) (thread one : Thread) → slice_get s.threads t ≡ Some thread → slice_get live t ≡ Some one → IsLiveThread dead thread one
+    pub stand : All IsStanding live
+    pub in_code : All (StandsIn s.component) live
+    pub have : AreNumbers live table numbers
     pub grows : Extends old table
 
-  pub so_far_more : (threads : List Thread) (old table new : List LiveThread) (done n : ℕ) (numbers now : List ℕ) (thread : Thread) (live : LiveThread) → AreNumbersSoFar threads old table done numbers → done < 8 → slice_get threads done ≡ Some thread → IsLiveThread dead thread live → IsNumbered (same_standing live) table new n → now ≡ set numbers done n → AreNumbersSoFar threads old new (done + 1) now
-  so_far_more threads old table new done n numbers now thread live known few at of is set_so =
-      let eight = known.eight in
-      let within : done < length numbers = omega (arith, eight, few) in
+  pub so_far_first : (table : List Thread) (numbers : List ℕ) → length numbers ≡ 8 → ((t : ℕ) → slice_index numbers t ≡ 0) → AreNumbersSoFar table table 0 numbers
+  so_far_first table numbers eight zeros = record {
+    live = [];
+    many = refl;
+    each = λ t a b at there. absurd (cc);
+    stand = All-nil IsStanding;
+    in_code = All-nil (StandsIn s.component);
+    have = record { eight = eight; each = λ t. zeros t };
+    grows = extends_none table;
+  }
+
+  -- one more thread has a number
+  have_more : (live table new : List Thread) (done n : ℕ) (numbers now : List ℕ) (one : Thread) → length live ≡ done → done < 8 → AreNumbers live table numbers → IsNumbered (same_standing one) table new n → now ≡ set numbers done n → AreNumbers (live ++ one ∷ []) new now
+  have_more live table new done n numbers now one many few have is set_so =
+      let eight = have.eight in
       record {
         eight = ap length set_so ∙ (length-set numbers done n ∙ eight);
-        before = λ t lt. elim (cases_lt t done) as (λ _. IsNumberOrNone dead new (slice_get threads t) (slice_index now t)) [
+        each = λ t. elim (cases_lt t done) as (λ _. IsNumberOrNone new (slice_get (live ++ one ∷ []) t) (slice_index now t)) [
           | inl less ↦
-              (let same : slice_index now t ≡ slice_index numbers t = ap (λ xs. slice_index xs t) set_so ∙ get_or-set_other numbers done t n 0 (λ e. omega (arith, e, less)) in
-              subst (IsNumberOrNone dead new (slice_get threads t)) (sym same) (number_or_none_stays table new (slice_get threads t) (slice_index numbers t) is.grows (known.before t less)))
-          | inr ge ↦
-              (let here : done ≡ t = omega (arith, ge, lt) in
-              let one : slice_index now done ≡ n = ap (λ xs. slice_index xs done) set_so ∙ get_or-set_same numbers done n 0 within in
-              subst (λ k. IsNumberOrNone dead new (slice_get threads k) (slice_index now k)) here
-              (subst (λ o. IsNumberOrNone dead new o (slice_index now done)) (sym at) (live, of, subst (IsNumber (same_standing live) new) (sym one) is.number)))
+              (let there = some_at live t (omega (arith, less, many)) in
+              let at : slice_get (live ++ one ∷ []) t ≡ slice_get live t = at_left live (one ∷ []) t there.0 there.1 ∙ sym there.1 in
+              let same : slice_index now t ≡ slice_index numbers t = ap (λ xs. slice_index xs t) set_so ∙ get_or-set_other numbers done t n 0 (λ e. omega (arith, e, less)) in
+              subst (λ o. IsNumberOrNone new o (slice_index now t)) (sym at) (subst (IsNumberOrNone new (slice_get live t)) (sym same) (number_or_none_stays table new (slice_get live t) (slice_index numbers t) is.grows (have.each t))))
+          | inr ge ↦ elim (cases_lt done t) as (λ _. IsNumberOrNone new (slice_get (live ++ one ∷ []) t) (slice_index now t)) [
+            | inl past ↦
+                (let long = length_push live one in
+                let none : slice_get (live ++ one ∷ []) t ≡ None = slice_get_past (live ++ one ∷ []) t (omega (arith, long, many, past)) in
+                let before : slice_get live t ≡ None = slice_get_past live t (omega (arith, many, past)) in
+                let same : slice_index now t ≡ slice_index numbers t = ap (λ xs. slice_index xs t) set_so ∙ get_or-set_other numbers done t n 0 (λ e. omega (arith, e, past)) in
+                subst (λ o. IsNumberOrNone new o (slice_index now t)) (sym none) (same ∙ subst (λ o. IsNumberOrNone table o (slice_index numbers t)) before (have.each t)))
+            | inr le ↦
+                (let here : length live ≡ t = omega (arith, ge, le, many) in
+                let place : done ≡ t = omega (arith, ge, le) in
+                let first : slice_index now done ≡ n = ap (λ xs. slice_index xs done) set_so ∙ get_or-set_same numbers done n 0 (omega (arith, eight, few)) in
+                subst (λ k. IsNumberOrNone new (slice_get (live ++ one ∷ []) t) (slice_index now k)) place
+                (subst (λ k. IsNumberOrNone new (slice_get (live ++ one ∷ []) k) (slice_index now done)) here
+                (subst (λ o. IsNumberOrNone new o (slice_index now done)) (sym (at_last live one))
+                (subst (IsNumber (same_standing one) new) (sym first) is.number))))
+          ]
         ];
-        behind = λ t past. ap (λ xs. slice_index xs t) set_so ∙ (get_or-set_other numbers done t n 0 (λ e. omega (arith, e, past)) ∙ known.behind t (omega (arith, past)));
+      }
+
+  pub so_far_more : (old table new : List Thread) (done n : ℕ) (numbers now : List ℕ) (thread one : Thread) → AreNumbersSoFar old table done numbers → done < 8 → slice_get s.threads done ≡ Some thread → IsStanding thread → StandsIn s.component thread → IsLiveThread dead thread one → IsNumbered (same_standing one) table new n → now ≡ set numbers done n → AreNumbersSoFar old new (done + 1) now
+  so_far_more old table new done n numbers now thread one known few at stands in_code of is set_so =
+      let live = known.live in
+      let many = known.many in
+      record {
+        live = live ++ one ∷ [];
+        many = (let long = length_push live one in omega (arith, long, many));
+        each = λ t a b there here. elim (at_either live (one ∷ []) t b here) as (λ _. IsLiveThread dead a b) [
+          | inl (less, is_there) ↦ known.each t a b there is_there
+          | inr (k, place, last) ↦
+              (let first = only_one one k b last in
+              let it : done ≡ t = (let zero_is = first.0 in omega (arith, place, zero_is, many)) in
+              let same : thread ≡ a = same_Some thread a (sym at ∙ (ap (slice_get s.threads) it ∙ there)) in
+              subst (λ x. IsLiveThread dead x b) same (subst (IsLiveThread dead thread) first.1 of))
+        ];
+        stand = All-push IsStanding live one known.stand (live_stands dead thread one of stands);
+        in_code = All-push (StandsIn s.component) live one known.in_code (live_in_code dead s.component thread one of in_code);
+        have = have_more live table new done n numbers now one many few known.have is set_so;
         grows = extends_on old table new known.grows is.grows;
       }
 
-  pub so_far_none : (threads : List Thread) (old table : List LiveThread) (done : ℕ) (numbers : List ℕ) → AreNumbersSoFar threads old table done numbers → slice_get threads done ≡ None → AreNumbersSoFar threads old table (done + 1) numbers
-  so_far_none threads old table done numbers known at = record {
-    eight = known.eight;
-    before = λ t lt. elim (cases_lt t done) as (λ _. IsNumberOrNone dead table (slice_get threads t) (slice_index numbers t)) [
-      | inl less ↦ known.before t less
-      | inr ge ↦
-          (let here : done ≡ t = omega (arith, ge, lt) in
-          subst (λ k. IsNumberOrNone dead table (slice_get threads k) (slice_index numbers k)) here
-          (subst (λ o. IsNumberOrNone dead table o (slice_index numbers done)) (sym at) (known.behind done (omega arith))))
-    ];
-    behind = λ t past. known.behind t (omega (arith, past));
-    grows = known.grows;
-  }
-
-  pub so_far_all : (s : State) (old table : List LiveThread) (done : ℕ) (numbers : List ℕ) → AreNumbersSoFar s.threads old table done numbers → length s.threads ≤ done → NumbersThreads dead s old table numbers
-  so_far_all s old table done numbers known past = record {
-    are = record {
-      eight = known.eight;
-      each = λ t. elim (cases_lt t done) as (λ _. IsNumberOrNone dead table (slice_get s.threads t) (slice_index numbers t)) [
-        | inl less ↦ known.before t less
-        | inr ge ↦ subst (λ o. IsNumberOrNone dead table o (slice_index numbers t)) (sym (slice_get_past s.threads t (omega (arith, past, ge)))) (known.behind t ge)
-      ];
-    };
+  pub so_far_all : (old table : List Thread) (done : ℕ) (numbers : List ℕ) → AreNumbersSoFar old table done numbers → length s.threads ≡ done → NumbersThreads dead s old table numbers
+  so_far_all old table done numbers known all = record {
+    live = known.live;
+    are = record { many = known.many ∙ sym all; each = known.each };
+    stand = known.stand;
+    in_code = known.in_code;
+    have = known.have;
     grows = known.grows;
   }

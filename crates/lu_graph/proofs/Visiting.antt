@@ -6,7 +6,6 @@ use Rattle.std.proofs.lemmas.Bool.{le-leb, leb-true}
 use Rattle.std.proofs.lemmas.Option.{slice_get_within}
 use Rattle.lu_component.specs.Component.{Component}
 use Rattle.lu_test.specs.Matrix.{Matrix}
-use Rattle.lu_machine.specs.Positions.{CanStandAt, at_position}
 use Rattle.lu_machine.specs.Starts.{FromEachStart, IsStart, Settles}
 use Rattle.lu_machine.specs.declared.event.Event.{Event}
 use Rattle.lu_machine.specs.States.{State, progress}
@@ -18,7 +17,7 @@ use Rattle.lu_history.proofs.Following.{start_agrees}
 use Rattle.lu_graph.specs.Kept.{Kept}
 use Rattle.lu_graph.specs.declared.level.Level.{Level}
 use Rattle.lu_graph.specs.Guards.{TellsGuarded}
-use Rattle.lu_graph.specs.Growing.{AddsNext, HasStart}
+use Rattle.lu_graph.specs.Growing.{AddsNext, CanStandThere, HasStart, state_of}
 use Rattle.lu_graph.specs.Judging.{IsOneOf, JudgesGood}
 use Rattle.lu_graph.specs.Nodes.{AreStatesAlike, EndsWellOnFewNodes, HasFewNodes, IsBadAt, IsGoodIfEnded, IsShortestBad}
 use Rattle.lu_graph.specs.Rows.{KnowsDead}
@@ -95,26 +94,26 @@ module _ (members : List (Vec SerialOp)) (c : Component) (matrix : Matrix) (sett
 
     module _ (m : State) (component : m.component ≡ c) (matrix_is : m.matrix ≡ matrix) (kept : Kept) (at : slice_get list place ≡ Some kept) where
       -- where the machine stands then
-      here : (s : State) → IsStart c matrix s → at_position m kept.position ≡ its s kept
+      here : (s : State) → IsStart c matrix s → state_of m.component m.matrix kept ≡ its s kept
       here s is =
-          let make : Component → Matrix → State = λ d x. record { component = d; matrix = x; cells = kept.position.cells.items; locks = kept.position.locks.items; threads = kept.position.threads.items } in
+          let make : Component → Matrix → State = λ d x. state_of d x kept in
           ap (λ d. make d m.matrix) (component ∙ sym (start_component c matrix s is)) ∙ ap (λ x. make s.component x) (matrix_is ∙ sym (start_matrix c matrix s is))
 
       sound : (s : State) (is : IsStart c matrix s) → IsReachedAndSound s members kept
       sound s is = known s members dead (known_at s is) list list place kept at (all s is)
 
-      pub can_stand : CanStandAt m.component m.matrix kept.position
+      pub can_stand : CanStandThere m.component m.matrix kept
       can_stand =
           let there = start_there c matrix settles in
           let s = there.0 in
           let x = (sound s there.1).0 in
-          let y = subst (λ d. CanStandAt d s.matrix kept.position) (start_component c matrix s there.1 ∙ sym component) x in
-          subst (λ d. CanStandAt m.component d kept.position) (start_matrix c matrix s there.1 ∙ sym matrix_is) y
+          let y = subst (λ d. CanStandThere d s.matrix kept) (start_component c matrix s there.1 ∙ sym component) x in
+          subst (λ d. CanStandThere m.component d kept) (start_matrix c matrix s there.1 ∙ sym matrix_is) y
 
       pub as_many : (alive : List Bool) → alive ≡ kept.alive → length alive ≡ length members
       as_many alive are = let there = start_there c matrix settles in ap length are ∙ (sound there.0 there.1).1.is.told.many
 
-      module _ (now : State) (alive : List Bool) (stands : now ≡ at_position m kept.position) (are : alive ≡ kept.alive) where
+      module _ (now : State) (alive : List Bool) (stands : now ≡ state_of m.component m.matrix kept) (are : alive ≡ kept.alive) where
         component_there : now.component ≡ c
         component_there = ap (λ (s : State). s.component) stands ∙ component
 

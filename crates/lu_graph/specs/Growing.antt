@@ -6,7 +6,7 @@ use Rattle.lu_test.specs.declared.schedule.Move.{Move}
 use Rattle.lu_test.specs.Matrix.{Matrix}
 use Rattle.lu_machine.specs.declared.event.Event.{Event}
 use Rattle.lu_machine.specs.Events.{IsEventInRange}
-use Rattle.lu_machine.specs.Positions.{CanStandAt}
+use Rattle.lu_machine.specs.Positions.{CanStand}
 use Rattle.lu_machine.specs.States.{State}
 use Rattle.lu_machine.specs.Steps.{IsFeasible, Step}
 use Rattle.lu_history.specs.declared.serial.SerialOp.{SerialOp}
@@ -21,10 +21,14 @@ abbrev pub state_of : Component → Matrix → Kept → State
 state_of c matrix kept = record {
   component = c;
   matrix = matrix;
-  cells = kept.position.cells.items;
-  locks = kept.position.locks.items;
-  threads = kept.position.threads.items;
+  cells = kept.cells;
+  locks = kept.locks;
+  threads = kept.threads;
 }
+
+-- a machine of the component and the matrix can stand there
+abbrev pub CanStandThere : Component → Matrix → Kept → Type 0
+CanStandThere c matrix kept = CanStand c matrix kept.cells kept.locks kept.threads
 
 -- it stands for the state s, to which this event led, or none, where these members were possible
 pub record ComesBy (c : Component) (matrix : Matrix) (members : List (Vec SerialOp)) (s : State)
@@ -40,7 +44,7 @@ Keeps Such list = (i : ℕ) × (kept : Kept) × (slice_get list i ≡ Some kept)
 abbrev pub GrowsBy : Component → Matrix → (Kept → Type 0) → List Kept → List Kept → Type 0
 GrowsBy c matrix Such old new =
     (more : List Kept) × (new ≡ old ++ more)
-    × All (λ kept. CanStandAt c matrix kept.position × Such kept) more
+    × All (λ kept. CanStandThere c matrix kept × Such kept) more
 
 -- one such is there, and no other is added
 pub record AddsOne (c : Component) (matrix : Matrix) (Such : Kept → Type 0)

@@ -1,15 +1,11 @@
 -- Nodes that are kept.
-use Rattle.std.specs.Prelude.{Bool, List}
-use Rattle.lu_machine.specs.declared.position.Position.{Position}
-use Rattle.lu_graph.specs.declared.row.Row.{Row}
-use Rattle.lu_graph.specs.declared.unvisited.Unvisited.{Unvisited}
+use Rattle.std.specs.Prelude.{ℕ, Bool, List, Option}
+use Rattle.lu_machine.specs.declared.thread.Thread.{Thread}
 
--- where a machine stands, which of the members of a set are possible still, and the node's row
+-- the cells, the locks and the threads of a state, and which of the members of a set are possible
+-- still
 pub record Kept : Type 0 where
-  pub position : Position
+  pub cells : List ℕ
+  pub locks : List (Option ℕ)
+  pub threads : List Thread
   pub alive : List Bool
-  pub row : Row
-
--- as it waits until it is gone through
-abbrev pub unvisited : Kept → Unvisited
-unvisited kept = record { position = kept.position; row = kept.row }

@@ -1,5 +1,5 @@
 -- Values with numbers, in tables that have each different one once.
-use Rattle.std.specs.Prelude.{◌≡◌, ℕ, ◌+◌, Bool, List, position, Some}
+use Rattle.std.specs.Prelude.{◌≡◌, ℕ, zero, suc, ◌+◌, Bool, List, Option, Some, None, position, slice_get}
 use Rattle.std.specs.Global.{Vec}
 use lib.Pointwise.{pointwise}
 use Rattle.lu_graph.specs.Discovering.{Extends}
@@ -16,3 +16,8 @@ pub record IsNumbered {A : Type 0} (test : A → Bool) (old new : List A) (n : �
 -- whether it is this list
 abbrev pub is_list : {A : Type 0} → (A → A → Bool) → List A → Vec A → Bool
 is_list eq xs v = pointwise eq xs v.items
+
+-- what has this number, if anything has
+abbrev pub with_number : {A : Type 0} → List A → ℕ → Option A
+with_number table zero = None
+with_number table (suc place) = slice_get table place

@@ -5,7 +5,6 @@ use Rattle.lu_component.specs.Component.{Component}
 use Rattle.lu_test.specs.declared.schedule.Move.{Move}
 use Rattle.lu_test.specs.Matrix.{Matrix}
 use Rattle.lu_machine.specs.declared.event.Event.{Event}
-use Rattle.lu_machine.specs.Positions.{CanStandAt}
 use Rattle.lu_machine.specs.Runs.{Leads}
 use Rattle.lu_machine.specs.Starts.{FromEachStart}
 use Rattle.lu_machine.specs.States.{State, progress}
@@ -16,7 +15,7 @@ use Rattle.lu_history.specs.Standing.{Agree}
 use Rattle.lu_graph.specs.declared.level.Level.{Level}
 use Rattle.lu_graph.specs.Alive.{AreTold}
 use Rattle.lu_graph.specs.First.{AllGoFirst, GoesFirst}
-use Rattle.lu_graph.specs.Growing.{IsNextBy, Keeps, state_of}
+use Rattle.lu_graph.specs.Growing.{CanStandThere, IsNextBy, Keeps, state_of}
 use Rattle.lu_graph.specs.Kept.{Kept}
 use Rattle.lu_graph.specs.Nodes.{AreStatesAlike}
 
@@ -43,7 +42,7 @@ pub record IsReached (s : State) (members : List (Vec SerialOp)) (kept : Kept) :
 
 abbrev pub IsReachedAndSound : State → List (Vec SerialOp) → Kept → Type 0
 IsReachedAndSound s members kept =
-    CanStandAt s.component s.matrix kept.position × IsReached s members kept
+    CanStandThere s.component s.matrix kept × IsReached s members kept
 
 -- The start s is kept; to each that is kept a schedule leads from s, and a machine can stand there;
 -- and with each before this place, all to which its moves lead that go first are kept.

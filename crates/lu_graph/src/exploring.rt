@@ -16,6 +16,7 @@ use crate::holding::{Nodes, add_first};
 use crate::judging::is_good;
 use crate::level::Level;
 use crate::listing::{all_possible, list_members};
+use crate::row::stand_at;
 use lu_component::Component;
 use lu_history::SerialOp;
 use lu_horizon::DeadRegisters;
@@ -53,12 +54,12 @@ fn are_few<W: Watch>(
         if nodes.rows.len() > most {
             return Ok(false);
         }
-        let kept = match nodes.waiting.pop_front() {
+        let row = match nodes.row(at) {
             None => return Ok(true),
-            Some(kept) => kept,
+            Some(row) => row,
         };
-        machine.stand_at(&kept.position);
-        add_next(alloc, machine, members, guards, &kept.row, nodes)?;
+        stand_at(machine, &row, &nodes.parts);
+        add_next(alloc, machine, members, guards, &row, nodes)?;
     }
     Ok(nodes.rows.len() <= most)
 }
@@ -96,14 +97,14 @@ fn search<W: Watch>(
         if known > most {
             return Ok(Ending::TooMany);
         }
-        let kept = match nodes.waiting.pop_front() {
+        let row = match nodes.row(at) {
             None => return Ok(Ending::Well),
-            Some(kept) => kept,
+            Some(row) => row,
         };
         level = level.at(at, known);
-        machine.stand_at(&kept.position);
-        let is_good = is_good(machine, members, nodes.parts.alive.list(kept.row.alive));
-        add_next(alloc, machine, members, guards, &kept.row, nodes)?;
+        stand_at(machine, &row, &nodes.parts);
+        let is_good = is_good(machine, members, nodes.parts.alive.list(row.alive));
+        add_next(alloc, machine, members, guards, &row, nodes)?;
         if !is_good {
             let is_far = level.moves > usize::from(bound);
             if is_far && !are_few(alloc, machine, members, guards, nodes, at + 1, most, watch)? {
@@ -200,8 +201,9 @@ pub fn ends_well_watched<T: SerialTree, W: Watch>(
 /// How all schedules of the component on the matrix end, of any length, for the set of the tree. A
 /// node is a state, with the history of a schedule that leads there; those of states that differ in
 /// dead registers alone, where the same members of the set can still become witnesses, are alike,
-/// and count as one. At most `most` are kept, each of some 50 bytes, with the parts that they share.
-/// Where a schedule of no more moves than the bound ends badly, the nodes after it are not counted.
+/// and count as one. At most `most` are kept, each as a row of 44 bytes in a table, with the parts
+/// that they share. Where a schedule of no more moves than the bound ends badly, the nodes after it
+/// are not counted.
 /// Asks for a matrix of the component, whose setup settles.
 ///
 /// # Errors

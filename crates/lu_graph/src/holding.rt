@@ -1,26 +1,20 @@
 //! The nodes that were found.
 
-ghost use Rattle.std.specs.Prelude.{◌≡◌, OnOk};
+ghost use Rattle.std.specs.Prelude.{◌≡◌, OnOk, slice_get};
 ghost use Rattle.lu_graph.specs.Holding.{HoldsNone, HoldsOne, HoldsOneMore};
 ghost use Rattle.lu_graph.specs.Rows.{IsSized, KnowsDead};
 
 use crate::row::{Parts, Row, row_at};
 use crate::tables::number_of_list;
-use crate::unvisited::Unvisited;
 use indexmap::IndexSet;
 use lu_horizon::DeadRegisters;
 use lu_machine::Machine;
 use std::alloc::{AllocError, Global};
-use std::collections::VecDeque;
 
-/// The nodes that were found, each once, in order. A node that was gone through is its row alone.
+/// The nodes that were found, each once, in order: those that were gone through stand first.
 #[derive(Drop)]
 pub(crate) struct Nodes {
     pub(crate) rows: IndexSet<Row>,
-
-    /// Those that were not gone through.
-    pub(crate) waiting: VecDeque<Unvisited>,
-
     pub(crate) parts: Parts,
 }
 
@@ -32,9 +26,15 @@ impl Nodes {
     {
         Nodes {
             rows: IndexSet::new(alloc),
-            waiting: VecDeque::new(alloc),
             parts: Parts::new(alloc, dead),
         }
+    }
+
+    /// The row of the node at this place, if there is one.
+    pub(crate) fn row(&self, place: usize) -> Option<Row>
+        ensures { result ≡ slice_get self.now.rows.keys place }
+    {
+        self.rows.get_index(place).copied()
     }
 }
 
@@ -45,15 +45,14 @@ pub(crate) fn add_first(
     alive: &[bool],
     nodes: &mut Nodes,
 ) -> Result<(), AllocError>
+    requires sized { IsSized machine.now }
     requires none { HoldsNone nodes.old }
     requires dead { KnowsDead machine.now.component nodes.old.parts.dead }
     ensures { OnOk result (HoldsOne machine.now alive.now nodes.new) }
 {
-    let position = machine.position(alloc)?;
     let number = number_of_list(alloc, &mut nodes.parts.alive.lists, alive, 0)?;
     let row = row_at(alloc, machine, &Row::of_alive(number), &mut nodes.parts)?;
     nodes.rows.insert(row)?;
-    nodes.waiting.push_back(Unvisited { position, row })?;
     Ok(())
 }
 
@@ -69,9 +68,6 @@ pub(crate) fn add_at(
     ensures { OnOk result (HoldsOneMore machine.now likely.now nodes.old nodes.new) }
 {
     let row = row_at(alloc, machine, likely, &mut nodes.parts)?;
-    if nodes.rows.insert(row)? {
-        let position = machine.position(alloc)?;
-        nodes.waiting.push_back(Unvisited { position, row })?;
-    }
+    nodes.rows.insert(row)?;
     Ok(())
 }

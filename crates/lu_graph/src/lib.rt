@@ -49,7 +49,6 @@ mod possibilities;
 mod row;
 mod standing;
 mod tables;
-mod unvisited;
 
 pub use ending::Ending;
 pub use exploring::{ends_well, ends_well_watched};

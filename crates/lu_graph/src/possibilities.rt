@@ -5,7 +5,7 @@ ghost use Rattle.lu_graph.specs.Possibilities.{Gives, HaveCalls, NumbersAfter, N
 
 use crate::alive::still_alive;
 use crate::standing::called;
-use crate::tables::number_of_list;
+use crate::tables::{list_with, number_of_list};
 use indexmap::{IndexMap, IndexSet};
 use lu_history::{OpId, SerialOp};
 use lu_machine::{Event, Machine, Outcome};
@@ -44,13 +44,7 @@ impl Possibilities {
     pub(crate) fn list(&self, number: u32) -> &[bool]
         ensures { Gives self.now number result.now }
     {
-        let Some(place) = number.checked_sub(1) else {
-            return &[];
-        };
-        match self.lists.as_slice().get(place as usize) {
-            None => &[],
-            Some(list) => list,
-        }
+        list_with(&self.lists, number)
     }
 }
 

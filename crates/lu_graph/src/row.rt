@@ -1,18 +1,16 @@
 //! Nodes as rows of numbers.
 
-ghost use Rattle.std.specs.Prelude.{◌≡◌, [], length, IfOk, OnOk};
-ghost use Rattle.lu_machine.specs.States.{first_cell};
-ghost use Rattle.lu_graph.specs.Rows.{IsRowAt, IsSized, NumbersThreads};
+ghost use Rattle.std.specs.Prelude.{◌≡◌, [], IfOk};
+ghost use Rattle.lu_graph.specs.Rows.{CanStandAtRow, HaveNumbers, IsRowAt, IsSized, NumbersThreads, StandsAtRow};
 
 use crate::possibilities::Possibilities;
-use crate::tables::{number_of, number_of_list};
+use crate::tables::{list_with, number_of, number_of_list, value_with};
 use indexmap::IndexSet;
-use lu_component::Component;
-use lu_horizon::{DeadRegisters, LiveThread};
-use lu_machine::Machine;
+use lu_horizon::DeadRegisters;
+use lu_machine::{Activity, Machine, Thread};
 use std::alloc::{AllocError, Global};
 
-/// A node as it is looked up: the number of each of its parts, from 1. 0 stands for none.
+/// A node: the number of each of its parts, from 1. 0 stands for none.
 #[derive(Clone, Copy, PartialEq, Eq, Hash)]
 pub(crate) struct Row {
     pub(crate) cells: u32,
@@ -30,15 +28,12 @@ pub(crate) struct Row {
 pub(crate) struct Parts {
     pub(crate) cells: IndexSet<Vec<u32>>,
     pub(crate) locks: IndexSet<Vec<Option<u8>>>,
-    pub(crate) threads: IndexSet<LiveThread>,
+
+    /// Where threads stand, with 0 in their dead registers: these tell no two nodes apart.
+    pub(crate) threads: IndexSet<Thread>,
+
     pub(crate) alive: Possibilities,
-
-    /// The registers that are dead tell no two nodes apart.
     pub(crate) dead: DeadRegisters,
-
-    /// The cells and the locks that are looked up.
-    cells_now: Vec<u32>,
-    locks_now: Vec<Option<u8>>,
 }
 
 impl Row {
@@ -67,53 +62,16 @@ impl Parts {
             threads: IndexSet::new(alloc),
             alive: Possibilities::new(alloc),
             dead,
-            cells_now: Vec::new(alloc),
-            locks_now: Vec::new(alloc),
         }
     }
 }
 
-/// How many cells the component's arrays have.
-fn cell_count(component: &Component) -> usize
-    ensures { result ≡ first_cell component.now.arrays (length component.now.arrays) }
-{
-    let mut count = 0;
-    for array in component.arrays() {
-        count += array.len as usize;
-    }
-    count
-}
-
-/// Reads the value of each cell.
-fn read_cells(machine: &Machine<'_>, cells: &mut Vec<u32>) -> Result<(), AllocError>
-    requires { IsSized machine.now }
-    ensures { OnOk result (cells.new.items ≡ machine.now.cells) }
-{
-    cells.clear();
-    for place in 0..cell_count(machine.component()) {
-        cells.push(machine.value_at(place))?;
-    }
-    Ok(())
-}
-
-/// Reads the owner of each lock.
-fn read_locks(machine: &Machine<'_>, locks: &mut Vec<Option<u8>>) -> Result<(), AllocError>
-    requires { IsSized machine.now }
-    ensures { OnOk result (locks.new.items ≡ machine.now.locks) }
-{
-    locks.clear();
-    for lock in 0..machine.component().locks().len() {
-        locks.push(machine.owner(lock as u8))?;
-    }
-    Ok(())
-}
-
-/// The number of where each thread stands, without its dead registers, and 0 for each that is not
+/// The number of where each thread stands, with 0 in its dead registers, and 0 for each that is not
 /// there. The likely ones are looked at first.
 fn number_threads(
     machine: &Machine<'_>,
     dead: &DeadRegisters,
-    table: &mut IndexSet<LiveThread>,
+    table: &mut IndexSet<Thread>,
     likely: &[u32; 8],
 ) -> Result<[u32; 8], AllocError>
     ensures { IfOk result (NumbersThreads dead.now machine.now table.old.keys table.new.keys) }
@@ -140,12 +98,39 @@ pub(crate) fn row_at(
     requires { IsSized machine.now }
     ensures { IfOk result (IsRowAt machine.now likely.now.alive parts.old parts.new) }
 {
-    read_cells(machine, &mut parts.cells_now)?;
-    read_locks(machine, &mut parts.locks_now)?;
     Ok(Row {
-        cells: number_of_list(alloc, &mut parts.cells, &parts.cells_now, likely.cells)?,
-        locks: number_of_list(alloc, &mut parts.locks, &parts.locks_now, likely.locks)?,
+        cells: number_of_list(alloc, &mut parts.cells, machine.cells(), likely.cells)?,
+        locks: number_of_list(alloc, &mut parts.locks, machine.locks(), likely.locks)?,
         threads: number_threads(machine, &parts.dead, &mut parts.threads, &likely.threads)?,
         alive: likely.alive,
     })
+}
+
+/// Where the threads stand that have these numbers. What is no number has an idle one.
+fn threads_with(table: &IndexSet<Thread>, numbers: &[u32; 8]) -> [Thread; 8]
+    ensures { HaveNumbers table.now.keys numbers.now result }
+{
+    let idle = Thread {
+        done: 0,
+        activity: Activity::Idle,
+    };
+    let mut threads = [idle; 8];
+    for place in 0..8 {
+        if let Some(thread) = value_with(table, numbers[place]) {
+            threads[place] = *thread;
+        }
+    }
+    threads
+}
+
+/// Stands the machine at the node of the row.
+pub(crate) fn stand_at(machine: &mut Machine<'_>, row: &Row, parts: &Parts)
+    requires { CanStandAtRow machine.old.component machine.old.matrix parts.now row.now }
+    ensures { StandsAtRow parts.now row.now machine.old machine.new }
+{
+    let cells = list_with(&parts.cells, row.cells);
+    let locks = list_with(&parts.locks, row.locks);
+    let threads = threads_with(&parts.threads, &row.threads);
+    let count = usize::from(machine.matrix().threads());
+    machine.stand_with(cells, locks, &threads[..count]);
 }

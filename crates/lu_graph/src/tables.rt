@@ -1,7 +1,8 @@
 //! Tables in which each different value has a number.
 
-ghost use Rattle.std.specs.Prelude.{◌≡◌, ◌+◌, IfOk, IsTrue};
-ghost use Rattle.lu_graph.specs.Numbered.{IsNumber, IsNumbered, is_list};
+ghost use Rattle.indexmap.specs.IndexSet.{IsUnique};
+ghost use Rattle.std.specs.Prelude.{◌≡◌, ◌+◌, IfOk, IfSome, IsTrue, option_copied};
+ghost use Rattle.lu_graph.specs.Numbered.{IsNumber, IsNumbered, is_list, with_number};
 
 use indexmap::{Equivalent, IndexSet};
 use std::alloc::{AllocError, Global};
@@ -18,14 +19,31 @@ fn number_at(place: usize) -> Result<u32, AllocError>
     }
 }
 
-/// Whether this is the number of what the query stands for. None has the number 0.
+/// What has this number, if anything has. Nothing has the number 0.
+pub(crate) fn value_with<T: Eq + Hash>(table: &IndexSet<T>, number: u32) -> Option<&T>
+    ensures value { option_copied result ≡ with_number table.now.keys number }
+    ensures unique { IsUnique T.eq table.now }
+{
+    let values = table.as_slice();
+    let place = number.checked_sub(1)?;
+    values.get(place as usize)
+}
+
+/// The list with this number. What is no number has an empty one.
+pub(crate) fn list_with<T: Eq + Hash>(table: &IndexSet<Vec<T>>, number: u32) -> &[T]
+    ensures { IfSome (with_number table.now.keys number) (λ list. result.now ≡ list.items) }
+{
+    match value_with(table, number) {
+        None => &[],
+        Some(list) => list,
+    }
+}
+
+/// Whether this is the number of what the query stands for.
 fn has_number<T: Eq + Hash, Q: Equivalent<T>>(table: &IndexSet<T>, query: Q, number: u32) -> bool
     ensures { IsTrue result → IsNumber (Q.equivalent query) table.now.keys number }
 {
-    let Some(place) = number.checked_sub(1) else {
-        return false;
-    };
-    match table.as_slice().get(place as usize) {
+    match value_with(table, number) {
         None => false,
         Some(one) => query.equivalent(one),
     }

@@ -1,11 +1,10 @@
 use Rattle.std.proofs.Common.{arith, rules, ◌≡◌, ◌+◌, ◌≤◌, Bool, true, false, length, refl, sym, ◌∙◌, ap, subst}
 use Rattle.lu_component.specs.Component.{Component}
-use Rattle.lu_machine.specs.Positions.{CanStandAt, at_position}
 use Rattle.lu_machine.specs.Starts.{Settles}
 use Rattle.lu_machine.specs.States.{State}
 use Rattle.lu_machine.proofs.Starting.{settled_start}
 use Rattle.lu_horizon.specs.Dead.{DeadTable}
-use Rattle.lu_graph.specs.declared.holding.Nodes.{Nodes}
+use Rattle.lu_graph.specs.Growing.{state_of}
 use Rattle.lu_graph.specs.Guards.{TellsGuarded}
 use Rattle.lu_graph.specs.Judging.{IsOneOf, JudgesGood}
 use Rattle.lu_graph.specs.Nodes.{HasFewNodes}
@@ -62,7 +61,7 @@ returns-then-known-most-clause-ends g c =
     let searched = c.loop-at.invariant.known.3 in
     let place = c.loop-at.at in
     let many = hold.many in
-    too_many members decl matrix settles dead dead_known list place visited c.args.most (subst (λ d. AreDifferent d list) c.loop-at.invariant.dead (all_differ members c.loop-at.nodes list place hold c.len-known.ensures.unique)) (omega (arith, many, c.len-known.ensures.len))
+    too_many members decl matrix settles dead dead_known list place visited c.args.most (subst (λ d. AreDifferent d list) c.loop-at.invariant.dead (all_differ members c.loop-at.nodes list hold c.len-known.ensures.unique)) (omega (arith, many, c.len-known.ensures.len))
 
 differ : (b : Bool) → b ≡ false → b ≡ true → ⊥
 differ b p q = cc
@@ -81,7 +80,7 @@ returns-in-None-clause-ends g c =
     let searched = c.loop-at.invariant.known.3 in
     let place = c.loop-at.at in
     let many = hold.many in
-    let past : length list ≤ place = none_waits members c.loop-at.nodes list place hold (sym c.loop-at.nodes.waiting.ok.0 ∙ c.in-None.ensures.cases.0) in
+    let past : length list ≤ place = none_waits members c.loop-at.nodes list hold place (sym c.in-None.is ∙ c.row.ensures) in
     ends_well_there members decl matrix settles dead dead_known list place visited c.args.most past (omega (arith, many, c.len-known.ensures.len)) c.args.guards.now c.requires.guards c.loop-at.level.moves c.loop-at.level.end searched
 
 pub stand_at-requires : goal.stand_at-requires
@@ -98,12 +97,11 @@ stand_at-requires g c =
     let searched = c.loop-at.invariant.known.3 in
     let place = c.loop-at.at in
     let many = hold.many in
-    let popped : Nodes = record c.loop-at.nodes { waiting = c.pop_front.new.self } in
-    let one = next_there members c.loop-at.nodes list place hold popped c.in-Some.kept refl refl c.in-Some.ensures.items in
-    let kept = one.kept in
-    let here = one.there in
+    let one = next_there members c.loop-at.nodes list hold place c.in-Some.row (sym c.in-Some.is ∙ c.row.ensures) in
+    let kept = one.0 in
+    let here = one.1 in
     let can = can_stand members decl matrix settles dead dead_known list place visited c.loop-at.machine c.loop-at.invariant.component c.loop-at.invariant.matrix_is kept here in
-    subst (CanStandAt c.loop-at.machine.component c.loop-at.machine.matrix) one.position can
+    (kept, one.2, can)
 
 pub is_good-is_good-requires : goal.is_good-is_good-requires
 is_good-is_good-requires g c =
@@ -119,12 +117,11 @@ is_good-is_good-requires g c =
     let searched = c.loop-at.invariant.known.3 in
     let place = c.loop-at.at in
     let many = hold.many in
-    let popped : Nodes = record c.loop-at.nodes { waiting = c.pop_front.new.self } in
-    let one = next_there members c.loop-at.nodes list place hold popped c.in-Some.kept refl refl c.in-Some.ensures.items in
-    let kept = one.kept in
-    let here = one.there in
+    let one = next_there members c.loop-at.nodes list hold place c.in-Some.row (sym c.in-Some.is ∙ c.row.ensures) in
+    let kept = one.0 in
+    let here = one.1 in
     let can = can_stand members decl matrix settles dead dead_known list place visited c.loop-at.machine c.loop-at.invariant.component c.loop-at.invariant.matrix_is kept here in
-    as_many members decl matrix settles dead dead_known list place visited c.loop-at.machine c.loop-at.invariant.component c.loop-at.invariant.matrix_is kept here c.list.result.now (c.list.ensures kept.alive one.knows)
+    as_many members decl matrix settles dead dead_known list place visited c.loop-at.machine c.loop-at.invariant.component c.loop-at.invariant.matrix_is kept here c.list.result.now (c.list.ensures kept.alive one.2.alive)
 
 pub add_next-requires-clause-sized : goal.add_next-requires-clause-sized
 add_next-requires-clause-sized g c =
@@ -140,22 +137,27 @@ add_next-requires-clause-sized g c =
     let searched = c.loop-at.invariant.known.3 in
     let place = c.loop-at.at in
     let many = hold.many in
-    let popped : Nodes = record c.loop-at.nodes { waiting = c.pop_front.new.self } in
-    let one = next_there members c.loop-at.nodes list place hold popped c.in-Some.kept refl refl c.in-Some.ensures.items in
-    let kept = one.kept in
-    let here = one.there in
+    let one = next_there members c.loop-at.nodes list hold place c.in-Some.row (sym c.in-Some.is ∙ c.row.ensures) in
+    let kept = one.0 in
+    let here = one.1 in
     let can = can_stand members decl matrix settles dead dead_known list place visited c.loop-at.machine c.loop-at.invariant.component c.loop-at.invariant.matrix_is kept here in
-    sized_there c.loop-at.machine c.stand_at.new.self kept can (c.stand_at.ensures ∙ ap (at_position c.loop-at.machine) (sym one.position))
+    sized_there c.loop-at.machine c.stand_at.new.machine kept can (c.stand_at.ensures kept one.2)
 
 -- the same arrays are guarded
 pub add_next-requires-clause-guards : goal.add_next-requires-clause-guards
 add_next-requires-clause-guards g c =
-    let same = ap (λ (s : State). s.component) c.stand_at.ensures ∙ c.loop-at.invariant.component in
+    let list = c.loop-at.invariant.known.0 in
+    let hold = c.loop-at.invariant.known.1 in
+    let one = next_there c.args.members.now c.loop-at.nodes list hold c.loop-at.at c.in-Some.row (sym c.in-Some.is ∙ c.row.ensures) in
+    let same = ap (λ (s : State). s.component) (c.stand_at.ensures one.0 one.2) ∙ c.loop-at.invariant.component in
     subst (λ (d : Component). TellsGuarded d c.args.guards.now) (sym same) c.requires.guards
 
 pub are_few-requires-clause-guards : goal.are_few-requires-clause-guards
 are_few-requires-clause-guards g c =
-    let same = ap (λ (s : State). s.component) c.in_ok-add_next.ensures.home ∙ (ap (λ (s : State). s.component) c.stand_at.ensures ∙ c.loop-at.invariant.component) in
+    let list = c.loop-at.invariant.known.0 in
+    let hold = c.loop-at.invariant.known.1 in
+    let one = next_there c.args.members.now c.loop-at.nodes list hold c.loop-at.at c.in-Some.row (sym c.in-Some.is ∙ c.row.ensures) in
+    let same = ap (λ (s : State). s.component) c.in_ok-add_next.ensures.home ∙ (ap (λ (s : State). s.component) (c.stand_at.ensures one.0 one.2) ∙ c.loop-at.invariant.component) in
     subst (λ (d : Component). TellsGuarded d c.args.guards.now) (sym same) c.requires.guards
 
 -- its setup settles
@@ -170,11 +172,10 @@ are_few-requires-clause-settles g c =
     let list = c.loop-at.invariant.known.0 in
     let hold = c.loop-at.invariant.known.1 in
     let place = c.loop-at.at in
-    let popped : Nodes = record c.loop-at.nodes { waiting = c.pop_front.new.self } in
-    let one = next_there members c.loop-at.nodes list place hold popped c.in-Some.kept refl refl c.in-Some.ensures.items in
-    let kept = one.kept in
-    let stood : c.stand_at.new.self ≡ at_position c.loop-at.machine kept.position = c.stand_at.ensures ∙ ap (at_position c.loop-at.machine) (sym one.position) in
-    let home : c.add_next.new.machine ≡ at_position c.loop-at.machine kept.position = c.in_ok-add_next.ensures.home ∙ stood in
+    let one = next_there members c.loop-at.nodes list hold place c.in-Some.row (sym c.in-Some.is ∙ c.row.ensures) in
+    let kept = one.0 in
+    let stood : c.stand_at.new.machine ≡ state_of c.loop-at.machine.component c.loop-at.machine.matrix kept = c.stand_at.ensures kept one.2 in
+    let home : c.add_next.new.machine ≡ state_of c.loop-at.machine.component c.loop-at.machine.matrix kept = c.in_ok-add_next.ensures.home ∙ stood in
     let same_component = ap (λ (s : State). s.component) home ∙ c.loop-at.invariant.component in
     let same_matrix = ap (λ (s : State). s.matrix) home ∙ c.loop-at.invariant.matrix_is in
     subst (Settles c.add_next.new.machine.component) (sym same_matrix) (subst (λ (d : Component). Settles d matrix) (sym same_component) settles)
@@ -193,23 +194,22 @@ are_few-requires-clause-visited g c =
     let searched = c.loop-at.invariant.known.3 in
     let place = c.loop-at.at in
     let many = hold.many in
-    let popped : Nodes = record c.loop-at.nodes { waiting = c.pop_front.new.self } in
-    let one = next_there members c.loop-at.nodes list place hold popped c.in-Some.kept refl refl c.in-Some.ensures.items in
-    let kept = one.kept in
-    let here = one.there in
+    let one = next_there members c.loop-at.nodes list hold place c.in-Some.row (sym c.in-Some.is ∙ c.row.ensures) in
+    let kept = one.0 in
+    let here = one.1 in
     let can = can_stand members decl matrix settles dead dead_known list place visited c.loop-at.machine c.loop-at.invariant.component c.loop-at.invariant.matrix_is kept here in
-    let stood : c.stand_at.new.self ≡ at_position c.loop-at.machine kept.position = c.stand_at.ensures ∙ ap (at_position c.loop-at.machine) (sym one.position) in
-    let home : c.add_next.new.machine ≡ at_position c.loop-at.machine kept.position = c.in_ok-add_next.ensures.home ∙ stood in
+    let stood : c.stand_at.new.machine ≡ state_of c.loop-at.machine.component c.loop-at.machine.matrix kept = c.stand_at.ensures kept one.2 in
+    let home : c.add_next.new.machine ≡ state_of c.loop-at.machine.component c.loop-at.machine.matrix kept = c.in_ok-add_next.ensures.home ∙ stood in
     let alive = kept.alive in
-    let there : KnowsDead c.stand_at.new.self.component c.loop-at.nodes.parts.dead = known_there decl dead dead_known c.stand_at.new.self.component c.loop-at.nodes.parts.dead (ap (λ (s : State). s.component) stood ∙ c.loop-at.invariant.component) c.loop-at.invariant.dead in
-    let more = c.in_ok-add_next.ensures.next list (place + 1) alive one.held one.knows there in (
+    let there : KnowsDead c.stand_at.new.machine.component c.loop-at.nodes.parts.dead = known_there decl dead dead_known c.stand_at.new.machine.component c.loop-at.nodes.parts.dead (ap (λ (s : State). s.component) stood ∙ c.loop-at.invariant.component) c.loop-at.invariant.dead in
+    let more = c.in_ok-add_next.ensures.next list alive hold one.2.alive there in (
       more.list,
       more.hold,
       from_there members decl matrix settles dead dead_known list place visited c.loop-at.machine c.loop-at.invariant.component c.loop-at.invariant.matrix_is kept here c.add_next.new.machine alive home refl
           (λ s. AreVisited c.args.members.now s more.list (c.loop-at.at + 1))
           (visited_next members decl matrix settles dead dead_known list place visited c.loop-at.machine c.loop-at.invariant.component c.loop-at.invariant.matrix_is kept here
-          c.stand_at.new.self alive stood refl more.list more.grown),
-      known_there decl dead dead_known c.add_next.new.machine.component c.add_next.new.nodes.parts.dead (ap (λ (s : State). s.component) home ∙ c.loop-at.invariant.component) (more.dead ∙ c.loop-at.invariant.dead),
+          c.stand_at.new.machine alive stood refl more.list more.grown),
+      known_there decl dead dead_known c.add_next.new.machine.component c.add_next.new.nodes.parts.dead (ap (λ (s : State). s.component) home ∙ c.loop-at.invariant.component) (more.parts.dead ∙ c.loop-at.invariant.dead),
     )
 
 pub returns-then-not-branch-clause-ends : goal.returns-then-not-branch-clause-ends
@@ -226,16 +226,15 @@ returns-then-not-branch-clause-ends g c =
     let searched = c.loop-at.invariant.known.3 in
     let place = c.loop-at.at in
     let many = hold.many in
-    let popped : Nodes = record c.loop-at.nodes { waiting = c.pop_front.new.self } in
-    let one = next_there members c.loop-at.nodes list place hold popped c.in-Some.kept refl refl c.in-Some.ensures.items in
-    let kept = one.kept in
-    let here = one.there in
+    let one = next_there members c.loop-at.nodes list hold place c.in-Some.row (sym c.in-Some.is ∙ c.row.ensures) in
+    let kept = one.0 in
+    let here = one.1 in
     let can = can_stand members decl matrix settles dead dead_known list place visited c.loop-at.machine c.loop-at.invariant.component c.loop-at.invariant.matrix_is kept here in
-    let stood : c.stand_at.new.self ≡ at_position c.loop-at.machine kept.position = c.stand_at.ensures ∙ ap (at_position c.loop-at.machine) (sym one.position) in
-    let home : c.add_next.new.machine ≡ at_position c.loop-at.machine kept.position = c.in_ok-add_next.ensures.home ∙ stood in
+    let stood : c.stand_at.new.machine ≡ state_of c.loop-at.machine.component c.loop-at.machine.matrix kept = c.stand_at.ensures kept one.2 in
+    let home : c.add_next.new.machine ≡ state_of c.loop-at.machine.component c.loop-at.machine.matrix kept = c.in_ok-add_next.ensures.home ∙ stood in
     let alive = kept.alive in
-    let there : KnowsDead c.stand_at.new.self.component c.loop-at.nodes.parts.dead = known_there decl dead dead_known c.stand_at.new.self.component c.loop-at.nodes.parts.dead (ap (λ (s : State). s.component) stood ∙ c.loop-at.invariant.component) c.loop-at.invariant.dead in
-    let more = c.in_ok-add_next.ensures.next list (place + 1) alive one.held one.knows there in
+    let there : KnowsDead c.stand_at.new.machine.component c.loop-at.nodes.parts.dead = known_there decl dead dead_known c.stand_at.new.machine.component c.loop-at.nodes.parts.dead (ap (λ (s : State). s.component) stood ∙ c.loop-at.invariant.component) c.loop-at.invariant.dead in
+    let more = c.in_ok-add_next.ensures.next list alive hold one.2.alive there in
     let other : c.in_ok-are_few.field-0 ≡ false = search rules in
     let said = from_here members decl matrix settles dead dead_known list place visited c.loop-at.machine c.loop-at.invariant.component c.loop-at.invariant.matrix_is kept here c.add_next.new.machine alive home refl
     (λ s. HasFewNodes (IsOneOf c.args.members.now) s c.args.most → c.in_ok-are_few.field-0 ≡ true) (λ s is. (c.in_ok-are_few.ensures.few s is).1) in
@@ -255,21 +254,20 @@ returns-then-not-is_good-clause-ends g c =
     let searched = c.loop-at.invariant.known.3 in
     let place = c.loop-at.at in
     let many = hold.many in
-    let popped : Nodes = record c.loop-at.nodes { waiting = c.pop_front.new.self } in
-    let one = next_there members c.loop-at.nodes list place hold popped c.in-Some.kept refl refl c.in-Some.ensures.items in
-    let kept = one.kept in
-    let here = one.there in
+    let one = next_there members c.loop-at.nodes list hold place c.in-Some.row (sym c.in-Some.is ∙ c.row.ensures) in
+    let kept = one.0 in
+    let here = one.1 in
     let can = can_stand members decl matrix settles dead dead_known list place visited c.loop-at.machine c.loop-at.invariant.component c.loop-at.invariant.matrix_is kept here in
-    let stood : c.stand_at.new.self ≡ at_position c.loop-at.machine kept.position = c.stand_at.ensures ∙ ap (at_position c.loop-at.machine) (sym one.position) in
-    let home : c.add_next.new.machine ≡ at_position c.loop-at.machine kept.position = c.in_ok-add_next.ensures.home ∙ stood in
+    let stood : c.stand_at.new.machine ≡ state_of c.loop-at.machine.component c.loop-at.machine.matrix kept = c.stand_at.ensures kept one.2 in
+    let home : c.add_next.new.machine ≡ state_of c.loop-at.machine.component c.loop-at.machine.matrix kept = c.in_ok-add_next.ensures.home ∙ stood in
     let alive = kept.alive in
-    let there : KnowsDead c.stand_at.new.self.component c.loop-at.nodes.parts.dead = known_there decl dead dead_known c.stand_at.new.self.component c.loop-at.nodes.parts.dead (ap (λ (s : State). s.component) stood ∙ c.loop-at.invariant.component) c.loop-at.invariant.dead in
-    let more = c.in_ok-add_next.ensures.next list (place + 1) alive one.held one.knows there in
+    let there : KnowsDead c.stand_at.new.machine.component c.loop-at.nodes.parts.dead = known_there decl dead dead_known c.stand_at.new.machine.component c.loop-at.nodes.parts.dead (ap (λ (s : State). s.component) stood ∙ c.loop-at.invariant.component) c.loop-at.invariant.dead in
+    let more = c.in_ok-add_next.ensures.next list alive hold one.2.alive there in
     let other : c.is_good-is_good.result ≡ false = search rules in
-    let judged = subst (λ bits. JudgesGood members c.stand_at.new.self bits c.is_good-is_good.result) (c.list.ensures alive one.knows) c.is_good-is_good.ensures in
+    let judged = subst (λ bits. JudgesGood members c.stand_at.new.machine bits c.is_good-is_good.result) (c.list.ensures alive one.2.alive) c.is_good-is_good.ensures in
     let level = searched_at members decl matrix settles dead dead_known list place visited c.loop-at.level c.at-level.result c.len-known.result (c.len-known.ensures.len ∙ many) searched c.loop-at.invariant.moves kept (sym here) c.at-level.ensures in
     λ s is. (
-      badly members decl matrix settles dead dead_known list place visited c.loop-at.machine c.loop-at.invariant.component c.loop-at.invariant.matrix_is kept here c.stand_at.new.self alive stood refl
+      badly members decl matrix settles dead dead_known list place visited c.loop-at.machine c.loop-at.invariant.component c.loop-at.invariant.matrix_is kept here c.stand_at.new.machine alive stood refl
           c.args.guards.now c.requires.guards c.at-level.result.moves c.at-level.result.end level.2 level.0 c.is_good-is_good.result other judged s is,
       (λ far. elim c.else-is_far.branch as (λ _. HasFewNodes (IsOneOf c.args.members.now) s c.args.most) [
         | else-is_far-via-then-is_far+in_ok-are_few+else-not-branch w ↦
@@ -294,30 +292,29 @@ loop-at-preserved g c =
     let searched = c.loop-at.invariant.known.3 in
     let place = c.loop-at.at in
     let many = hold.many in
-    let popped : Nodes = record c.loop-at.nodes { waiting = c.pop_front.new.self } in
-    let one = next_there members c.loop-at.nodes list place hold popped c.in-Some.kept refl refl c.in-Some.ensures.items in
-    let kept = one.kept in
-    let here = one.there in
+    let one = next_there members c.loop-at.nodes list hold place c.in-Some.row (sym c.in-Some.is ∙ c.row.ensures) in
+    let kept = one.0 in
+    let here = one.1 in
     let can = can_stand members decl matrix settles dead dead_known list place visited c.loop-at.machine c.loop-at.invariant.component c.loop-at.invariant.matrix_is kept here in
-    let stood : c.stand_at.new.self ≡ at_position c.loop-at.machine kept.position = c.stand_at.ensures ∙ ap (at_position c.loop-at.machine) (sym one.position) in
-    let home : c.add_next.new.machine ≡ at_position c.loop-at.machine kept.position = c.in_ok-add_next.ensures.home ∙ stood in
+    let stood : c.stand_at.new.machine ≡ state_of c.loop-at.machine.component c.loop-at.machine.matrix kept = c.stand_at.ensures kept one.2 in
+    let home : c.add_next.new.machine ≡ state_of c.loop-at.machine.component c.loop-at.machine.matrix kept = c.in_ok-add_next.ensures.home ∙ stood in
     let alive = kept.alive in
-    let there : KnowsDead c.stand_at.new.self.component c.loop-at.nodes.parts.dead = known_there decl dead dead_known c.stand_at.new.self.component c.loop-at.nodes.parts.dead (ap (λ (s : State). s.component) stood ∙ c.loop-at.invariant.component) c.loop-at.invariant.dead in
-    let more = c.in_ok-add_next.ensures.next list (place + 1) alive one.held one.knows there in
-    let judged = subst (λ bits. JudgesGood members c.stand_at.new.self bits c.is_good-is_good.result) (c.list.ensures alive one.knows) c.is_good-is_good.ensures in
+    let there : KnowsDead c.stand_at.new.machine.component c.loop-at.nodes.parts.dead = known_there decl dead dead_known c.stand_at.new.machine.component c.loop-at.nodes.parts.dead (ap (λ (s : State). s.component) stood ∙ c.loop-at.invariant.component) c.loop-at.invariant.dead in
+    let more = c.in_ok-add_next.ensures.next list alive hold one.2.alive there in
+    let judged = subst (λ bits. JudgesGood members c.stand_at.new.machine bits c.is_good-is_good.result) (c.list.ensures alive one.2.alive) c.is_good-is_good.ensures in
     let level = searched_at members decl matrix settles dead dead_known list place visited c.loop-at.level c.at-level.result c.len-known.result (c.len-known.ensures.len ∙ many) searched c.loop-at.invariant.moves kept (sym here) c.at-level.ensures in
     record {
       component = ap (λ (s : State). s.component) home ∙ c.loop-at.invariant.component;
       matrix_is = ap (λ (s : State). s.matrix) home ∙ c.loop-at.invariant.matrix_is;
       base = search rules;
       running = search rules;
-      dead = more.dead ∙ c.loop-at.invariant.dead;
+      dead = more.parts.dead ∙ c.loop-at.invariant.dead;
       known = (
         more.list,
         more.hold,
         visited_next members decl matrix settles dead dead_known list place visited c.loop-at.machine c.loop-at.invariant.component c.loop-at.invariant.matrix_is kept here
-            c.stand_at.new.self alive stood refl more.list more.grown,
-        searched_next members decl matrix settles dead dead_known list place visited c.loop-at.machine c.loop-at.invariant.component c.loop-at.invariant.matrix_is kept here c.stand_at.new.self alive stood refl more.list more.grown
+            c.stand_at.new.machine alive stood refl more.list more.grown,
+        searched_next members decl matrix settles dead dead_known list place visited c.loop-at.machine c.loop-at.invariant.component c.loop-at.invariant.matrix_is kept here c.stand_at.new.machine alive stood refl more.list more.grown
             c.at-level.result.moves c.at-level.result.end level.2 level.0 c.is_good-is_good.result (search rules) judged,
       );
       moves = level.1;
@@ -337,7 +334,7 @@ returns-then-len-most-clause-ends g c =
     let searched = c.loop-at.invariant.known.3 in
     let place = c.loop-at.at in
     let many = hold.many in
-    too_many members decl matrix settles dead dead_known list place visited c.args.most (subst (λ d. AreDifferent d list) c.loop-at.invariant.dead (all_differ members c.loop-at.nodes list place hold c.len-2.ensures.unique)) (omega (arith, many, c.len-2.ensures.len))
+    too_many members decl matrix settles dead dead_known list place visited c.args.most (subst (λ d. AreDifferent d list) c.loop-at.invariant.dead (all_differ members c.loop-at.nodes list hold c.len-2.ensures.unique)) (omega (arith, many, c.len-2.ensures.len))
 
 pub returns-clause-ends : goal.returns-clause-ends
 returns-clause-ends g c =

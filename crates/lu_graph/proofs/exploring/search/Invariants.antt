@@ -12,7 +12,7 @@ invariant-loop-at g l = record {
   base : g.W.Watch.base l.watch ≡ g.W.Watch.base l.fn.watch;
   running : g.W.Watch.is_stopped l.watch ≡ false;
   dead : l.nodes.parts.dead ≡ l.fn.nodes.parts.dead;
-  known : (list : List Kept) × Hold l.members l.nodes list l.at
+  known : (list : List Kept) × Hold l.members l.nodes list
       × AreVisitedFrom l.members l.fn.machine.component l.fn.machine.matrix list l.at
       × AreSearchedFrom l.members l.fn.machine.component l.fn.machine.matrix list l.at l.level.moves l.level.end;
   moves : l.level.moves < l.level.end;

@@ -1,22 +1,28 @@
-use Rattle.std.proofs.Common.{arith, ◌+◌, ◌<◌, set, ap, sym, ◌∙◌, subst}
-use Rattle.lu_graph.proofs.Numbers.{AreNumbersSoFar, so_far_all, so_far_more, so_far_none}
+use Rattle.std.proofs.Common.{arith, ◌+◌, ◌<◌, replicate, set, refl, ap, sym, ◌∙◌, subst}
+use Rattle.lu_graph.proofs.Many.{some_at}
+use Rattle.lu_graph.proofs.Numbers.{AreNumbersSoFar, all_zero, so_far_all, so_far_first, so_far_more}
 use Rattle.lu_graph.proofs.row.number_threads.Goals.{in-Some+in_ok-numbers, in_default}
 use Rattle.lu_graph.proofs.row.number_threads.Goals as goal
 
+pub loop-thread-init : goal.loop-thread-init
+loop-thread-init c =
+    so_far_first c.args.dead.now c.args.machine.now c.args.table.now.keys (replicate 8 0) refl (all_zero 8)
+
 pub loop-thread-preserved : goal.loop-thread-preserved
 loop-thread-preserved c =
-    let threads = c.args.machine.now.threads in
+    let s = c.args.machine.now in
     let dead = c.args.dead.now in
     let old = c.args.table.now.keys in
     let done = c.loop-thread.thread in
     let few : done < 8 = omega (arith, c.loop-thread-test.true, c.threads-thread-end.ensures.value, c.threads-thread-end.ensures.few) in
-    elim c.match-standing.branch as (λ _. AreNumbersSoFar c.args.dead.now c.args.machine.now.threads c.args.table.now.keys c.match-standing.table.keys (c.loop-thread.thread + 1) c.match-standing.numbers) [
-      | in-Some+in_ok-numbers w ↦ subst (λ x. AreNumbersSoFar dead threads old x.keys (done + 1) c.match-standing.numbers) (sym w.table-is)
-          (so_far_more dead threads old c.loop-thread.table.keys w.number_of.new.table.keys done w.in_ok-numbers.field-0 c.loop-thread.numbers c.match-standing.numbers w.in-Some.standing.now w.live.result c.loop-thread.invariant few
-          (sym w.in-Some.ensures.value) w.live.ensures w.in_ok-numbers.ensures (w.numbers-is ∙ ap (λ k. set c.loop-thread.numbers k w.in_ok-numbers.field-0) w.from-place.ensures))
-      | in_default w ↦ subst (λ x. AreNumbersSoFar dead threads old x.keys (done + 1) c.match-standing.numbers) (sym w.table-is)
-          (subst (AreNumbersSoFar dead threads old c.loop-thread.table.keys (done + 1)) (sym w.numbers-is)
-          (so_far_none dead threads old c.loop-thread.table.keys done c.loop-thread.numbers c.loop-thread.invariant (sym w.in_default.ensures.value)))
+    elim c.match-standing.branch as (λ _. AreNumbersSoFar c.args.dead.now c.args.machine.now c.args.table.now.keys c.match-standing.table.keys (c.loop-thread.thread + 1) c.match-standing.numbers) [
+      | in-Some+in_ok-numbers w ↦ subst (λ x. AreNumbersSoFar dead s old x.keys (done + 1) c.match-standing.numbers) (sym w.table-is)
+          (so_far_more dead s old c.loop-thread.table.keys w.number_of.new.table.keys done w.in_ok-numbers.field-0 c.loop-thread.numbers c.match-standing.numbers w.in-Some.standing.now w.live.result c.loop-thread.invariant few
+          (sym w.in-Some.ensures.value) w.in-Some.ensures.stands w.in-Some.ensures.in_code w.live.ensures w.in_ok-numbers.ensures (w.numbers-is ∙ ap (λ k. set c.loop-thread.numbers k w.in_ok-numbers.field-0) w.from-place.ensures))
+      | in_default w ↦ absurd
+          (let one = some_at s.threads done (omega (arith, c.loop-thread-test.true, c.threads-thread-end.ensures.value)) in
+          let wrong = w.in_default.ensures.value ∙ one.1 in
+          cc)
     ]
 
 pub returns : goal.returns

@@ -2,4 +2,4 @@ use Rattle.lu_graph.proofs.Numbers.{AreNumbersSoFar}
 use Rattle.lu_graph.proofs.row.number_threads.Given as goal
 
 abbrev pub invariant-loop-thread : goal.invariant-loop-thread
-invariant-loop-thread l = AreNumbersSoFar l.dead l.machine.threads l.fn.table.keys l.table.keys l.thread l.numbers
+invariant-loop-thread l = AreNumbersSoFar l.dead l.machine l.fn.table.keys l.table.keys l.thread l.numbers

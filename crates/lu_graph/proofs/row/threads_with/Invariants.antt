@@ -1,0 +1,10 @@
+use Rattle.std.proofs.Common.{◌≡◌, ℕ, ◌<◌, Some, length, slice_get}
+use Rattle.std.specs.Prelude.{IfSome}
+use Rattle.std.specs.List.{slice_index}
+use Rattle.lu_graph.specs.Numbered.{with_number}
+use Rattle.lu_graph.proofs.row.threads_with.Given as goal
+
+abbrev pub invariant-loop-place : goal.invariant-loop-place
+invariant-loop-place l =
+    (length l.threads ≡ 8)
+    × ((t : ℕ) → t < l.place → IfSome (with_number l.table.keys (slice_index l.numbers t)) (λ thread. slice_get l.threads t ≡ Some thread))
