@@ -10,7 +10,7 @@ use Rattle.lu_recorded.specs.RecordedText.{recorded_grammar}
 use denote.Ref.{Bor}
 use Rattle.lu_lint.specs.declared.remark.Said.{Said}
 use Rattle.lu_lint.specs.Said.{above_next}
-use Rattle.lu_lint.specs.Third.{begin_history, histories_said, history_said}
+use Rattle.lu_lint.specs.Parts.{begin_history, histories_said, history_said}
 
 -- ---- the first word of a text
 

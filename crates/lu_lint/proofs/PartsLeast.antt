@@ -40,8 +40,8 @@ use Rattle.lu_lint.specs.declared.remark.FaultKind.{FaultKind}
 use Rattle.lu_lint.specs.declared.remark.FaultKind.TheVariants as part
 use Rattle.lu_lint.specs.declared.remark.Cause.{Cause}
 use Rattle.lu_lint.specs.declared.remark.Cause.TheVariants.{Fault, FifthPart, Separator, Warning, Run}
-use Rattle.lu_lint.specs.declared.third.Third.{Third}
-use Rattle.lu_lint.specs.declared.third.Third.TheVariants.{Specification, Report, History, Schedule}
+use Rattle.lu_lint.specs.declared.part_kind.PartKind.{PartKind}
+use Rattle.lu_lint.specs.declared.part_kind.PartKind.TheVariants.{Specification, Report, History, Schedule}
 use Rattle.lu_lint.specs.declared.component.ReadComponent.{ReadComponent}
 use Rattle.lu_lint.specs.declared.component.ReadComponent.TheVariants as read
 use Rattle.lu_text.specs.Bundle.{meant_parts}
@@ -55,7 +55,7 @@ use Rattle.lu_lint.specs.Signatures.{signatures_meant}
 use Rattle.lu_lint.specs.Runs.{RunsSaid}
 use Rattle.lu_lint.specs.Said.{SaysFurther, above_next, line_below, said_faults, said_of_text, said_told}
 use Rattle.lu_lint.specs.Schedule.{AgreeOn, schedule_faults, schedule_said, schedule_told}
-use Rattle.lu_lint.specs.Third.{ReportSaid, SaidOfSome, SpecificationSaid, ThirdSaid, histories_of, histories_said, history_said, report_said, specification_said, third_of}
+use Rattle.lu_lint.specs.Parts.{ReportSaid, SaidOfSome, SpecificationSaid, PartSaid, histories_of, histories_said, history_said, report_said, specification_said, kind_of}
 use Rattle.lu_lint.specs.Warnings.{holds, possible_of_lines, warned}
 use Rattle.lu_lint.proofs.Going.{component_agrees, matrix_agrees}
 use Rattle.lu_lint.proofs.KeptOrder.{IsOfKey, none_picked, picked_alike}
@@ -178,7 +178,7 @@ histories_of_are None above texts = All-nil (λ s. part_of s.cause ≡ 6)
 histories_of_are (Some m) above texts = histories_are m above texts
 
 -- what is said of a third part
-third_not : (p : ℕ) → p < 3 → (third : Third) (m : Option Matrix) (above : ℕ) (text : List ℕ) (said : List Said) → ThirdSaid third m above text said → AreNot p said
+third_not : (p : ℕ) → p < 3 → (third : PartKind) (m : Option Matrix) (above : ℕ) (text : List ℕ) (said : List Said) → PartSaid third m above text said → AreNot p said
 third_not p low Specification m above text said h = not_other p 5 said (λ e. omega arith) (specification_are m above text said h)
 third_not p low Report m above text said h = not_other p 4 said (λ e. omega arith) (report_are above text said h)
 third_not p low History m above text said h = not_other p 6 said (λ e. omega arith) (subst (AreOf 6) (sym h) (histories_of_are m above (text ∷ [])))
@@ -195,7 +195,7 @@ fourth_not p five zero m above (text ∷ texts) said h =
     subst (AreNot p) (sym h.2) (not_both p h.0 (fifth_said (above_next above text) texts) (not_other p 5 h.0 five (specification_are m above text h.0 h.1)) (not_other p 0 _ zero (fifth_are (above_next above text) texts)))
 
 -- of those after a third part
-after_third_not : (p : ℕ) → (5 ≡ p → ⊥) → (0 ≡ p → ⊥) → (6 ≡ p → ⊥) → (third : Third) (m : Option Matrix) (above : ℕ) (texts : List (List ℕ)) (said : List Said) → AfterThird third m above texts said → AreNot p said
+after_third_not : (p : ℕ) → (5 ≡ p → ⊥) → (0 ≡ p → ⊥) → (6 ≡ p → ⊥) → (third : PartKind) (m : Option Matrix) (above : ℕ) (texts : List (List ℕ)) (said : List Said) → AfterThird third m above texts said → AreNot p said
 after_third_not p five zero six Specification m above texts said h = not_other p 6 said six (subst (AreOf 6) (sym h) (histories_of_are m above texts))
 after_third_not p five zero six Report m above texts said h = fourth_not p five zero m above texts said h
 after_third_not p five zero six History m above texts said h = not_other p 6 said six (subst (AreOf 6) (sym h) (histories_of_are m above texts))
@@ -205,7 +205,7 @@ after_third_not p five zero six Schedule m above texts said h = fourth_not p fiv
 further_not : (p : ℕ) → 0 < p → p < 3 → (m : Option Matrix) (above : ℕ) (parts : List (List ℕ)) (said : List Said) → AfterMatrix m above parts said → AreNot p said
 further_not p some low m above [] said h = not_none p said h
 further_not p some low m above (text ∷ texts) said h =
-    subst (AreNot p) (sym h.2.2) (not_both p h.0 h.2.0 (third_not p low (third_of text) m above text h.0 h.1) (after_third_not p (λ e. omega arith) (λ e. omega arith) (λ e. omega arith) (third_of text) m (above_next above text) texts h.2.0 h.2.1))
+    subst (AreNot p) (sym h.2.2) (not_both p h.0 h.2.0 (third_not p low (kind_of text) m above text h.0 h.1) (after_third_not p (λ e. omega arith) (λ e. omega arith) (λ e. omega arith) (kind_of text) m (above_next above text) texts h.2.0 h.2.1))
 
 -- ---- a specification and a report: their faults rise
 
@@ -425,7 +425,7 @@ module _ (first third behind runs found said : List Said) (parts : found ≡ (fi
       subst (AgreeOn _) (sym same) (schedule_agrees text)
 
   -- a third part that is this, and the one after it
-  third_least : (third_is : Third) (m : Option Matrix) (above : ℕ) (text : List ℕ) (texts : List (List ℕ)) → ThirdSaid third_is m above text third → AfterThird third_is m (above_next above text) texts behind → ThirdLeast third_is m text said × FourthLeast third_is m texts said
+  third_least : (third_is : PartKind) (m : Option Matrix) (above : ℕ) (text : List ℕ) (texts : List (List ℕ)) → PartSaid third_is m above text third → AfterThird third_is m (above_next above text) texts behind → ThirdLeast third_is m text said × FourthLeast third_is m texts said
   third_least Specification m above text texts t b =
       (specification_third m text (not_other 5 6 behind (λ e. omega arith) (subst (AreOf 6) (sym b) (histories_of_are m (above_next above text) texts))) (some_here m above text third t), no_fourth_after_specification m texts said)
   third_least History m above text texts t b = (tt, no_fourth_after_history m texts said)
@@ -503,7 +503,7 @@ further_least : (m : Option Matrix) (above : ℕ) (texts : List (List ℕ)) (fir
 further_least m above [] first further runs found said parts moved stable not_first are_runs h = tt
 further_least m above (text ∷ texts) first further runs found said parts moved stable not_first are_runs h =
     let all : found ≡ (first ++ (h.0 ++ h.2.0)) ++ runs = parts ∙ ap (λ (xs : List Said). (first ++ xs) ++ runs) h.2.2 in
-    third_least first h.0 h.2.0 runs found said all moved stable not_first are_runs (third_of text) m above text texts h.1 h.2.1
+    third_least first h.0 h.2.0 runs found said all moved stable not_first are_runs (kind_of text) m above text texts h.1 h.2.1
 
 -- the same, part after part
 in_order : (a b m f r : List Said) → a ++ (b ++ (m ++ (f ++ r))) ≡ ((a ++ (b ++ m)) ++ f) ++ r

@@ -16,6 +16,7 @@ use Rattle.lu_lint.specs.declared.component.ReadComponent.{ReadComponent}
 use Rattle.lu_lint.specs.declared.component.ReadComponent.TheVariants as read
 use Rattle.lu_lint.specs.declared.remark.Remark.{Remark}
 use Rattle.lu_lint.specs.declared.remark.Said.{Said}
+use Rattle.lu_lint.specs.declared.warning.FoundHint.{FoundHint}
 use Rattle.lu_lint.specs.declared.warning.PossibleWarning.{PossibleWarning}
 use Rattle.lu_lint.specs.Bundle.{held_of, warnings_said}
 use Rattle.lu_lint.specs.Component.{read_as, read_of_lines}
@@ -34,12 +35,12 @@ Finds true found seen n f lines total = (f.meant ≡ []) × (found ++ possible_a
 Finds false found seen n f lines total = Unit {0}
 
 -- one line more
-pub finds_on : (sound none : Bool) (found more : List Possible) (seen : List ℕ) (n : ℕ) (d : ComponentDraft) (f f1 next : FaultyDraft) (fault : Option LangFaultKind) (line : List ℕ) (after rest : List (List ℕ)) (total : List Possible)
-    → d ≡ f.draft → is_some fault ≡ not none → (f1, fault) ≡ going_on f (faulty_grammar.line f line) → next ≡ left_by mend_faulty f1 line after fault → more ≡ found ++ cond sound (map (possible seen n) (line_hints d line)) []
+pub finds_on : (sound none : Bool) (found more : List Possible) (hints : List FoundHint) (seen : List ℕ) (n : ℕ) (d : ComponentDraft) (f f1 next : FaultyDraft) (fault : Option LangFaultKind) (line : List ℕ) (after rest : List (List ℕ)) (total : List Possible)
+    → d ≡ f.draft → is_some fault ≡ not none → (f1, fault) ≡ going_on f (faulty_grammar.line f line) → next ≡ left_by mend_faulty f1 line after fault → more ≡ found ++ map (possible seen n) hints → hints ≡ cond sound (line_hints d line) []
     → Finds sound found seen n f (line ∷ rest) total → Finds (sound && none) more (with_words seen n line) (n + 1) next rest total
 unfolding possible_after
-finds_on false none found more seen n d f f1 next fault line after rest total inside is e left also h = tt
-finds_on true none found more seen n d f f1 next fault line after rest total inside is e left also h = rw (free (is_some fault) none is) (go (line_of f.draft (meant_as f line)) refl e)
+finds_on false none found more hints seen n d f f1 next fault line after rest total inside is e left also are h = tt
+finds_on true none found more hints seen n d f f1 next fault line after rest total inside is e left also are h = rw (free (is_some fault) none is) (go (line_of f.draft (meant_as f line)) refl e)
   where
     others : ComponentDraft → List Possible
     others x = possible_after (with_words seen n line) (n + 1) x rest
@@ -51,7 +52,7 @@ finds_on true none found more seen n d f f1 next fault line after rest total ins
     plain = ap (λ (o : Option (List ℕ)). unwrap_or o line) (ap (λ (ms : List MeantName). meant_line (record { draft = f.draft; meant = ms }) line) h.0 ∙ same_line f.draft line)
 
     told : more ≡ found ++ here
-    told = also ∙ ap (λ (x : ComponentDraft). found ++ map (possible seen n) (line_hints x line)) inside
+    told = also ∙ ap (λ (xs : List FoundHint). found ++ map (possible seen n) xs) (are ∙ ap (λ (x : ComponentDraft). line_hints x line) inside)
 
     go : (r : Result ComponentDraft LangFaultKind) → line_of f.draft (meant_as f line) ≡ r → (f1, fault) ≡ going_on f (with_draft f r) → Finds (true && is_none fault) more (with_words seen n line) (n + 1) next rest total
     go (Ok y) read g =

@@ -6,6 +6,7 @@ use Rattle.std.specs.Result.{result_ok}
 use Rattle.lu_text.specs.Faults.{meaning_of}
 use Rattle.lu_text.specs.Bundle.{is_meant_as_separator, is_separator, meant_parts}
 use Rattle.lu_text.specs.Lines.{kept_lines, lines_of}
+use Rattle.lu_component.specs.declared.component.TheConstants.{MOST_OPS}
 use Rattle.lu_lang.specs.Grammar.{component_grammar}
 use Rattle.lu_lint.specs.declared.remark.Remark.{Remark}
 use Rattle.lu_lint.specs.declared.remark.Said.{Said}
@@ -56,7 +57,7 @@ matrix_read (read.Sound c) text = result_ok (meaning_of (matrix_grammar c) text)
 -- where these are no more than a component may have
 abbrev pub said_after_faulty : FaultyDraft → ℕ → List ℕ → List Said
 said_after_faulty f above text =
-    if nat_le (length (signatures_meant f)) 16
+    if nat_le (length (signatures_meant f)) MOST_OPS
     then said_of_text (matrix_lint (signatures_meant f)) above text
     else []
 

@@ -1,23 +1,12 @@
 -- The parts of a bundle after its matrix.
-use Rattle.std.specs.Prelude.{◌≡◌, ℕ, List, [], ◌∷◌, ◌++◌, Option, Result, IfOk, Vec}
+use Rattle.std.specs.Prelude.{◌≡◌, ℕ, List, [], ◌∷◌, ◌++◌, Option}
 use Rattle.lu_test.specs.Matrix.{Matrix}
-use Rattle.lu_lint.specs.declared.remark.Remark.{Remark}
 use Rattle.lu_lint.specs.declared.remark.Said.{Said}
 use Rattle.lu_lint.specs.declared.remark.Cause.TheVariants.{FifthPart}
-use Rattle.lu_lint.specs.declared.third.Third.{Third}
-use Rattle.lu_lint.specs.declared.third.Third.TheVariants.{Specification, Report, History, Schedule}
-use Rattle.lu_lint.specs.Said.{SaysFurther, above_next, said_of}
-use Rattle.lu_lint.specs.Third.{SaidOfSome, ThirdSaid, histories_of, third_of}
-
--- where it succeeds, that is said of a part that is to be this, and so many lines stand before the
--- part after it
-abbrev pub SaysOfPart : {E Y Z : Type 0} → Result (Vec Remark Z × ℕ) E → Vec Remark Y → Third
-    → Option Matrix → ℕ → List ℕ → Type 0
-SaysOfPart result before third matrix above text =
-    IfOk result
-    (λ (next, after).
-    SaysFurther (ThirdSaid third matrix above text) (said_of before.items) (said_of next.items)
-    × (after ≡ above_next above text))
+use Rattle.lu_lint.specs.declared.part_kind.PartKind.{PartKind}
+use Rattle.lu_lint.specs.declared.part_kind.PartKind.TheVariants.{Specification, Report, History, Schedule}
+use Rattle.lu_lint.specs.Said.{SaysFurther, above_next}
+use Rattle.lu_lint.specs.Parts.{SaidOfSome, PartSaid, histories_of, kind_of}
 
 -- where parts stand after the fourth, that is said of the line before them
 abbrev pub fifth_said : ℕ → List (List ℕ) → List Said
@@ -33,20 +22,20 @@ FourthSaid matrix above (text ∷ texts) said =
 
 -- What is said of the parts after a third part. After a schedule or a report, a specification may
 -- stand; after a specification or a recorded history, recorded histories.
-abbrev pub AfterThird : Third → Option Matrix → ℕ → List (List ℕ) → List Said → Type 0
+abbrev pub AfterThird : PartKind → Option Matrix → ℕ → List (List ℕ) → List Said → Type 0
 AfterThird Specification matrix above texts said = said ≡ histories_of matrix above texts
 AfterThird History matrix above texts said = said ≡ histories_of matrix above texts
 AfterThird Report matrix above texts said = FourthSaid matrix above texts said
 AfterThird Schedule matrix above texts said = FourthSaid matrix above texts said
 
 -- what is said of a third part that is to be this, and of the parts after it
-abbrev pub FromThird : Third → Option Matrix → ℕ → List ℕ → List (List ℕ) → List Said → Type 0
-FromThird third matrix above text texts said =
-    (first : List Said) × ThirdSaid third matrix above text first
-    × SaysFurther (AfterThird third matrix (above_next above text) texts) first said
+abbrev pub FromThird : PartKind → Option Matrix → ℕ → List ℕ → List (List ℕ) → List Said → Type 0
+FromThird kind matrix above text texts said =
+    (first : List Said) × PartSaid kind matrix above text first
+    × SaysFurther (AfterThird kind matrix (above_next above text) texts) first said
 
 -- what is said of the parts after a matrix that is read or not
 abbrev pub AfterMatrix : Option Matrix → ℕ → List (List ℕ) → List Said → Type 0
 AfterMatrix matrix above [] said = said ≡ []
 AfterMatrix matrix above (text ∷ texts) said =
-    FromThird (third_of text) matrix above text texts said
+    FromThird (kind_of text) matrix above text texts said

@@ -25,12 +25,12 @@ use Rattle.lu_lint.specs.declared.remark.Said.{Said}
 use Rattle.lu_lint.specs.declared.remark.Cause.{Cause}
 use Rattle.lu_lint.specs.declared.remark.Cause.TheVariants.{Fault}
 use Rattle.lu_lint.specs.declared.remark.FaultKind.TheVariants as part
-use Rattle.lu_lint.specs.declared.third.Third.{Third}
-use Rattle.lu_lint.specs.declared.third.Third.TheVariants.{Specification, Report, History, Schedule}
+use Rattle.lu_lint.specs.declared.part_kind.PartKind.{PartKind}
+use Rattle.lu_lint.specs.declared.part_kind.PartKind.TheVariants.{Specification, Report, History, Schedule}
 use Rattle.lu_text.specs.Bundle.{meant_parts}
 use Rattle.lu_lint.specs.Bundle.{IsSaidOf, component_read, matrix_read}
 use Rattle.lu_lint.specs.Schedule.{AgreeOn}
-use Rattle.lu_lint.specs.Third.{third_of}
+use Rattle.lu_lint.specs.Parts.{kind_of}
 
 -- ---- the faults of a part among what is said: of each its kind, and its line of the part
 
@@ -133,14 +133,14 @@ ScheduleFirst text said =
     AgreeOn (schedule_of text) (filter_map (λ s. schedule_fault s.cause) said)
 
 -- of a third part that is this
-abbrev pub ThirdLeast : Third → Option Matrix → List ℕ → List Said → Type 0
+abbrev pub ThirdLeast : PartKind → Option Matrix → List ℕ → List Said → Type 0
 ThirdLeast Specification matrix text said = SpecificationLeast matrix text said
 ThirdLeast Report matrix text said = ReportLeast text said
 ThirdLeast Schedule matrix text said = ScheduleFirst text said
 ThirdLeast History matrix text said = Unit {0}
 
 -- of the part after it, where that is a specification
-abbrev pub FourthLeast : Third → Option Matrix → List (List ℕ) → List Said → Type 0
+abbrev pub FourthLeast : PartKind → Option Matrix → List (List ℕ) → List Said → Type 0
 FourthLeast third matrix [] said = Unit {0}
 FourthLeast Report matrix (text ∷ texts) said = SpecificationLeast matrix text said
 FourthLeast Schedule matrix (text ∷ texts) said = SpecificationLeast matrix text said
@@ -151,7 +151,7 @@ FourthLeast History matrix (text ∷ texts) said = Unit {0}
 abbrev pub FurtherLeast : Option Matrix → List (List ℕ) → List Said → Type 0
 FurtherLeast matrix [] said = Unit {0}
 FurtherLeast matrix (text ∷ texts) said =
-    ThirdLeast (third_of text) matrix text said × FourthLeast (third_of text) matrix texts said
+    ThirdLeast (kind_of text) matrix text said × FourthLeast (kind_of text) matrix texts said
 
 -- of all parts
 abbrev pub PartsLeast : List (List ℕ) → List Said → Type 0

@@ -6,7 +6,7 @@ pub mod Matrix
 pub mod Said
 pub mod Messages
 pub mod Schedule
-pub mod Third
+pub mod Parts
 pub mod Further
 pub mod Warnings
 pub mod Runs

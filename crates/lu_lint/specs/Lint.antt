@@ -4,6 +4,7 @@ use Rattle.std.specs.Option.{unwrap_or}
 use Rattle.lu_text.specs.declared.fault.Fault.{Fault}
 use Rattle.lu_text.specs.declared.fault.Fault.TheVariants.{At}
 use Rattle.lu_text.specs.Lines.{lines_of, words_of}
+use Rattle.lu_text.specs.Words.{Word}
 use Rattle.lu_text.specs.Faults.{Grammar}
 use Rattle.lu_lint.specs.declared.remark.FaultKind.{FaultKind}
 
@@ -26,9 +27,12 @@ pub record Lint (Kind Draft Value : Type 0) : Type 0 where
   pub end_others : Draft → List (Kind × ℕ)
   pub of : Kind → FaultKind
 
--- the lines with words so far, with line n
+-- the lines with words so far, with line n, of these words
+abbrev pub seen_with : List ℕ → ℕ → List Word → List ℕ
+seen_with seen n words = if length words == 0 then seen else seen ++ n ∷ []
+
 abbrev pub with_words : List ℕ → ℕ → List ℕ → List ℕ
-with_words seen n line = if length (words_of line) == 0 then seen else seen ++ n ∷ []
+with_words seen n line = seen_with seen n (words_of line)
 
 -- the line so many lines with words before line n
 abbrev pub line_before : List ℕ → ℕ → ℕ → ℕ

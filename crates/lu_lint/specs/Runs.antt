@@ -15,6 +15,8 @@ use Rattle.lu_machine.specs.declared.event.Outcome.{Outcome}
 use Rattle.lu_machine.specs.declared.event.Outcome.TheVariants.{Ret as Returns, Trap as Traps}
 use Rattle.lu_machine.specs.States.{State}
 use Rattle.lu_machine.specs.Runs.{Leads}
+use Rattle.lu_machine.specs.declared.test.Test.{Test}
+use Rattle.lu_machine.specs.Tests.{FromEachStartOf}
 use Rattle.lu_machine.specs.Starts.{FromEachStart, IsUnsettledAt, SetsUp, empty_state, first_move}
 use Rattle.lu_history.specs.declared.serial.SerialOutcome.{SerialOutcome}
 use Rattle.lu_history.specs.declared.serial.SerialOutcome.TheVariants.{Ret, Trap, Stuck}
@@ -31,7 +33,7 @@ use Rattle.lu_lint.specs.declared.remark.RunHint.{RunHint}
 use Rattle.lu_lint.specs.declared.remark.RunHint.TheVariants.{SetupGoesOn, SetupTraps, Serial}
 use Rattle.lu_lint.specs.declared.component.ReadComponent.{ReadComponent}
 use Rattle.lu_lint.specs.declared.component.ReadComponent.TheVariants.{Sound, Faulty}
-use Rattle.lu_lint.specs.declared.runs.Test.{Test}
+use Rattle.lu_lint.specs.declared.runs.MatrixRuns.{MatrixRuns}
 use Rattle.lu_lint.specs.Said.{line_below}
 
 -- ---- the setup
@@ -76,7 +78,7 @@ ending_of Stuck = Some Blocked
 -- the next operation of thread t after these ends so
 abbrev pub hint_of : List SerialOp → ℕ → Ending → SerialHint
 hint_of before t ending =
-    record { thread = t; call = operation_count t before; ending = ending; behind = before }
+    record { thread = t; call = operation_count t before; ending = ending; before = before }
 
 abbrev pub hint_if : List SerialOp → ℕ → Option Ending → List SerialHint
 hint_if before t None = []
@@ -170,10 +172,14 @@ ShownSerially bound hints s =
     ShownBySet s bound hints ⊎ ShownByCut s bound hints ⊎ ShownByNone s bound hints
 
 -- where it succeeds, its items are shown from each start
-abbrev pub ShowsFromEachStart : {T E Z : Type 0} → Result (Vec T Z) E → Component → Matrix
+abbrev pub ShowsFromEachStart : {T E Z : Type 0} → Result (Vec T Z) E → Test
     → (List T → State → Type 0)
     → Type 0
-ShowsFromEachStart result c matrix P = IfOk result (λ v. FromEachStart c matrix (P v.items))
+ShowsFromEachStart result test P = IfOk result (λ v. FromEachStartOf test (P v.items))
+
+-- what is said of the component and the matrix of a test
+abbrev pub OfTest : {X : Type 1} → (Component → Matrix → X) → Test → X
+OfTest P test = P test.component.now test.matrix.now
 
 -- ---- a component and a matrix
 
@@ -241,10 +247,10 @@ RunsOf bound c matrix above text said =
     (hints : List RunHint) × Show c matrix bound hints
     × (said ≡ all_shown above text hints)
 
--- those of a test
-abbrev pub RunsOfTest : Test → ℕ → List ℕ → List Said → Type 0
-RunsOfTest test above text said =
-    RunsOf test.bound test.component.now test.matrix.now above text said
+-- those of such runs
+abbrev pub RunsOfMatrix : MatrixRuns → ℕ → List ℕ → List Said → Type 0
+RunsOfMatrix runs above text said =
+    RunsOf runs.bound runs.component.now runs.matrix.now above text said
 
 -- the same, where both are read
 abbrev pub RunsSaid : ℕ → ReadComponent → Option Matrix → ℕ → List ℕ → List Said → Type 0

@@ -1,6 +1,7 @@
 -- The faults of a schedule's text.
-use Rattle.std.specs.Prelude.{◌≡◌, ℕ, List, [], ◌∷◌, ◌++◌, length, map, take, Option, Some, None, Result, Ok, Err, nat_lt, if◌then◌else◌}
+use Rattle.std.specs.Prelude.{◌≡◌, ℕ, List, [], ◌∷◌, ◌++◌, length, map, take, ◌+◌, Option, Some, None, Result, Ok, Err, nat_lt, if◌then◌else◌}
 use Rattle.std.specs.List.{flat_map}
+use Rattle.lu_test.specs.declared.schedule.TheConstants.{MOST_LISTED_MOVES}
 use Rattle.lu_test.specs.declared.schedule_fault.ScheduleFault.{ScheduleFault}
 use Rattle.lu_test.specs.declared.schedule_fault.ScheduleFault.TheVariants.{Form, Limit}
 use Rattle.lu_test.specs.ScheduleText.{move_of}
@@ -17,17 +18,21 @@ fault_of (Err kind) = kind ∷ []
 abbrev pub word_faults : List ℕ → List ScheduleFault
 word_faults word = fault_of (move_of word)
 
--- more than 4,112 moves
+-- more moves than a schedule may have
 abbrev pub length_faults : List (List ℕ) → List ScheduleFault
-length_faults words = if nat_lt 4112 (length words) then Limit ∷ [] else []
+length_faults words = if nat_lt MOST_LISTED_MOVES (length words) then Limit ∷ [] else []
 
 -- of each word
 abbrev pub faults_of_each : List (List ℕ) → List ScheduleFault
 faults_of_each words = flat_map word_faults words
 
--- of each word up to the first that is too many, and that there are too many
+-- the words up to the first that is too many
+abbrev pub up_to_too_many : List (List ℕ) → List (List ℕ)
+up_to_too_many words = take (MOST_LISTED_MOVES + 1) words
+
+-- of each of these, and that there are too many
 abbrev pub words_faults : List (List ℕ) → List ScheduleFault
-words_faults words = faults_of_each (take 4113 words) ++ length_faults words
+words_faults words = faults_of_each (up_to_too_many words) ++ length_faults words
 
 abbrev pub form_faults : Option (List (List ℕ)) → List ScheduleFault
 form_faults None = Form ∷ []

@@ -5,6 +5,7 @@ use Rattle.std.specs.Str.{bytes_eq}
 use Rattle.std.specs.Option.{option_map_or}
 use Rattle.lu_text.specs.Words.{Word}
 use Rattle.lu_component.specs.declared.component.Op.{Op}
+use Rattle.lu_component.specs.declared.component.TheConstants.{MOST_OPS}
 use Rattle.lu_component.specs.Component.{operation_number}
 use Rattle.lu_lang.specs.declared.recovery.Family.TheVariants.{Operation}
 use Rattle.lu_lang.specs.Faulty.{FaultyDraft}
@@ -37,4 +38,4 @@ signatures_from f (op ∷ after) = signature_once f op after ++ signatures_from 
 
 -- those of the first operations, as many as a component may have, and of the open one
 abbrev pub signatures_meant : FaultyDraft → List Signature
-signatures_meant f = signatures_from f (take 16 f.draft.operations)
+signatures_meant f = signatures_from f (take MOST_OPS f.draft.operations)

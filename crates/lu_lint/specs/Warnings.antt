@@ -81,13 +81,10 @@ holds_where row (Some place) = holds_at row place
 abbrev pub holds_after : List Bool → ℕ → Bool
 holds_after row place = holds_at (drop 1 row) place
 
-abbrev pub plain_returns : Instr → Bool → Bool
-plain_returns (Return v) next = true
-plain_returns _ next = next
-
 -- a return is reached from the statement at this place, where this row says from which others
 abbrev pub returns_by : OpenOp → List Bool → ℕ → Statement → Bool
-returns_by b row place (Plain instr) = plain_returns instr (holds_after row place)
+returns_by b row place (Plain (Return v)) = true
+returns_by b row place (Plain _) = holds_after row place
 returns_by b row place (Jump label) = holds_where row (place_named b.labels label)
 returns_by b row place (JumpIfZero v label) =
     holds_where row (place_named b.labels label) || holds_after row place
@@ -112,13 +109,10 @@ abbrev pub jumps_to_label : Word → Option Word → Bool
 jumps_to_label name None = false
 jumps_to_label name (Some label) = bytes_eq label name
 
--- a jump leads to the label of this name
-abbrev pub is_jumped_to : List Statement → Word → Bool
-is_jumped_to statements name = list_any (λ s. jumps_to_label name (label_used s)) statements
-
 -- no jump of the operation leads to the label
 abbrev pub is_unused : List Statement → Label → Bool
-is_unused statements label = not (is_jumped_to statements label.name)
+is_unused statements label =
+    not (list_any (λ s. jumps_to_label label.name (label_used s)) statements)
 
 abbrev pub label_hints : OpenOp → List FoundHint
 label_hints b =
@@ -207,6 +201,10 @@ words_hints d (word ∷ words) = state_hints d d.begun word
 abbrev pub line_hints : ComponentDraft → List ℕ → List FoundHint
 line_hints d line = words_hints d (words_of line)
 
+-- those of a line of these words, where no line before it has a fault
+abbrev pub hints_while : Bool → ComponentDraft → List Word → List FoundHint
+hints_while sound d words = if sound then words_hints d words else []
+
 -- A warning on a line, which holds of a component where no instruction of it names that.
 pub record Possible : Type 0 where
   pub place : ℕ
@@ -261,10 +259,6 @@ FindsAlso result before found =
 -- of a hint at a line that stands here
 abbrev pub found_at : Position → FoundHint → Possible
 found_at at f = possible at.seen.items at.line f
-
--- those of a line after this draft, where no line before it has a fault
-abbrev pub found_if : Bool → Position → ComponentDraft → List ℕ → List Possible
-found_if sound at d line = if sound then map (found_at at) (line_hints d line) else []
 
 -- the remark of one that holds of this component
 abbrev pub remark_if : Component → PossibleWarning → Option Remark

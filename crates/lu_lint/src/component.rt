@@ -14,14 +14,14 @@ ghost use Rattle.lu_text.specs.Lines.{texts};
 use crate::remark::{
     Cause, FaultKind, Position, Remark, Said, line_before, line_below, with_remark, with_words,
 };
-use crate::warning::{PossibleWarning, remarks_held, with_warnings};
+use crate::warning::{PossibleWarning, hints_while, remarks_held, with_found};
 use crate::words::Wording;
 use lu_component::Component;
 use lu_lang::{
     ComponentDraft, FaultyDraft, LangFaultKind, end_fault, left_backs, meant_line, mended,
     message_backs, open_backs, read_or_fault,
 };
-use lu_text::lines_of;
+use lu_text::{lines_of, words_of};
 use std::alloc::{AllocError, Global};
 
 /// What is said of a fault of a component, whose message stands on line `place` of it.
@@ -240,7 +240,9 @@ fn read_lines<W: Wording>(
             line: before + 1,
             seen,
         };
-        warnings = with_warnings(alloc, wording, warnings, &at, &draft.draft, sound, text)?;
+        let words = words_of(alloc, text)?;
+        let hints = hints_while(alloc, sound, &draft.draft, &words)?;
+        warnings = with_found(alloc, wording, warnings, &at, &draft.draft, text, &hints)?;
         let (next, fault) = read_or_fault(alloc, draft, text)?;
         sound &= fault.is_none();
         let (_, after) = lines.split_at(before + 1);
@@ -256,7 +258,7 @@ fn read_lines<W: Wording>(
             &backs,
         )?;
         draft = left_by(alloc, next, fault, text, after)?;
-        seen = with_words(alloc, at.seen, before + 1, text)?;
+        seen = with_words(at.seen, before + 1, &words)?;
     }
     let at = Position {
         above: 0,

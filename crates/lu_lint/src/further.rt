@@ -2,13 +2,17 @@
 
 ghost use Rattle.lu_text.specs.Lines.{texts};
 ghost use Rattle.lu_lint.specs.Further as spec;
-ghost use Rattle.lu_lint.specs.Further.{AfterMatrix, AfterThird, FourthSaid, SaysOfPart};
+ghost use Rattle.lu_lint.specs.Further.{AfterMatrix, AfterThird, FourthSaid};
+ghost use Rattle.lu_lint.specs.Parts.{PartSaid};
 ghost use Rattle.lu_lint.specs.Said.{SaysAlso, SaysSuch};
 
 use crate::bundle::above_next;
 use crate::histories::with_histories;
+use crate::part_kind::{PartKind, kind_of};
 use crate::remark::{Cause, Remark, Said, with_remark};
-use crate::third::{Third, third_of, with_third};
+use crate::report::with_report;
+use crate::schedule::with_schedule;
+use crate::specification::with_specification_of;
 use crate::words::Wording;
 use lu_test::Matrix;
 use std::alloc::{AllocError, Global};
@@ -36,22 +40,32 @@ fn with_fifth<W: Wording>(
     }
 }
 
-/// The remarks with those on a part that is to be this, and how many lines of the bundle stand before
-/// the part after it.
+/// The remarks with those on a part that is to be this, after a matrix that is read or not.
 fn with_part<W: Wording>(
     alloc: Global,
     wording: &W,
     all: Vec<Remark>,
-    third: Third,
+    kind: PartKind,
     matrix: &Option<Matrix>,
     above: usize,
     text: &[u8],
-) -> Result<(Vec<Remark>, usize), AllocError>
-    ensures { SaysOfPart result all third matrix.now above text.now }
+) -> Result<Vec<Remark>, AllocError>
+    ensures { SaysSuch result all (PartSaid kind matrix.now above text.now) }
 {
-    let all = with_third(alloc, wording, all, third, matrix, above, text)?;
-    let after = above_next(alloc, above, text)?;
-    Ok((all, after))
+    match kind {
+        PartKind::Specification => with_specification_of(alloc, wording, all, matrix, above, text),
+        PartKind::Report => with_report(alloc, wording, all, above, text),
+        PartKind::History => {
+            // For the proof: what this returns is looked at before it is returned.
+            let all = with_histories(alloc, wording, all, matrix, above, &[text])?;
+            Ok(all)
+        }
+        PartKind::Schedule => {
+            // For the proof: what this returns is looked at before it is returned.
+            let all = with_schedule(alloc, wording, all, above, text)?;
+            Ok(all)
+        }
+    }
 }
 
 /// The remarks with those on the parts after a schedule or a report: a specification, and on the line
@@ -69,8 +83,8 @@ fn with_fourth<W: Wording>(
     let Some((text, others)) = parts.split_first() else {
         return Ok(all);
     };
-    let third = Third::Specification;
-    let (all, after) = with_part(alloc, wording, all, third, matrix, above, text)?;
+    let all = with_specification_of(alloc, wording, all, matrix, above, text)?;
+    let after = above_next(alloc, above, text)?;
     // For the proof: what this returns is looked at before it is returned.
     let all = with_fifth(alloc, wording, all, after, others)?;
     Ok(all)
@@ -81,20 +95,22 @@ fn with_after<W: Wording>(
     alloc: Global,
     wording: &W,
     all: Vec<Remark>,
-    third: Third,
+    kind: PartKind,
     matrix: &Option<Matrix>,
     above: usize,
     parts: &[&[u8]],
 ) -> Result<Vec<Remark>, AllocError>
-    ensures { SaysSuch result all (AfterThird third matrix.now above (texts parts.now)) }
+    ensures { SaysSuch result all (AfterThird kind matrix.now above (texts parts.now)) }
 {
-    match third {
-        Third::Specification | Third::History => {
+    match kind {
+        PartKind::Specification | PartKind::History => {
             // For the proof: what this returns is looked at before it is returned.
             let all = with_histories(alloc, wording, all, matrix, above, parts)?;
             Ok(all)
         }
-        Third::Report | Third::Schedule => with_fourth(alloc, wording, all, matrix, above, parts),
+        PartKind::Report | PartKind::Schedule => with_fourth(
+            alloc, wording, all, matrix, above, parts,
+        ),
     }
 }
 
@@ -112,9 +128,10 @@ pub(crate) fn with_further<W: Wording>(
     let Some((text, others)) = parts.split_first() else {
         return Ok(all);
     };
-    let third = third_of(alloc, text)?;
-    let (all, after) = with_part(alloc, wording, all, third, matrix, above, text)?;
+    let kind = kind_of(alloc, text)?;
+    let all = with_part(alloc, wording, all, kind, matrix, above, text)?;
+    let after = above_next(alloc, above, text)?;
     // For the proof: what this returns is looked at before it is returned.
-    let all = with_after(alloc, wording, all, third, matrix, after, others)?;
+    let all = with_after(alloc, wording, all, kind, matrix, after, others)?;
     Ok(all)
 }

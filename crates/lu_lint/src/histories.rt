@@ -4,12 +4,11 @@ ghost use Rattle.std.specs.Prelude.{◌≡◌, ◌∷◌, []};
 ghost use Rattle.lu_text.specs.Lines.{texts};
 ghost use Rattle.lu_lint.specs.Lint as lint;
 ghost use Rattle.lu_lint.specs.Said.{SaysAlso, said_told};
-ghost use Rattle.lu_lint.specs.Third as spec;
+ghost use Rattle.lu_lint.specs.Parts as spec;
 ghost use Rattle.lu_lint.specs.declared.remark.FaultKind.TheVariants as part;
 
 use crate::bundle::above_next;
-use crate::remark::{Cause, FaultKind, Remark, Said, line_below, with_remark};
-use crate::third::line_of;
+use crate::remark::{Cause, FaultKind, Remark, Said, line_below, line_of, with_remark};
 use crate::words::Wording;
 use lu_recorded::{RecordedFaultKind, read_recorded};
 use lu_test::Matrix;

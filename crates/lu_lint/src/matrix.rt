@@ -25,7 +25,7 @@ use lu_lang::FaultyDraft;
 use lu_test::{
     Calls, Matrix, MatrixDraft, MatrixFaultKind, Signature, end_fault, mended, signatures_of,
 };
-use lu_text::lines_of;
+use lu_text::{lines_of, words_of};
 use std::alloc::{AllocError, Global};
 
 /// No line is read.
@@ -187,7 +187,8 @@ fn read_lines<W: Wording>(
         let next = Next { draft: &read, text };
         all = with_line(alloc, wording, signatures, all, &at, next, fault)?;
         draft = left_by(alloc, read, fault, text)?;
-        seen = with_words(alloc, at.seen, before + 1, text)?;
+        let words = words_of(alloc, text)?;
+        seen = with_words(at.seen, before + 1, &words)?;
     }
     let at = Position {
         above,

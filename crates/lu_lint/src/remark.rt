@@ -1,6 +1,7 @@
 //! What lint says of a bundle.
 
 ghost use Rattle.std.specs.Prelude.{◌≡◌, ◌∷◌, []};
+ghost use Rattle.lu_text.specs.Lines.{texts};
 ghost use Rattle.lu_text.specs.Results.{HasItems};
 ghost use Rattle.lu_lint.specs.Lint as spec;
 ghost use Rattle.lu_lint.specs.Messages.{refusal_code, fault_part};
@@ -13,8 +14,7 @@ use lu_recorded::RecordedFaultKind;
 use lu_report::ReportFaultKind;
 use lu_spec::SpecFaultKind;
 use lu_test::{MatrixFaultKind, ScheduleFault};
-use lu_text::words_of;
-use std::alloc::{AllocError, Global};
+use std::alloc::AllocError;
 use std::marker::Model;
 
 /// What is wrong with a line of a part.
@@ -145,7 +145,7 @@ pub struct SerialHint {
     pub ending: Ending,
 
     /// The operations of the run before it.
-    pub behind: Operations,
+    pub before: Operations,
 }
 
 /// What a warning by runs is about.
@@ -242,16 +242,14 @@ pub(crate) fn with_remark(
     Ok(all)
 }
 
-/// The lines with words so far, with one more line.
+/// The lines with words so far, with one more line, of these words.
 pub(crate) fn with_words(
-    alloc: Global,
     mut seen: Vec<usize>,
     line: usize,
-    text: &[u8],
+    words: &[&[u8]],
 ) -> Result<Vec<usize>, AllocError>
-    ensures { HasItems result (spec.with_words seen.items line text.now) }
+    ensures { HasItems result (spec.seen_with seen.items line (texts words.now)) }
 {
-    let words = words_of(alloc, text)?;
     if words.is_empty() {
         return Ok(seen);
     }
@@ -268,4 +266,9 @@ pub(crate) fn line_before(seen: &[usize], line: usize, back: usize) -> usize
         None => line,
         Some(found) => *found,
     }
+}
+
+/// A line of these, from 1.
+pub(crate) fn line_of<'a>(lines: &[&'a [u8]], number: usize) -> Option<&'a [u8]> {
+    lines.get(number.saturating_sub(1)).copied()
 }

@@ -1,6 +1,6 @@
 //! The faults of a schedule's text.
 
-ghost use Rattle.std.specs.Prelude.{◌≡◌, take};
+ghost use Rattle.std.specs.Prelude.{◌≡◌};
 ghost use Rattle.lu_lint.specs.Lint as lint;
 ghost use Rattle.lu_lint.specs.Said.{SaysAlso, said_told};
 ghost use Rattle.lu_lint.specs.Schedule as spec;
@@ -77,7 +77,7 @@ fn with_each<W: Wording>(
 
 /// The first of these words, up to one that is too many.
 fn first_words<'a, 'b>(words: &'b [&'a [u8]]) -> &'b [&'a [u8]]
-    ensures { texts result.now ≡ take 4113 (texts words.now) }
+    ensures { texts result.now ≡ spec.up_to_too_many (texts words.now) }
 {
     if words.len() <= MOST_LISTED_MOVES {
         return words;

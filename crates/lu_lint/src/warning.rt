@@ -2,7 +2,7 @@
 //! fault.
 
 ghost use Rattle.std.specs.Prelude.{◌≡◌, ◌∷◌, [], false, Some, None, length, map, take, drop};
-ghost use Rattle.std.specs.List.{list_all, list_any};
+ghost use Rattle.std.specs.List.{list_any};
 ghost use Rattle.lu_lang.specs.declared.draft.Statement.TheVariants.{Plain};
 ghost use Rattle.lu_lang.specs.Grammar.{label_used};
 ghost use Rattle.lu_text.specs.Results.{HasItems};
@@ -14,7 +14,6 @@ use crate::remark::{Cause, Hint, Position, Remark, Said, line_before};
 use crate::words::Wording;
 use lu_component::{Arithmetic, Component, Instr};
 use lu_lang::{ComponentDraft, Label, OpenOp, Statement};
-use lu_text::words_of;
 use std::alloc::{AllocError, Global};
 
 /// What an instruction may name.
@@ -151,22 +150,14 @@ fn holds_after(row: &[bool], place: usize) -> bool
     holds_at(after_first(row), place)
 }
 
-fn plain_returns(instr: Instr, next: bool) -> bool
-    ensures { result ≡ spec.plain_returns instr next }
-{
-    match instr {
-        Instr::Return(_) => true,
-        _ => next,
-    }
-}
-
 /// Whether a return is reached from the statement at this place, where this row says from which
 /// others.
 fn returns_by(op: &OpenOp, row: &[bool], place: usize, statement: &Statement) -> bool
     ensures { result ≡ spec.returns_by op.now row.now place statement.now }
 {
     match statement {
-        Statement::Plain(instr) => plain_returns(*instr, holds_after(row, place)),
+        Statement::Plain(Instr::Return(_)) => true,
+        Statement::Plain(_) => holds_after(row, place),
         Statement::Jump(label) => holds_named(row, op, label.as_bytes()),
         Statement::JumpIfZero(_, label) => {
             holds_named(row, op, label.as_bytes()) || holds_after(row, place)
@@ -227,19 +218,11 @@ fn jumps_to_label(name: &[u8], statement: &Statement) -> bool
     }
 }
 
-fn is_jumped_to(statements: &[Statement], name: &[u8]) -> bool
-    ensures { result ≡ spec.is_jumped_to statements.now name.now }
-{
-    statements
-        .iter()
-        .any(|statement| jumps_to_label(name, statement))
-}
-
 /// Whether no jump of the operation leads to the label.
 fn is_unused(statements: &[Statement], label: &Label) -> bool
     ensures { result ≡ spec.is_unused statements.now label.now }
 {
-    !is_jumped_to(statements, label.name.as_bytes())
+    !statements.iter().any(|statement| jumps_to_label(label.name.as_bytes(), statement))
 }
 
 /// The labels to which no jump of the operation leads.
@@ -272,73 +255,38 @@ fn tries(statement: &Statement) -> bool
     matches!(statement, Statement::Plain(Instr::Cas { .. }))
 }
 
-/// Whether an instruction compares, sets a register, or ends the operation.
-fn passes_by(instr: Instr) -> bool
-    ensures { result ≡ spec.passes (Plain instr) }
-{
-    match instr {
-        Instr::Compute { arithmetic, .. } => match arithmetic {
-            Arithmetic::Eq => true,
-            Arithmetic::Lt => true,
-            _ => false,
-        },
-        Instr::Set { .. } => true,
-        Instr::Return(_) => true,
-        _ => false,
-    }
-}
-
 /// Whether an instruction compares, sets a register, or says where to go on.
 fn passes(statement: &Statement) -> bool
     ensures { result ≡ spec.passes statement.now }
 {
     match statement {
-        Statement::Plain(instr) => passes_by(*instr),
-        Statement::Jump(_) => true,
-        Statement::JumpIfZero(_, _) => true,
+        Statement::Plain(Instr::Compute { arithmetic, .. }) => {
+            matches!(arithmetic, Arithmetic::Eq | Arithmetic::Lt)
+        }
+        Statement::Plain(Instr::Set { .. } | Instr::Return(_)) => true,
+        Statement::Plain(_) => false,
+        Statement::Jump(_) | Statement::JumpIfZero(_, _) => true,
     }
-}
-
-fn have_look(statements: &[Statement]) -> bool
-    ensures { result ≡ list_any spec.looks statements.now }
-{
-    statements.iter().any(|statement| looks(statement))
-}
-
-fn have_try(statements: &[Statement]) -> bool
-    ensures { result ≡ list_any spec.tries statements.now }
-{
-    statements.iter().any(|statement| tries(statement))
-}
-
-fn all_look(statements: &[Statement]) -> bool
-    ensures { result ≡ list_all spec.looks_or_passes statements.now }
-{
-    statements
-        .iter()
-        .all(|statement| looks(statement) || passes(statement))
-}
-
-fn all_try(statements: &[Statement]) -> bool
-    ensures { result ≡ list_all spec.tries_or_passes statements.now }
-{
-    statements
-        .iter()
-        .all(|statement| tries(statement) || passes(statement))
 }
 
 /// Whether these read cells, and do nothing else that another thread may see or that counts.
 fn only_look(statements: &[Statement]) -> bool
     ensures { result ≡ spec.only_look statements.now }
 {
-    have_look(statements) && all_look(statements)
+    statements.iter().any(|statement| looks(statement))
+        && statements
+            .iter()
+            .all(|statement| looks(statement) || passes(statement))
 }
 
 /// Whether these try to change cells, and do nothing else of the kind.
 fn only_try(statements: &[Statement]) -> bool
     ensures { result ≡ spec.only_try statements.now }
 {
-    have_try(statements) && all_try(statements)
+    statements.iter().any(|statement| tries(statement))
+        && statements
+            .iter()
+            .all(|statement| tries(statement) || passes(statement))
 }
 
 /// The instructions from a place on, so many of them.
@@ -467,29 +415,19 @@ fn state_hints(
     }
 }
 
-fn words_hints(
+/// The hints at a line of these words after this draft, where no line before it has a fault.
+pub(crate) fn hints_while(
     alloc: Global,
+    sound: bool,
     draft: &ComponentDraft,
     words: &[&[u8]],
 ) -> Result<Vec<FoundHint>, AllocError>
-    ensures { HasItems result (spec.words_hints draft.now (texts words.now)) }
+    ensures { HasItems result (spec.hints_while sound draft.now (texts words.now)) }
 {
     match words.split_first() {
-        None => Ok(Vec::new(alloc)),
-        Some((word, _)) => state_hints(alloc, draft, word),
+        Some((word, _)) if sound => state_hints(alloc, draft, word),
+        _ => Ok(Vec::new(alloc)),
     }
-}
-
-/// The hints at a line after this draft.
-fn line_hints(
-    alloc: Global,
-    draft: &ComponentDraft,
-    text: &[u8],
-) -> Result<Vec<FoundHint>, AllocError>
-    ensures { HasItems result (spec.line_hints draft.now text.now) }
-{
-    let words = words_of(alloc, text)?;
-    words_hints(alloc, draft, &words)
 }
 
 /// The warnings with one more.
@@ -505,7 +443,11 @@ fn with_warning(
 }
 
 /// The warnings with these, found at a line after this draft.
-fn with_found<W: Wording>(
+///
+/// # Errors
+///
+/// There is no memory for the warnings.
+pub(crate) fn with_found<W: Wording>(
     alloc: Global,
     wording: &W,
     mut warnings: Vec<PossibleWarning>,
@@ -529,47 +471,14 @@ fn with_found<W: Wording>(
     Ok(warnings)
 }
 
-/// The warnings with those that this line may have after this draft, where no line before it has a
-/// fault.
-///
-/// # Errors
-///
-/// There is no memory for the warnings.
-pub(crate) fn with_warnings<W: Wording>(
-    alloc: Global,
-    wording: &W,
-    warnings: Vec<PossibleWarning>,
-    at: &Position,
-    draft: &ComponentDraft,
-    sound: bool,
-    text: &[u8],
-) -> Result<Vec<PossibleWarning>, AllocError>
-    ensures { FindsAlso result warnings (spec.found_if sound at.now draft.now text.now) }
-{
-    if !sound {
-        return Ok(warnings);
-    }
-    let hints = line_hints(alloc, draft, text)?;
-    with_found(alloc, wording, warnings, at, draft, text, &hints)
-}
-
-/// Whether an instruction of the component names this.
-fn is_named(component: &Component, declared: Declared) -> bool
-    ensures { result ≡ spec.is_named component.now declared }
-{
-    match declared {
-        Declared::Array(array) => is_array_named(component, array),
-        Declared::Lock(lock) => is_lock_named(component, lock),
-    }
-}
-
 /// Whether a warning holds of the component that does not hold where an instruction names this.
 fn holds(component: &Component, unless_named: Option<Declared>) -> bool
     ensures { result ≡ spec.holds component.now unless_named }
 {
     match unless_named {
         None => true,
-        Some(declared) => !is_named(component, declared),
+        Some(Declared::Array(array)) => !is_array_named(component, array),
+        Some(Declared::Lock(lock)) => !is_lock_named(component, lock),
     }
 }
 

@@ -1,7 +1,7 @@
 //! The words of what is said, which stand in no contract: a crate above says them.
 
 use crate::remark::{Hint, RunHint};
-use crate::runs::Test;
+use crate::runs::MatrixRuns;
 use lu_lang::{ComponentDraft, LangFaultKind};
 use lu_recorded::RecordedFaultKind;
 use lu_report::ReportLineFault;
@@ -108,7 +108,7 @@ pub trait Wording {
     fn run_warning(
         &self,
         alloc: Global,
-        test: Test<'_>,
+        runs: MatrixRuns<'_>,
         hint: &RunHint,
     ) -> Result<String, AllocError>;
 }

@@ -1,7 +1,7 @@
 //! The words of a warning by runs.
 
 use lu_history::SerialOp;
-use lu_lint::{Ending, RunHint, SerialHint, Test, operation_count};
+use lu_lint::{Ending, MatrixRuns, RunHint, SerialHint, operation_count};
 use lu_test::Call;
 use std::alloc::{AllocError, Global};
 use std::fmt::Write;
@@ -9,14 +9,14 @@ use std::fmt::Write;
 /// Adds call `place` of these: the operation and the arguments, as a matrix says them.
 fn write_call(
     text: &mut String,
-    test: Test<'_>,
+    runs: MatrixRuns<'_>,
     calls: &[Call],
     place: usize,
 ) -> Result<(), AllocError> {
     let Some(call) = calls.get(place) else {
         return text.push_str("a call");
     };
-    match test.component.operation(call.op) {
+    match runs.component.operation(call.op) {
         None => text.push_str("an operation")?,
         Some(op) => text.push_str(op.name.as_str())?,
     }
@@ -29,18 +29,22 @@ fn write_call(
 /// Adds call `place` of the thread.
 fn write_call_of(
     text: &mut String,
-    test: Test<'_>,
+    runs: MatrixRuns<'_>,
     thread: u8,
     place: usize,
 ) -> Result<(), AllocError> {
-    match test.matrix.as_slice().get(usize::from(thread)) {
+    match runs.matrix.as_slice().get(usize::from(thread)) {
         None => text.push_str("a call"),
-        Some(calls) => write_call(text, test, calls.as_slice(), place),
+        Some(calls) => write_call(text, runs, calls.as_slice(), place),
     }
 }
 
 /// Adds the operations after which a call is made.
-fn write_after(text: &mut String, test: Test<'_>, ops: &[SerialOp]) -> Result<(), AllocError> {
+fn write_after(
+    text: &mut String,
+    runs: MatrixRuns<'_>,
+    ops: &[SerialOp],
+) -> Result<(), AllocError> {
     if ops.is_empty() {
         return text.push_str(" when it comes first");
     }
@@ -50,13 +54,13 @@ fn write_after(text: &mut String, test: Test<'_>, ops: &[SerialOp]) -> Result<()
         if place > 0 {
             text.push_str(", ")?;
         }
-        write_call_of(text, test, op.thread, operation_count(op.thread, before))?;
+        write_call_of(text, runs, op.thread, operation_count(op.thread, before))?;
     }
     Ok(())
 }
 
-fn write_ending(text: &mut String, test: Test<'_>, ending: Ending) -> Result<(), AllocError> {
-    let bound = test.bound;
+fn write_ending(text: &mut String, runs: MatrixRuns<'_>, ending: Ending) -> Result<(), AllocError> {
+    let bound = runs.bound;
     match ending {
         Ending::Trap => text.push_str("traps"),
         Ending::Stuck => text.push_str("is stuck"),
@@ -64,13 +68,17 @@ fn write_ending(text: &mut String, test: Test<'_>, ending: Ending) -> Result<(),
     }
 }
 
-fn serial_wording(alloc: Global, test: Test<'_>, hint: &SerialHint) -> Result<String, AllocError> {
+fn serial_wording(
+    alloc: Global,
+    runs: MatrixRuns<'_>,
+    hint: &SerialHint,
+) -> Result<String, AllocError> {
     let (thread, call) = (hint.thread, hint.call);
     let mut text = format!(in alloc; "thread {thread}'s call {call}, ")?;
-    write_call_of(&mut text, test, thread, call)?;
+    write_call_of(&mut text, runs, thread, call)?;
     text.push_str(", ")?;
-    write_ending(&mut text, test, hint.ending)?;
-    write_after(&mut text, test, hint.behind.as_slice())?;
+    write_ending(&mut text, runs, hint.ending)?;
+    write_after(&mut text, runs, hint.before.as_slice())?;
     if matches!(hint.ending, Ending::Cut) {
         text.push_str("; --serial bounds them")?;
     }
@@ -79,13 +87,13 @@ fn serial_wording(alloc: Global, test: Test<'_>, hint: &SerialHint) -> Result<St
 
 fn setup_wording(
     alloc: Global,
-    test: Test<'_>,
+    runs: MatrixRuns<'_>,
     call: u8,
     ends: &str,
 ) -> Result<String, AllocError> {
     let mut text = format!(in alloc; "the setup's call {call}, ")?;
-    let calls = test.matrix.setup().as_slice();
-    write_call(&mut text, test, calls, usize::from(call))?;
+    let calls = runs.matrix.setup().as_slice();
+    write_call(&mut text, runs, calls, usize::from(call))?;
     text.push_str(ends)?;
     Ok(text)
 }
@@ -93,14 +101,14 @@ fn setup_wording(
 /// The words of a warning that runs of the component and the matrix show.
 pub(crate) fn run_wording(
     alloc: Global,
-    test: Test<'_>,
+    runs: MatrixRuns<'_>,
     hint: &RunHint,
 ) -> Result<String, AllocError> {
     match hint {
         RunHint::SetupGoesOn(call) => {
-            setup_wording(alloc, test, *call, ", does not end within 256 moves")
+            setup_wording(alloc, runs, *call, ", does not end within 256 moves")
         }
-        RunHint::SetupTraps(call) => setup_wording(alloc, test, *call, ", traps"),
-        RunHint::Serial(hint) => serial_wording(alloc, test, hint),
+        RunHint::SetupTraps(call) => setup_wording(alloc, runs, *call, ", traps"),
+        RunHint::Serial(hint) => serial_wording(alloc, runs, hint),
     }
 }

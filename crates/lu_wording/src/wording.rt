@@ -10,7 +10,7 @@ use crate::third::{
 };
 use crate::warning::warning_wording;
 use lu_lang::{ComponentDraft, LangFaultKind};
-use lu_lint::{Hint, RunHint, Test, Wording};
+use lu_lint::{Hint, MatrixRuns, RunHint, Wording};
 use lu_recorded::RecordedFaultKind;
 use lu_report::ReportLineFault;
 use lu_spec::SpecLineFault;
@@ -129,9 +129,9 @@ impl Wording for Words {
     fn run_warning(
         &self,
         alloc: Global,
-        test: Test<'_>,
+        runs: MatrixRuns<'_>,
         hint: &RunHint,
     ) -> Result<String, AllocError> {
-        run_wording(alloc, test, hint)
+        run_wording(alloc, runs, hint)
     }
 }

@@ -1,7 +1,7 @@
 use Rattle.std.proofs.Common.{◌≡◌, ◌++◌, drop}
 use Rattle.lu_text.specs.Lines.{texts}
 use Rattle.lu_lint.specs.Said.{said_of}
-use Rattle.lu_lint.specs.Third.{histories_said}
+use Rattle.lu_lint.specs.Parts.{histories_said}
 use Rattle.lu_lint.proofs.histories.with_each.Given as goal
 
 abbrev pub invariant-loop-text : goal.invariant-loop-text

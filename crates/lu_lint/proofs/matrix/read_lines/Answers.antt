@@ -19,10 +19,11 @@ loop-before-preserved over c =
     let place : Position = record { above = c.args.above; line = c.loop-before.before + 1; seen = c.loop-before.seen } in
     let step = text_more c.args.lines.now c.loop-before.before _ (omega arith) in
     let went = c.in_ok-read.ensures in
+    let seen = rw (c.deref.ensures.value, c.in_ok-words.ensures) at c.in_ok-seen.ensures in
     record {
       room = room_kept all _ _ _ _ _ c.loop-before.invariant.room went c.in_ok-draft.ensures;
       fits = fits_kept all _ _ _ _ _ c.loop-before.invariant.fits went c.in_ok-draft.ensures;
-      told = rw c.in_ok-seen.ensures (goes_on all place _ _ _ _ _ _ _ _ _ went c.in_ok-draft.ensures c.in_ok-all.ensures (rw step at c.loop-before.invariant.told));
+      told = rw seen (goes_on all place _ _ _ _ _ _ _ _ _ went c.in_ok-draft.ensures c.in_ok-all.ensures (rw step at c.loop-before.invariant.told));
       read = matrix_on all c.loop-before.sound c.is_none-sound.result _ _ _ _ _ _ _ _ c.is_none-sound.ensures went c.in_ok-draft.ensures (rw step at c.loop-before.invariant.read);
     }
 

@@ -1,7 +1,0 @@
-use Rattle.std.proofs.Common.{◌∙◌, ap}
-use Rattle.lu_lint.specs.Runs.{cut_hints}
-use Rattle.lu_lint.proofs.Played.{cut_shown}
-use Rattle.lu_lint.proofs.runs.hints_of_cut.Goals as goal
-
-pub returns : goal.returns
-returns c = cut_shown c.args.component.now c.args.matrix.now c.args.schedule.now c.in_ok-history.history.items c.in_ok-hints.hints.items c.in_ok-history.ensures (c.in_ok-hints.ensures ∙ ap cut_hints c.deref.ensures.value)

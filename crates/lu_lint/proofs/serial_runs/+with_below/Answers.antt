@@ -1,0 +1,25 @@
+use Rattle.std.proofs.Common.{rules, ◌≡◌, ◌++◌, ◌∷◌, ◌∙◌, List, [], vec_len, ap}
+use Rattle.lu_machine.proofs.Orders.{popped}
+use Rattle.lu_history.specs.declared.serial.SerialOp.{SerialOp}
+use Rattle.lu_trie.proofs.Trees.{branch_lighter}
+use Rattle.lu_lint.specs.Runs.{with_set}
+use Rattle.lu_lint.proofs.Shown.{kid_more}
+use Rattle.lu_lint.proofs.serial_runs.+with_below.Goals as goal
+
+pub with_below-requires : goal.with_below-requires
+with_below-requires g t c κs within =
+    let law = g.met.T.SerialTree.branching c.args.tree.now c.args.place c.requires in
+    (let lt = branch_lighter _ law c.loop-i.i _ c.kid-below.ensures.kid in search (rules, lt), search (rules, within, c.kid-below.ensures.place))
+
+pub loop-i-preserved : goal.loop-i-preserved
+loop-i-preserved g t c =
+    let below = g.T.SerialTree.below c.args.tree.now c.args.place in
+    let path = c.args.path.now.items in
+    let op = c.kid-below.result.0 in
+    let kid = g.T.SerialTree.below c.args.tree.now c.kid-below.result.1 in
+    let pushed : c.push.new.self.items ≡ path ++ op ∷ [] = c.in_ok-push.ensures.items ∙ ap (λ (p : List SerialOp). p ++ op ∷ []) c.loop-i.invariant.path in
+    let back : c.with_below.new.path.items ≡ path ++ op ∷ [] = c.in_ok-told-2.ensures.path ∙ pushed in
+    record {
+      path = c.pop.ensures.rest ∙ popped path c.with_below.new.path.items op (vec_len c.with_below.new.path) back (c.with_below.new.path.ok.0);
+      hints = kid_more c.args.told.items c.loop-i.told.items c.in_ok-told-2.told.items path below c.loop-i.i op kid c.kid-below.ensures.kid c.loop-i.invariant.hints (c.in_ok-told-2.ensures.hints ∙ ap (λ (p : List SerialOp). with_set c.loop-i.told.items p kid) pushed);
+    }

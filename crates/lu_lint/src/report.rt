@@ -1,0 +1,57 @@
+//! The faults of a report's text.
+
+ghost use Rattle.std.specs.Prelude.{◌≡◌, map};
+ghost use Rattle.lu_lint.specs.Said.{SaysAlso, SaysSuch};
+ghost use Rattle.lu_lint.specs.Parts as spec;
+ghost use Rattle.lu_lint.specs.Parts.{ReportSaid};
+
+use crate::remark::{Cause, FaultKind, Remark, Said, line_below, line_of, with_remark};
+use crate::words::Wording;
+use lu_report::{ReportFaultKind, ReportLineFault, report_faults};
+use lu_text::kept_lines;
+use std::alloc::{AllocError, Global};
+
+/// What is said of a fault of a report.
+fn report_said(above: usize, fault: &ReportLineFault) -> Said
+    ensures { result ≡ spec.report_said above fault.now }
+{
+    Said {
+        place: line_below(above, fault.line),
+        cause: Cause::Fault(FaultKind::Report(ReportFaultKind::Form), fault.line),
+    }
+}
+
+/// The remarks with those on these faults of a report of these lines.
+fn with_report_faults<W: Wording>(
+    alloc: Global,
+    wording: &W,
+    mut all: Vec<Remark>,
+    above: usize,
+    lines: &[&[u8]],
+    faults: &[ReportLineFault],
+) -> Result<Vec<Remark>, AllocError>
+    ensures { SaysAlso result all (map (spec.report_said above) faults.now) }
+{
+    for fault in faults {
+        let words = wording.report_fault(alloc, fault, line_of(lines, fault.line))?;
+        all = with_remark(all, report_said(above, fault), words)?;
+    }
+    Ok(all)
+}
+
+/// The remarks with those on a report.
+pub(crate) fn with_report<W: Wording>(
+    alloc: Global,
+    wording: &W,
+    all: Vec<Remark>,
+    above: usize,
+    text: &[u8],
+) -> Result<Vec<Remark>, AllocError>
+    ensures { SaysSuch result all (ReportSaid above text.now) }
+{
+    let lines = kept_lines(alloc, text)?;
+    let faults = report_faults(alloc, &lines)?;
+    // For the proof: what this returns is looked at before it is returned.
+    let all = with_report_faults(alloc, wording, all, above, &lines, &faults)?;
+    Ok(all)
+}
