@@ -93,8 +93,8 @@ abbrev pub component_said : List ℕ → List Said
 component_said text =
     said_of_text component_lint 0 text ++ warnings_said (component_read text) (lines_of text)
 
--- where it succeeds, the lines of a component are linted: that is said of them, and they are read as
--- that
+-- where it succeeds, the lines of a component are linted: that is said of them, and they are read
+-- as that
 abbrev pub LintsComponentLines : {E Y Z : Type 0} → Result (Vec Remark Z × ReadComponent) E
     → Vec Remark Y → List (List ℕ) → Type 0
 LintsComponentLines result before lines =

@@ -56,8 +56,8 @@ FitsBy all d =
     (c : Component) → IsComponent c → all ≡ signatures c.operations
     → IsDraft d × IsOf (matrix_of d) c
 
--- where it succeeds, the lines of a matrix are linted by these signatures: that is said of them, and
--- they leave a draft, of which the matrix is made where they have no fault
+-- where it succeeds, the lines of a matrix are linted by these signatures: that is said of them,
+-- and they leave a draft, of which the matrix is made where they have no fault
 abbrev pub LintsMatrixLines : {E Y Z : Type 0} → Result (Vec Remark Z × LeftLines) E
     → Vec Remark Y
     → List Signature
@@ -66,5 +66,6 @@ abbrev pub LintsMatrixLines : {E Y Z : Type 0} → Result (Vec Remark Z × LeftL
     → Type 0
 LintsMatrixLines result before all above lines =
     IfOk result
-    (λ (next, left). (said_of next.items ≡ said_of before.items ++ said_of_lines (matrix_lint all) above lines)
+    (λ (next, left).
+    (said_of next.items ≡ said_of before.items ++ said_of_lines (matrix_lint all) above lines)
     × (matrix_if left.draft left.sound ≡ result_ok (meaning_of_lines (grammar_by all) lines)))

@@ -1,5 +1,5 @@
--- A part after the matrix: a specification, a report, a recorded history or a schedule, as its first
--- words say.
+-- A part after the matrix: a specification, a report, a recorded history or a schedule, as its
+-- first words say.
 use Rattle.std.specs.Prelude.{◌≡◌, ℕ, Bool, false, List, [], ◌∷◌, length, map, ◌++◌, Option, Some, None, Result, Ok, Err, codes, take, ◌||◌, if◌then◌else◌}
 use Rattle.std.specs.List.{flat_map}
 use Rattle.std.specs.Str.{bytes_eq}

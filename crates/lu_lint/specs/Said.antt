@@ -69,8 +69,8 @@ abbrev pub said_of_text : {Kind Draft Value : Type 0} → Lint Kind Draft Value 
     → List Said
 said_of_text l above text = said_faults l.of above (faults_in l text)
 
--- where it succeeds, the lines of a part that is read like this are linted: that is said of them, and
--- their value is read, where they have no fault
+-- where it succeeds, the lines of a part that is read like this are linted: that is said of them,
+-- and their value is read, where they have no fault
 abbrev pub LintsLines : {E Y Z Kind Draft Value : Type 0}
     → Result (Vec Remark Z × Option Value) E → Vec Remark Y → Lint Kind Draft Value → ℕ
     → List (List ℕ)

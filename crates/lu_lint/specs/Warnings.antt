@@ -187,7 +187,8 @@ declared_hint hint named = record { back = 0; hint = hint; unless_named = Some n
 -- by the first word of a line, where an operation is open or none
 abbrev pub state_hints : ComponentDraft → Option OpenOp → Word → List FoundHint
 state_hints d None word =
-    if bytes_eq word (codes "word") then declared_hint UnnamedArray (declared.Array (length d.arrays)) ∷ []
+    if bytes_eq word (codes "word")
+    then declared_hint UnnamedArray (declared.Array (length d.arrays)) ∷ []
     else (if bytes_eq word (codes "lock")
     then declared_hint UnnamedLock (declared.Lock (length d.locks)) ∷ []
     else [])

@@ -68,8 +68,8 @@ fn with_part<W: Wording>(
     }
 }
 
-/// The remarks with those on the parts after a schedule or a report: a specification, and on the line
-/// after it where parts stand there.
+/// The remarks with those on the parts after a schedule or a report: a specification, and on the
+/// line after it where parts stand there.
 fn with_fourth<W: Wording>(
     alloc: Global,
     wording: &W,

@@ -143,9 +143,9 @@ fn have_fault(remarks: &[Remark]) -> bool
     remarks.iter().any(|remark| remark.said.cause.is_fault())
 }
 
-/// Every fault of a bundle, in these words: of its component, of its matrix, of the parts after these,
-/// and of the lines between its parts. After a component with faults the matrix is judged by the
-/// signatures of the operations that its lines were to declare.
+/// Every fault of a bundle, in these words: of its component, of its matrix, of the parts after
+/// these, and of the lines between its parts. After a component with faults the matrix is judged by
+/// the signatures of the operations that its lines were to declare.
 ///
 /// A third part is a specification where it begins with `lineup spec`, else a report where it
 /// begins with `lineup`, else a recorded history where its first word is `call`, `return` or
