@@ -40,5 +40,5 @@ complete -c lineup -n '__lineup_says campaign' -l from -x -d 'the first matrix, 
 complete -c lineup -n '__lineup_says campaign' -l upto -x -d 'the end of the matrices'
 complete -c lineup -n '__lineup_says campaign' -l count -d 'how many matrices there are'
 complete -c lineup -n '__lineup_says campaign' -l certify -d 'certify each matrix'
-complete -c lineup -n '__lineup_says campaign' -l all -d 'go on behind one that is not linearizable'
+complete -c lineup -n '__lineup_says campaign' -l all -d 'go on after one that is not linearizable'
 complete -c lineup -n '__lineup_says campaign' -l spec -d 'hold the component against a trusted one'

@@ -93,11 +93,11 @@ use Rattle.lu_cli.specs.Help.{help_answer}
 use Rattle.lu_report.specs.Limits.{Bounds}
 use Rattle.lu_cli.specs.declared.failing.RunView.{RunView}
 use Rattle.lu_cli.specs.declared.failing.RunView.TheVariants as run
-use Rattle.lu_cli.specs.Campaign.{IsAnswerToAlike, IsCheckedPart, IsAnswerToTrial, IsCheckedWhole, IsCampaignAlike, IsCampaignByThreads, IsCampaignOfMatrix, IsCertifiedPart, IsCertifiedNumbers, IsCountAnswer, IsCheckedNumbers, IsSurveyedNumbers, IsSurveyedPart, IsTriedAll, IsTriedPart, ShowsCertified, found_answer, lists_of, survey_status}
+use Rattle.lu_cli.specs.Campaign.{IsCheckedPart, IsAnswerToTrial, IsCheckedWhole, IsCampaignOfMatrix, IsCertifiedPart, IsCertifiedNumbers, IsCountAnswer, IsCheckedNumbers, IsListsAnswer, IsSurveyedNumbers, IsSurveyedPart, ShowsCertified, ToAlike, ToLists, asked_with, found_answer, survey_status}
 use Rattle.lu_cli.specs.Certify.{IsCertified}
 use Rattle.lu_cli.specs.Check.{IsCheckedAgainstText, IsAnswerToCheckAgainst, IsChecked, IsCheckedAgainst}
 use Rattle.lu_cli.specs.Commands.{IsAnswerToCommand}
-use Rattle.lu_cli.specs.CampaignAgainst.{IsAnswerToCampaignAgainst, IsComparedAlike, IsComparedByThreads, IsComparedMatrix, IsComparedPart, IsComparedNumbers, ToTrusted, comparison_answer}
+use Rattle.lu_cli.specs.CampaignAgainst.{IsAnswerToCampaignAgainst, IsComparedLists, IsComparedMatrix, IsComparedPart, IsComparedNumbers, ToTrusted, comparison_answer}
 use Rattle.lu_cli.specs.Outcomes.{Answer, no_command, no_device, no_memory, refused}
 use Rattle.lu_cli.specs.Program.{Answers, IsAnswerToRead, IsAnswerToInput, IsAnswerToBundle, Tells, ToInput}
 use Rattle.lu_cli.specs.Refute.{IsAnswerToRefute, IsRefuted, IsRefutedTexts}
@@ -382,7 +382,7 @@ explanation_else by members c m (target.Schedule u) answer is = explained_else b
 explanation_else by members c m (target.Report r) answer is = finding_else (IsExplainedSchedule by members c m) r.finding answer (λ u more. explained_else by members c m u answer more) is
 
 serially_else : (by : Presenting) (limits : Bounds) (c : Component) (m : Matrix) (t : Target) (answer : Answer) → IsExplainedSerially by limits c m t answer → IsElse answer
-serially_else by limits c m t answer (inl is) = explanation_else by is.1 c m t answer is.4
+serially_else by limits c m t answer (inl (members, are, is)) = explanation_else by members c m t answer is
 serially_else by limits c m t answer (inr is) = finding_else (λ v a. ⊥) is.0 answer (λ u never. absurd never) is.2
 
 target_else : (text : List ℕ) (IsAnswer : Target → Answer → Type 0) (answer : Answer) → ((t : Target) → IsAnswer t answer → IsElse answer) → ToTarget text IsAnswer answer → IsElse answer
@@ -412,13 +412,9 @@ found_else : (c : Component) (found : Campaign) (answer : Answer) → answer ≡
 found_else c (AllPass count) answer is = status_else answer 0 (ap (λ (a : Answer). a.status) is) (λ e. omega arith)
 found_else c (First m r) answer is = matrix_else c m r answer is
 
-campaign_else : (c : Component) (options : CampaignOptions) (setup candidates : List Call) (threads : ℕ) (answer : Answer) → IsTriedAll c setup candidates threads options answer → IsElse answer
-campaign_else c options setup candidates threads answer (inl is) = found_else c is.0 answer is.2
-campaign_else c options setup candidates threads answer (inr is) = refused_else _ answer is.3
-
-by_thread_else : (asked : Asked) (answer : Answer) → IsCheckedWhole asked answer → IsElse answer
-by_thread_else asked answer (inl is) = found_else asked.component is.0 answer is.2
-by_thread_else asked answer (inr is) = refused_else _ answer is.3
+all_else : (asked : Asked) (answer : Answer) → IsCheckedWhole asked answer → IsElse answer
+all_else asked answer (inl is) = found_else asked.component is.0 answer is.2
+all_else asked answer (inr is) = refused_else _ answer is.3
 
 slice_else : (asked : Asked) (from upto : ℕ) (answer : Answer) → IsCheckedNumbers asked from upto answer → IsElse answer
 slice_else asked from upto answer (inl is) = found_else asked.component is.0 answer is.2
@@ -472,14 +468,19 @@ compared_part_else trusted Whole asked answer is = comparison_else trusted asked
 compared_part_else trusted (Slice from upto) asked answer is = comparison_else trusted asked from upto answer is
 compared_part_else trusted Count asked answer is = count_else asked.candidates asked.calls answer is
 
-compared_alike_else : (trusted c : Component) (threads : ℕ) (options : CampaignOptions) (setup : List Call) (lists : List (List Call)) (answer : Answer) → IsComparedAlike trusted c threads options (record { setup = setup; threads = lists }) answer → IsElse answer
-compared_alike_else trusted c threads options setup [] answer is = refused_else (codes "G2") answer is
-compared_alike_else trusted c threads options setup (candidates ∷ []) answer is = compared_part_else trusted options.part (lists_of c setup (replicate threads candidates) options) answer is
-compared_alike_else trusted c threads options setup (a ∷ b ∷ m) answer is = refused_else (codes "G2") answer is
+alike_else : (threads : ℕ) (lines : List (List Call)) (IsAnswer : List (List Call) → Answer → Type 0) (answer : Answer) → ((lists : List (List Call)) → IsAnswer lists answer → IsElse answer) → ToAlike threads lines IsAnswer answer → IsElse answer
+alike_else threads [] IsAnswer answer other is = refused_else (codes "G2") answer is
+alike_else threads (candidates ∷ []) IsAnswer answer other is = other (replicate threads candidates) is
+alike_else threads (a ∷ b ∷ lines) IsAnswer answer other is = refused_else (codes "G2") answer is
 
-compared_by_else : (threads : CampaignThreads) (trusted c : Component) (options : CampaignOptions) (m : Matrix) (answer : Answer) → IsComparedByThreads threads trusted c options m answer → IsElse answer
-compared_by_else (Alike threads) trusted c options m answer is = compared_alike_else trusted c threads options m.setup m.threads answer is
-compared_by_else Own trusted c options m answer is = compared_part_else trusted options.part (lists_of c m.setup m.threads options) answer is
+lists_else : (threads : CampaignThreads) (lines : List (List Call)) (IsAnswer : List (List Call) → Answer → Type 0) (answer : Answer) → ((lists : List (List Call)) → IsAnswer lists answer → IsElse answer) → ToLists threads lines IsAnswer answer → IsElse answer
+lists_else (Alike threads) lines IsAnswer answer other is = alike_else threads lines IsAnswer answer other is
+lists_else Own lines IsAnswer answer other is = other lines is
+
+compared_else : (options : CampaignOptions) (trusted c : Component) (m : Matrix) (answer : Answer) → IsComparedMatrix trusted options c m answer → IsElse answer
+compared_else options trusted c m answer is =
+    lists_else options.threads m.threads (IsComparedLists trusted options c m.setup) answer
+    (λ lists compared. compared_part_else trusted options.part (asked_with c m.setup lists options) answer compared) is
 
 certified_part_else : (part : CampaignPart) (asked : Asked) (answer : Answer) → IsCertifiedPart part asked answer → IsElse answer
 certified_part_else Whole asked answer is = certified_reply_else asked 0 most_long answer is
@@ -487,33 +488,19 @@ certified_part_else (Slice from upto) asked answer is = certified_reply_else ask
 certified_part_else Count asked answer is = count_else asked.candidates asked.calls answer is
 
 part_else : (part : CampaignPart) (asked : Asked) (answer : Answer) → IsCheckedPart part asked answer → IsElse answer
-part_else Whole asked answer is = by_thread_else asked answer is
+part_else Whole asked answer is = all_else asked answer is
 part_else (Slice from upto) asked answer is = slice_else asked from upto answer is
 part_else Count asked answer is = count_else asked.candidates asked.calls answer is
 
-lists_else : (trial : CampaignTrial) (part : CampaignPart) (asked : Asked) (answer : Answer) → IsAnswerToTrial trial part asked answer → IsElse answer
-lists_else Checked part asked answer is = part_else part asked answer is
-lists_else Certified part asked answer is = certified_part_else part asked answer is
-lists_else Surveyed part asked answer is = surveyed_part_else part asked answer is
+trial_else : (trial : CampaignTrial) (part : CampaignPart) (asked : Asked) (answer : Answer) → IsAnswerToTrial trial part asked answer → IsElse answer
+trial_else Checked part asked answer is = part_else part asked answer is
+trial_else Certified part asked answer is = certified_part_else part asked answer is
+trial_else Surveyed part asked answer is = surveyed_part_else part asked answer is
 
-same_lists_else : (c : Component) (options : CampaignOptions) (setup candidates : List Call) (threads : ℕ) (answer : Answer) → IsTriedPart c setup candidates threads options answer → IsElse answer
-same_lists_else c options setup candidates threads answer is = lists_else options.trial options.part (lists_of c setup (replicate threads candidates) options) answer is
-
-alike_else : (trial : CampaignTrial) (part : CampaignPart) (c : Component) (options : CampaignOptions) (setup candidates : List Call) (threads : ℕ) (answer : Answer) → IsAnswerToAlike trial part c setup candidates threads options answer → IsElse answer
-alike_else Checked Whole c options setup candidates threads answer is = campaign_else c options setup candidates threads answer is
-alike_else Checked (Slice from upto) c options setup candidates threads answer is = same_lists_else c options setup candidates threads answer is
-alike_else Checked Count c options setup candidates threads answer is = same_lists_else c options setup candidates threads answer is
-alike_else Certified part c options setup candidates threads answer is = same_lists_else c options setup candidates threads answer is
-alike_else Surveyed part c options setup candidates threads answer is = same_lists_else c options setup candidates threads answer is
-
-candidates_else : (c : Component) (threads : ℕ) (options : CampaignOptions) (setup : List Call) (lists : List (List Call)) (answer : Answer) → IsCampaignAlike c threads options (record { setup = setup; threads = lists }) answer → IsElse answer
-candidates_else c threads options setup [] answer is = refused_else (codes "G2") answer is
-candidates_else c threads options setup (candidates ∷ []) answer is = alike_else options.trial options.part c options setup candidates threads answer is
-candidates_else c threads options setup (a ∷ b ∷ m) answer is = refused_else (codes "G2") answer is
-
-matrices_else : (threads : CampaignThreads) (c : Component) (options : CampaignOptions) (m : Matrix) (answer : Answer) → IsCampaignByThreads threads c options m answer → IsElse answer
-matrices_else (Alike threads) c options m answer is = candidates_else c threads options m.setup m.threads answer is
-matrices_else Own c options m answer is = lists_else options.trial options.part (lists_of c m.setup m.threads options) answer is
+campaign_else : (options : CampaignOptions) (c : Component) (m : Matrix) (answer : Answer) → IsCampaignOfMatrix options c m answer → IsElse answer
+campaign_else options c m answer is =
+    lists_else options.threads m.threads (IsListsAnswer options c m.setup) answer
+    (λ lists tried. trial_else options.trial options.part (asked_with c m.setup lists options) answer tried) is
 
 collected_else : (m : Matrix) (text : List ℕ) (answer : Answer) → IsCollected m text answer → IsElse answer
 collected_else m text answer (inl is) = status_else answer 0 (ap (λ (a : Answer). a.status) is.2.2) (λ e. omega arith)
@@ -572,9 +559,9 @@ trusted_else text c m IsAnswer answer h is =
 
 campaign_against_else : (options : CampaignOptions) (parts : List (List ℕ)) (answer : Answer) → IsAnswerToCampaignAgainst options parts answer → IsElse answer
 campaign_against_else options parts answer is =
-    parts_else (exactly_three parts) (λ p. ToTexts p.0 p.1 (λ c m. ToTrusted p.2 c m (λ trusted. IsComparedMatrix trusted c options m))) answer
-    (λ p more. texts_else p.0 p.1 (λ c m. ToTrusted p.2 c m (λ trusted. IsComparedMatrix trusted c options m)) answer
-    (λ c m from. trusted_else p.2 c m (λ trusted. IsComparedMatrix trusted c options m) answer (λ trusted last. compared_by_else options.threads trusted c options m answer last) from) more) is
+    parts_else (exactly_three parts) (λ p. ToTexts p.0 p.1 (λ c m. ToTrusted p.2 c m (λ trusted. IsComparedMatrix trusted options c m))) answer
+    (λ p more. texts_else p.0 p.1 (λ c m. ToTrusted p.2 c m (λ trusted. IsComparedMatrix trusted options c m)) answer
+    (λ c m from. trusted_else p.2 c m (λ trusted. IsComparedMatrix trusted options c m) answer (λ trusted last. compared_else options trusted c m answer last) from) more) is
 
 compile_else : (parts : List (List ℕ)) (answer : Answer) → IsAnswerToCompile parts answer → IsElse answer
 compile_else [] answer is = refused_else (codes "B1") answer is
@@ -613,7 +600,7 @@ command_else Refute parts answer is = four_else parts answer is
 command_else (Shrink limits) parts answer is = two_else parts (λ c m. ShowsShrunk c m limits) answer (λ c m more. shrink_else c m limits answer more) is
 command_else Compile parts answer is = compile_else parts answer is
 command_else (CampaignAgainst options) parts answer is = campaign_against_else options parts answer is
-command_else (Campaigning options) parts answer is = two_else parts (λ c m. IsCampaignOfMatrix c options m) answer (λ c m more. matrices_else options.threads c options m answer more) is
+command_else (Campaigning options) parts answer is = two_else parts (IsCampaignOfMatrix options) answer (λ c m more. campaign_else options c m answer more) is
 
 marked_else : (answer : Answer) (b : Bool) → answer.status ≡ (if b then 2 else 0) → IsElse answer
 marked_else answer true e = status_else answer 2 e (λ f. omega arith)

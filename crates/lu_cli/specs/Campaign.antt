@@ -1,16 +1,16 @@
 -- What `campaign` answers.
-use Rattle.std.specs.Prelude.{ℕ, ◌++◌, codes, List, ◌≡◌, ◌≢◌, ◌⊎◌, length, Result, IfOk, [], Option, Some, None, String, string_bytes, ◌||◌, nat_lt, if◌then◌else◌, replicate, ◌∷◌}
+use Rattle.std.specs.Prelude.{ℕ, ◌++◌, codes, List, ◌≡◌, ◌≢◌, ◌⊎◌, Result, IfOk, [], Option, Some, None, String, string_bytes, ◌||◌, nat_lt, if◌then◌else◌, replicate, ◌∷◌}
 use Rattle.std.specs.Fmt.{decimal}
 use Rattle.lu_text.specs.Words.{exactly_two}
 use Rattle.lu_component.specs.Component.{Component}
 use Rattle.lu_test.specs.declared.matrix.Call.{Call}
 use Rattle.lu_test.specs.MatrixText.{matrix_text}
 use Rattle.lu_test.specs.Matrix.{Matrix}
+use Rattle.lu_machine.specs.declared.test.Test.{Test}
 use Rattle.lu_refine.specs.declared.campaigns.Campaign.{Campaign}
 use Rattle.lu_refine.specs.declared.campaigns.Campaign.TheVariants.{AllPass, First}
 use Rattle.lu_refine.specs.declared.campaigns.CampaignFault.{CampaignFault}
 use Rattle.lu_refine.specs.declared.campaigns.CampaignFault.TheVariants.{Memory as NoMemory}
-use Rattle.lu_refine.specs.Campaigns.{Campaigned, campaigned, IsCampaignAnswer as IsFound, IsLimitFault}
 use Rattle.lu_refine.specs.Choices.{choice_count}
 use Rattle.lu_refine.specs.ByThread.{Asked, asked_for, IsRolesFault, IsThreadsAnswer as IsFoundOfThreads, IsSliceAnswer as IsFoundOfSlice}
 use Rattle.lu_refine.specs.Roles.{AreWithinLimits, bases}
@@ -26,6 +26,8 @@ use Rattle.lu_certify.specs.declared.certificate.Certificate.{Certificate}
 use Rattle.lu_cli.specs.Shows.{with_matrix, ShowsCertificate}
 use Rattle.lu_cli.specs.Args.{most_long}
 use Rattle.lu_cli.specs.Outcomes.{Answer, refused}
+use Rattle.lu_cli.specs.declared.refusal.Refusal.{Refusal}
+use Rattle.lu_cli.specs.Refusals.{Answered}
 use Rattle.lu_cli.specs.Reading.{ToParts, ToTexts}
 use Rattle.lu_cli.specs.declared.request.CampaignOptions.{CampaignOptions}
 use Rattle.lu_cli.specs.declared.request.CampaignPart.{CampaignPart}
@@ -50,32 +52,13 @@ found_answer c (First matrix r) = with_matrix c matrix r
 abbrev pub numbered : ℕ → Answer
 numbered n = record { text = decimal n ++ codes "\n"; status = 0 }
 
-abbrev pub options_of : Component → List Call → List Call → ℕ → CampaignOptions → Campaigned
-options_of c setup candidates threads o =
-    campaigned c setup candidates threads o.calls o.bounds.bound o.bounds.serial
-
--- what the campaign of so many threads over these calls finds, with this setup, or why there is
--- none
-abbrev pub IsTriedAll : Component → List Call → List Call → ℕ → CampaignOptions → Answer
-    → Type 0
-IsTriedAll c setup candidates threads o answer =
-    ((found : Campaign) × IsFound (options_of c setup candidates threads o) found
-    × (answer ≡ found_answer c found))
-    ⊎ ((fault : CampaignFault) × (fault ≢ NoMemory)
-    × IsLimitFault (length candidates) threads o.calls fault
-    × (answer ≡ refused (campaign_code_of fault)))
-
-abbrev pub lists_of : Component → List Call → List (List Call) → CampaignOptions → Asked
-lists_of c setup candidates o =
-    asked_for c setup candidates o.calls o.bounds.bound o.bounds.serial
-
 -- why there is no campaign over these lists
 abbrev pub IsListsRefusal : List (List Call) → ℕ → Answer → Type 0
 IsListsRefusal candidates calls answer =
     (fault : CampaignFault) × (fault ≢ NoMemory) × IsRolesFault candidates calls fault
     × (answer ≡ refused (campaign_code_of fault))
 
--- what the campaign finds in which each thread has its own candidates, or why there is none
+-- what all matrices of a campaign show, or why there is none
 abbrev pub IsCheckedWhole : Asked → Answer → Type 0
 IsCheckedWhole asked answer =
     ((found : Campaign) × IsFoundOfThreads asked found
@@ -200,63 +183,59 @@ IsSurveyedPart Whole asked = IsSurveyedNumbers asked 0 most_long
 IsSurveyedPart (Slice from upto) asked = IsSurveyedNumbers asked from upto
 IsSurveyedPart Count asked = IsCountAnswer asked.candidates asked.calls
 
--- ---- the calls that are chosen from
-
 abbrev pub IsAnswerToTrial : CampaignTrial → CampaignPart → Asked → Answer → Type 0
 IsAnswerToTrial Checked = IsCheckedPart
 IsAnswerToTrial Certified = IsCertifiedPart
 IsAnswerToTrial Surveyed = IsSurveyedPart
 
--- what is answered where each thread has its own candidates
-abbrev pub IsListsAnswer : Component → List Call → List (List Call) → CampaignOptions → Answer
+-- ---- the calls that are chosen from
+
+-- what a campaign is asked for whose threads draw from these lists, after this setup
+abbrev pub asked_with : Component → List Call → List (List Call) → CampaignOptions → Asked
+asked_with c setup lists o = asked_for c setup lists o.calls o.bounds.bound o.bounds.serial
+
+-- so many threads draw from the one line of a matrix
+abbrev pub ToAlike : ℕ → List (List Call) → (List (List Call) → Answer → Type 0) → Answer → Type 0
+ToAlike threads (candidates ∷ []) IsAnswer answer = IsAnswer (replicate threads candidates) answer
+ToAlike threads lines IsAnswer answer = answer ≡ refused (codes "G2")
+
+-- they do, or each thread draws from its own line
+abbrev pub ToLists : CampaignThreads → List (List Call) → (List (List Call) → Answer → Type 0)
+    → Answer → Type 0
+ToLists (Alike threads) lines IsAnswer answer = ToAlike threads lines IsAnswer answer
+ToLists Own lines IsAnswer answer = IsAnswer lines answer
+
+-- what is answered where threads draw from these lists, after this setup
+abbrev pub IsListsAnswer : CampaignOptions → Component → List Call → List (List Call) → Answer
     → Type 0
-IsListsAnswer c setup candidates o =
-    IsAnswerToTrial o.trial o.part (lists_of c setup candidates o)
+IsListsAnswer o c setup lists = IsAnswerToTrial o.trial o.part (asked_with c setup lists o)
 
--- what is answered where so many threads have the same, and a part is asked for
-abbrev pub IsTriedPart : Component → List Call → List Call → ℕ → CampaignOptions → Answer
-    → Type 0
-IsTriedPart c setup candidates threads o = IsListsAnswer c setup (replicate threads candidates) o
-
-abbrev pub IsAnswerToAlike : CampaignTrial → CampaignPart → Component → List Call → List Call
-    → ℕ → CampaignOptions → Answer → Type 0
-IsAnswerToAlike Checked Whole c setup candidates threads o =
-    IsTriedAll c setup candidates threads o
-IsAnswerToAlike Checked (Slice from upto) c setup candidates threads o =
-    IsTriedPart c setup candidates threads o
-IsAnswerToAlike Checked Count c setup candidates threads o =
-    IsTriedPart c setup candidates threads o
-IsAnswerToAlike Certified part c setup candidates threads o =
-    IsTriedPart c setup candidates threads o
-IsAnswerToAlike Surveyed part c setup candidates threads o =
-    IsTriedPart c setup candidates threads o
-
--- what is answered where so many threads have the same
-abbrev pub IsTriedSame : Component → List Call → List Call → ℕ → CampaignOptions → Answer
-    → Type 0
-IsTriedSame c setup candidates threads o =
-    IsAnswerToAlike o.trial o.part c setup candidates threads o
-
--- the calls of the one thread are the candidates
-abbrev pub ToCandidates : List (List Call) → (List Call → Answer → Type 0) → Answer → Type 0
-ToCandidates (candidates ∷ []) IsAnswer answer = IsAnswer candidates answer
-ToCandidates threads IsAnswer answer = answer ≡ refused (codes "G2")
-
--- what is answered to the calls of the matrix's one thread, with the matrix's setup
-abbrev pub IsCampaignAlike : Component → ℕ → CampaignOptions → Matrix → Answer → Type 0
-IsCampaignAlike c threads o matrix =
-    ToCandidates matrix.threads
-    (λ candidates. IsTriedSame c matrix.setup candidates threads o)
-
-abbrev pub IsCampaignByThreads : CampaignThreads → Component → CampaignOptions → Matrix → Answer
-    → Type 0
-IsCampaignByThreads (Alike threads) c o matrix = IsCampaignAlike c threads o matrix
-IsCampaignByThreads Own c o matrix = IsListsAnswer c matrix.setup matrix.threads o
-
--- what is answered to the matrix: to its one thread, or to each of its lines
-abbrev pub IsCampaignOfMatrix : Component → CampaignOptions → Matrix → Answer → Type 0
-IsCampaignOfMatrix c o matrix = IsCampaignByThreads o.threads c o matrix
+-- what is answered to the matrix, whose lines the lists are
+abbrev pub IsCampaignOfMatrix : CampaignOptions → Component → Matrix → Answer → Type 0
+IsCampaignOfMatrix o c matrix =
+    ToLists o.threads matrix.threads (IsListsAnswer o c matrix.setup)
 
 abbrev pub IsAnswerToCampaign : CampaignOptions → List (List ℕ) → Answer → Type 0
 IsAnswerToCampaign options parts =
-    ToParts (exactly_two parts) (λ p. ToTexts p.0 p.1 (λ c m. IsCampaignOfMatrix c options m))
+    ToParts (exactly_two parts) (λ p. ToTexts p.0 p.1 (IsCampaignOfMatrix options))
+
+-- ---- of a test
+
+-- what a campaign of a test is asked for whose threads draw from these lists
+abbrev pub lists_of : Test → List (List Call) → CampaignOptions → Asked
+lists_of test lists o = asked_with test.component.now test.matrix.now.setup lists o
+
+-- the results are what is answered where threads draw from these lists
+abbrev pub TriesLists : Test → List (List Call) → CampaignOptions → Result Answer Refusal → Type 0
+TriesLists test lists o =
+    Answered (IsListsAnswer o test.component.now test.matrix.now.setup lists)
+
+-- where so many threads draw from the one line of the matrix
+abbrev pub TriesAlike : Test → ℕ → CampaignOptions → Result Answer Refusal → Type 0
+TriesAlike test threads o =
+    Answered (ToAlike threads test.matrix.now.threads
+    (IsListsAnswer o test.component.now test.matrix.now.setup))
+
+-- and whatever they draw from
+abbrev pub TriesTest : Test → CampaignOptions → Result Answer Refusal → Type 0
+TriesTest test o = Answered (IsCampaignOfMatrix o test.component.now test.matrix.now)

@@ -1,5 +1,5 @@
 -- What `campaign --spec` answers: the component against a trusted one.
-use Rattle.std.specs.Prelude.{ℕ, ◌++◌, codes, List, ◌≡◌, ◌⊎◌, Result, replicate}
+use Rattle.std.specs.Prelude.{ℕ, ◌++◌, codes, List, ◌≡◌, ◌⊎◌, Result}
 use Rattle.std.specs.Fmt.{decimal}
 use Rattle.lu_text.specs.declared.fault.Fault.{Fault}
 use Rattle.lu_text.specs.Faults.{IsUnlessMemory, meaning_of}
@@ -11,6 +11,8 @@ use Rattle.lu_lang.specs.Grammar.{component_grammar}
 use Rattle.lu_test.specs.declared.matrix.Call.{Call}
 use Rattle.lu_test.specs.declared.schedule.Move.{Move}
 use Rattle.lu_test.specs.Matrix.{Matrix}
+use Rattle.lu_machine.specs.Starts.{Settles}
+use Rattle.lu_machine.specs.declared.test.Test.{Test}
 use Rattle.lu_refine.specs.declared.roles.Roles.{Roles}
 use Rattle.lu_refine.specs.ByThread.{Asked, asked_of}
 use Rattle.lu_survey.specs.declared.comparison.Comparison.{Comparison}
@@ -25,13 +27,11 @@ use Rattle.lu_cli.specs.Refusals.{Answered}
 use Rattle.lu_cli.specs.declared.texts.Fault.TheVariants.{Component as TextsComponent}
 use Rattle.lu_cli.specs.Args.{most_long}
 use Rattle.lu_cli.specs.Outcomes.{Answer, refused}
-use Rattle.lu_cli.specs.Campaign.{IsListsRefusal, IsCountAnswer, lists_of, ToCandidates}
+use Rattle.lu_cli.specs.Campaign.{IsListsRefusal, IsCountAnswer, ToAlike, ToLists, asked_with}
 use Rattle.lu_cli.specs.Reading.{ToValue, ToSettled, ToParts, ToTexts}
 use Rattle.lu_cli.specs.declared.request.CampaignOptions.{CampaignOptions}
 use Rattle.lu_cli.specs.declared.request.CampaignPart.{CampaignPart}
 use Rattle.lu_cli.specs.declared.request.CampaignPart.TheVariants.{Whole, Slice, Count}
-use Rattle.lu_cli.specs.declared.request.CampaignThreads.{CampaignThreads}
-use Rattle.lu_cli.specs.declared.request.CampaignThreads.TheVariants.{Alike, Own}
 
 -- ---- what is found
 
@@ -77,37 +77,18 @@ IsComparedPart trusted Whole asked = IsComparedNumbers trusted asked 0 most_long
 IsComparedPart trusted (Slice from upto) asked = IsComparedNumbers trusted asked from upto
 IsComparedPart trusted Count asked = IsCountAnswer asked.candidates asked.calls
 
--- so it is of the result, for these candidates
-abbrev pub ComparesLists : Component → Component → List Call → List (List Call)
-    → CampaignOptions → Result Answer Refusal → Type 0
-ComparesLists trusted c setup candidates o =
-    Answered (IsComparedPart trusted o.part (lists_of c setup candidates o))
-
 -- ---- the calls that are chosen from
 
--- what is answered against a trusted component: to the calls of the matrix's one thread
-abbrev pub IsComparedAlike : Component → Component → ℕ → CampaignOptions → Matrix → Answer
-    → Type 0
-IsComparedAlike trusted c threads o matrix =
-    ToCandidates matrix.threads
-    (λ candidates. IsComparedPart trusted o.part
-    (lists_of c matrix.setup (replicate threads candidates) o))
+-- what is answered against a trusted component where threads draw from these lists, after this
+-- setup
+abbrev pub IsComparedLists : Component → CampaignOptions → Component → List Call
+    → List (List Call) → Answer → Type 0
+IsComparedLists trusted o c setup lists = IsComparedPart trusted o.part (asked_with c setup lists o)
 
--- or to each of its lines
-abbrev pub IsComparedByThreads : CampaignThreads → Component → Component → CampaignOptions → Matrix
-    → Answer → Type 0
-IsComparedByThreads (Alike threads) trusted c o matrix = IsComparedAlike trusted c threads o matrix
-IsComparedByThreads Own trusted c o matrix =
-    IsComparedPart trusted o.part (lists_of c matrix.setup matrix.threads o)
-
-abbrev pub IsComparedMatrix : Component → Component → CampaignOptions → Matrix → Answer
-    → Type 0
-IsComparedMatrix trusted c o matrix = IsComparedByThreads o.threads trusted c o matrix
-
--- so it is of the result: to the calls of the one thread, and to each of the lines
-abbrev pub ComparesAlike : Component → Component → ℕ → CampaignOptions → Matrix
-    → Result Answer Refusal → Type 0
-ComparesAlike trusted c threads o matrix = Answered (IsComparedAlike trusted c threads o matrix)
+-- what is answered to the matrix, whose lines the lists are
+abbrev pub IsComparedMatrix : Component → CampaignOptions → Component → Matrix → Answer → Type 0
+IsComparedMatrix trusted o c matrix =
+    ToLists o.threads matrix.threads (IsComparedLists trusted o c matrix.setup)
 
 -- ---- the trusted component
 
@@ -126,18 +107,44 @@ ToTrusted text c m IsAnswer =
     (HasSameOperations c trusted × ToSettled trusted m (IsAnswer trusted) answer)
     ⊎ ((HasSameOperations c trusted → ⊥) × (answer ≡ refused (codes "G4"))))
 
--- so it is of the result, where the trusted component is read, and of its text
-abbrev pub ComparesSettled : Component → Component → CampaignOptions → Matrix
-    → Result Answer Refusal → Type 0
-ComparesSettled trusted c o m = Answered (ToSettled trusted m (IsComparedMatrix trusted c o m))
-
-abbrev pub ComparesWith : List ℕ → Component → CampaignOptions → Matrix → Result Answer Refusal
-    → Type 0
-ComparesWith text c o m =
-    Answered (ToTrusted text c m (λ trusted. IsComparedMatrix trusted c o m))
-
 abbrev pub IsAnswerToCampaignAgainst : CampaignOptions → List (List ℕ) → Answer → Type 0
 IsAnswerToCampaignAgainst options parts =
     ToParts (exactly_three parts)
     (λ p. ToTexts p.0 p.1
-    (λ c m. ToTrusted p.2 c m (λ trusted. IsComparedMatrix trusted c options m)))
+    (λ c m. ToTrusted p.2 c m (λ trusted. IsComparedMatrix trusted options c m)))
+
+-- ---- of a test
+
+-- the trusted component has the operations of the test's, and the setup settles with it too
+pub record IsTrustedFor (test : Test) (trusted : Component) : Type 0 where
+  pub operations : HasSameOperations test.component.now trusted
+  pub settles : Settles trusted test.matrix.now
+
+-- the results are what is answered against a trusted component, where threads draw from these lists
+abbrev pub ComparesLists : Component → Test → List (List Call) → CampaignOptions
+    → Result Answer Refusal → Type 0
+ComparesLists trusted test lists o =
+    Answered (IsComparedLists trusted o test.component.now test.matrix.now.setup lists)
+
+-- where so many threads draw from the one line of the matrix
+abbrev pub ComparesAlike : Component → Test → ℕ → CampaignOptions → Result Answer Refusal → Type 0
+ComparesAlike trusted test threads o =
+    Answered (ToAlike threads test.matrix.now.threads
+    (IsComparedLists trusted o test.component.now test.matrix.now.setup))
+
+-- whatever they draw from
+abbrev pub ComparesTest : Component → Test → CampaignOptions → Result Answer Refusal → Type 0
+ComparesTest trusted test o =
+    Answered (IsComparedMatrix trusted o test.component.now test.matrix.now)
+
+-- where the setup settles with the trusted component too
+abbrev pub ComparesSettled : Component → Test → CampaignOptions → Result Answer Refusal → Type 0
+ComparesSettled trusted test o =
+    Answered (ToSettled trusted test.matrix.now
+    (IsComparedMatrix trusted o test.component.now test.matrix.now))
+
+-- and where this is the text of the trusted component
+abbrev pub ComparesWith : List ℕ → Test → CampaignOptions → Result Answer Refusal → Type 0
+ComparesWith text test o =
+    Answered (ToTrusted text test.component.now test.matrix.now
+    (λ trusted. IsComparedMatrix trusted o test.component.now test.matrix.now))

@@ -1,12 +1,15 @@
 -- What `certify` answers.
-use Rattle.std.specs.Prelude.{ℕ, max, min, ◌≡◌, ◌≢◌, ◌⊎◌, List}
+use Rattle.std.specs.Prelude.{ℕ, max, min, ◌≡◌, ◌≢◌, ◌⊎◌, List, Result, IfOk}
 use Rattle.lu_text.specs.Words.{exactly_two}
 use Rattle.lu_component.specs.Component.{Component}
 use Rattle.lu_test.specs.Matrix.{Matrix}
+use Rattle.lu_machine.specs.declared.test.Test.{Test}
 use Rattle.lu_certify.specs.declared.certificate.Certificate.{Certificate}
 use Rattle.lu_grain.specs.Longer.{IsMadeWithin}
 use Rattle.lu_cli.specs.Shows.{ShowsCertificate}
 use Rattle.lu_cli.specs.Outcomes.{Answer, no_worker}
+use Rattle.lu_cli.specs.declared.refusal.Refusal.{Refusal}
+use Rattle.lu_cli.specs.Refusals.{Answered}
 use Rattle.lu_cli.specs.Reading.{ToParts, ToTexts}
 use Rattle.lu_cli.specs.declared.request.CertifyOptions.{CertifyOptions}
 
@@ -22,6 +25,14 @@ IsCertified c matrix asked answer =
     × IsMadeWithin (certified_local asked c) c matrix asked.options asked.nodes certificate
     × ShowsCertificate c certificate answer)
     ⊎ ((asked.options.workers ≢ 1) × (answer ≡ no_worker))
+
+-- so it is of the result, and of one that can only want memory
+abbrev pub Certifies : Test → CertifyOptions → Result Answer Refusal → Type 0
+Certifies test asked = Answered (IsCertified test.component.now test.matrix.now asked)
+
+abbrev pub CertifiesAlone : {E : Type 0} → Test → CertifyOptions → Result Answer E → Type 0
+CertifiesAlone test asked result =
+    IfOk result (IsCertified test.component.now test.matrix.now asked)
 
 abbrev pub IsAnswerToCertify : CertifyOptions → List (List ℕ) → Answer → Type 0
 IsAnswerToCertify asked parts =

@@ -1,9 +1,10 @@
 -- What `conform` answers.
-use Rattle.std.specs.Prelude.{ℕ, ◌++◌, List, codes, length, ◌<◌, ◌≡◌, Some, slice_get, Result}
+use Rattle.std.specs.Prelude.{ℕ, ◌++◌, List, codes, length, ◌<◌, ◌≡◌, Some, slice_get, Result, IfOk}
 use Rattle.std.specs.Fmt.{decimal}
 use Rattle.lu_component.specs.Component.{Component}
 use Rattle.lu_test.specs.declared.schedule.Move.{Move}
 use Rattle.lu_test.specs.Matrix.{Matrix}
+use Rattle.lu_machine.specs.declared.test.Test.{Test}
 use Rattle.lu_test.specs.ScheduleText.{schedule_text}
 use Rattle.std.specs.List.{flat_map}
 use Rattle.lu_recorded.specs.declared.recorded.Recorded.{Recorded}
@@ -65,14 +66,19 @@ abbrev pub IsConformed : Component → Matrix → Showing → List Recorded → 
 IsConformed c m showing all answer =
     (found : Conformance) × IsConformance c m all found × TellsConformance showing all found answer
 
+-- so it is of the result, where there is one
+abbrev pub SaysConformed : {E : Type 0} → Test → Showing → List Recorded → Result Answer E → Type 0
+SaysConformed test showing all result =
+    IfOk result (IsConformed test.component.now test.matrix.now showing all)
+
 -- the recorded histories are read first
 abbrev pub IsConformedTexts : Component → Matrix → Showing → List (List ℕ) → Answer → Type 0
 IsConformedTexts c m showing texts = ToRecorded m texts (IsConformed c m showing)
 
 -- that is answered, or a refusal that is
-abbrev pub ConformsTexts : Component → Matrix → Showing → List (List ℕ) → Result Answer Refusal
-    → Type 0
-ConformsTexts c m showing texts result = Answered (IsConformedTexts c m showing texts) result
+abbrev pub ConformsTexts : Test → Showing → List (List ℕ) → Result Answer Refusal → Type 0
+ConformsTexts test showing texts =
+    Answered (IsConformedTexts test.component.now test.matrix.now showing texts)
 
 abbrev pub IsAnswerToConform : Showing → List (List ℕ) → Answer → Type 0
 IsAnswerToConform showing parts =

@@ -1,5 +1,5 @@
 -- How a schedule is explained, by serial histories: in words, or by marks in its picture.
-use Rattle.std.specs.Prelude.{◌≡◌, ◌⊎◌, ℕ, ◌<◌, true, false, List, ◌++◌, codes, Some, [], Result, IfOk}
+use Rattle.std.specs.Prelude.{◌≡◌, ◌⊎◌, ℕ, ◌<◌, true, false, List, ◌++◌, codes, Some, [], Result, IfOk, MatchResult}
 use Rattle.lu_component.specs.Component.{Component}
 use Rattle.lu_test.specs.declared.schedule.Move.{Move}
 use Rattle.lu_test.specs.ScheduleText.{schedule_text}
@@ -133,13 +133,30 @@ abbrev pub IsOffenceOf : Component → Matrix → ℕ → Finding → Type 0
 IsOffenceOf c m serial f =
     IsOfOffence f × ((bound : ℕ) → FromEachStart c m (λ s. IsFinding s bound serial f))
 
+-- a serial run offends, and that is said
+abbrev pub SaysOffence : Component → Matrix → ℕ → Answer → Type 0
+SaysOffence c m serial answer =
+    (f : Finding) × IsOffenceOf c m serial f × ToFinding (λ v a. ⊥) f answer
+
+-- none offends, and these are the serial histories
+abbrev pub AreSerialHistories : Component → Matrix → ℕ → List (List SerialOp) → Type 0
+AreSerialHistories c m serial members = (s : State) × IsStart c m s × IsSetOf s serial members
+
+-- the results are the serial histories, or that a serial run offends
+abbrev pub LearnsOrSays : {E : Type 0} → Test → ℕ
+    → Result (Result (List (List SerialOp)) Answer) E → Type 0
+LearnsOrSays test serial result =
+    IfOk result (λ learnt. MatchResult learnt
+    (AreSerialHistories test.component.now test.matrix.now serial)
+    (SaysOffence test.component.now test.matrix.now serial))
+
 -- by the serial histories, where no serial run offends; else that one does
 abbrev pub BySerialRuns : Component → Matrix → ℕ → (List (List SerialOp) → Answer → Type 0)
     → Answer → Type 0
 BySerialRuns c m serial IsAnswer answer =
-    ((s : State) × (members : List (List SerialOp)) × IsStart c m s × IsSetOf s serial members
+    ((members : List (List SerialOp)) × AreSerialHistories c m serial members
     × IsAnswer members answer)
-    ⊎ ((f : Finding) × IsOffenceOf c m serial f × ToFinding (λ v a. ⊥) f answer)
+    ⊎ SaysOffence c m serial answer
 
 abbrev pub IsExplainedSerially : Presenting → Bounds → Component → Matrix → Target → Answer
     → Type 0

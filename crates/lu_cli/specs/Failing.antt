@@ -72,10 +72,10 @@ ShowsRun ExplainedPicture how c cut u text answer =
     (picture : Answer) × IsDrawn how c cut u picture × (answer ≡ failure picture.text)
 
 -- the answer, where there is one, shows that of the text
-abbrev pub ShowsRunBelow : {E Z : Type 0} → View → Wording → Component → Matrix → List Move
-    → String Z → Result Answer E → Type 0
-ShowsRunBelow view how c cut u text result =
-    IfOk result (ShowsRun view how c cut u (string_bytes text))
+abbrev pub ShowsRunBelow : {E Z : Type 0} → View → Wording → Test → List Move → String Z
+    → Result Answer E → Type 0
+ShowsRunBelow view how cut u text result =
+    IfOk result (ShowsRun view how cut.component.now cut.matrix.now u (string_bytes text))
 
 -- The same where the cut has this report, with why it fails between them, or in the picture, where
 -- that is asked for.
@@ -92,9 +92,10 @@ ShowsFailing (Trace start) how c cut r u answer =
 ShowsFailing Picture how c cut r u answer = ShowsRun Picture how c cut u (two_texts c cut r) answer
 
 -- so it is of the result, where there is one
-abbrev pub ShowsFailure : {E : Type 0} → View → Wording → Component → Matrix → Report → List Move
+abbrev pub ShowsFailure : {E : Type 0} → View → Wording → Test → Report → List Move
     → Result Answer E → Type 0
-ShowsFailure view how c cut r u result = IfOk result (ShowsFailing view how c cut r u)
+ShowsFailure view how cut r u result =
+    IfOk result (ShowsFailing view how cut.component.now cut.matrix.now r u)
 
 -- of a certificate the cut that fails or has a livelock is shown; another one as it is
 abbrev pub ShowsByView : View → Wording → Component → Certificate → Answer → Type 0
@@ -122,6 +123,11 @@ abbrev pub IsShownAlone : View → Wording → Component → Matrix → Answer �
 IsShownAlone view how c m answer =
     (certificate : Certificate) × IsCertificate c m widest certificate
     × ShowsByView view how c certificate answer
+
+-- so it is of the result, where there is one
+abbrev pub ShowsAlone : {E : Type 0} → View → Wording → Test → Result Answer E → Type 0
+ShowsAlone view how test result =
+    IfOk result (IsShownAlone view how test.component.now test.matrix.now)
 
 -- of a component and a matrix alone what fails is shown so; of more parts what stands after them
 abbrev pub AloneOr : View → (List (List ℕ) → Answer → Type 0) → List (List ℕ) → Answer → Type 0

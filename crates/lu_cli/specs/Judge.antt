@@ -4,6 +4,7 @@ use Rattle.std.specs.Fmt.{decimal}
 use Rattle.lu_text.specs.Words.{Word}
 use Rattle.lu_component.specs.Component.{Component}
 use Rattle.lu_test.specs.Matrix.{Matrix}
+use Rattle.lu_machine.specs.declared.test.Test.{Test}
 use Rattle.lu_machine.specs.States.{State}
 use Rattle.lu_machine.specs.Starts.{IsStart}
 use Rattle.lu_history.specs.declared.serial.SerialOp.{SerialOp}
@@ -109,20 +110,25 @@ IsAnswerToJudgeAgainst parts =
 
 -- ---- in memory, unless it ran out
 
-abbrev pub ShowsFirst : {E : Type 0} → List (List SerialOp) → Component → Matrix → ℕ → Recorded
-    → Result Answer E → Type 0
-ShowsFirst members c m n recorded result = IfOk result (IsShown members c m n recorded)
+abbrev pub ShowsFirst : {E : Type 0} → List (List SerialOp) → Test → ℕ → Recorded → Result Answer E
+    → Type 0
+ShowsFirst members test n recorded result =
+    IfOk result (IsShown members test.component.now test.matrix.now n recorded)
 
-abbrev pub JudgesBy : {E : Type 0} → List (List SerialOp) → Component → Matrix → List Recorded
-    → Result Answer E → Type 0
-JudgesBy members c m all result = IfOk result (IsJudgedByMembers members c m all)
+abbrev pub JudgesBy : {E : Type 0} → List (List SerialOp) → Test → List Recorded → Result Answer E
+    → Type 0
+JudgesBy members test all result =
+    IfOk result (IsJudgedByMembers members test.component.now test.matrix.now all)
+
+abbrev pub JudgesSerially : {E : Type 0} → Test → Bounds → List Recorded → Result Answer E → Type 0
+JudgesSerially test limits all result =
+    IfOk result (IsJudgedSerially test.component.now test.matrix.now limits all)
 
 -- that is answered, or a refusal that is
-abbrev pub JudgesTexts : Component → Matrix → Bounds → List (List ℕ) → Result Answer Refusal
-    → Type 0
-JudgesTexts c matrix limits texts result = Answered (IsJudgedTexts c matrix limits texts) result
+abbrev pub JudgesTexts : Test → Bounds → List (List ℕ) → Result Answer Refusal → Type 0
+JudgesTexts test limits texts =
+    Answered (IsJudgedTexts test.component.now test.matrix.now limits texts)
 
-abbrev pub JudgesTextsAgainst : Component → Matrix → List ℕ → List (List ℕ)
-    → Result Answer Refusal → Type 0
-JudgesTextsAgainst c matrix spec texts result =
-    Answered (IsJudgedAgainstTexts c matrix spec texts) result
+abbrev pub JudgesTextsAgainst : Test → List ℕ → List (List ℕ) → Result Answer Refusal → Type 0
+JudgesTextsAgainst test spec texts =
+    Answered (IsJudgedAgainstTexts test.component.now test.matrix.now spec texts)

@@ -3,6 +3,7 @@ use Rattle.std.specs.Prelude.{◌≡◌, ◌⊎◌, ℕ, List, Option, None, Str
 use Rattle.lu_component.specs.Component.{Component}
 use Rattle.lu_test.specs.declared.schedule.Move.{Move}
 use Rattle.lu_test.specs.Matrix.{Matrix}
+use Rattle.lu_machine.specs.declared.test.Test.{Test}
 use Rattle.lu_replay.specs.Replays.{IsInfeasibleAt}
 use Rattle.lu_trace.specs.declared.wording.Wording.{Wording}
 use denote.Ref.{Bor}
@@ -31,11 +32,18 @@ IsPictureOf how why c matrix u text =
     IsWordedPicture how c matrix u (option_copied why) (string_bytes text)
 
 -- so it is of the result, where there is one
-abbrev pub Pictures : {Z E : Type 0} → Wording → Option (Bor Explanation) → Component → Matrix
-    → List Move → Result (String Z) E → Type 0
-Pictures how why c matrix u result = IfOk result (IsPictureOf how why c matrix u)
+abbrev pub Pictures : {Z E : Type 0} → Wording → Option (Bor Explanation) → Test → List Move
+    → Result (String Z) E → Type 0
+Pictures how why test u result =
+    IfOk result (IsPictureOf how why test.component.now test.matrix.now u)
 
 -- the same, or where the schedule is infeasible
 abbrev pub IsDrawnLent : Wording → Option (Bor Explanation) → Component → Matrix → List Move → Answer
     → Type 0
 IsDrawnLent how why c matrix u answer = IsDrawnExplained how (option_copied why) c matrix u answer
+
+-- so it is of the result, where there is one
+abbrev pub Draws : {E : Type 0} → Wording → Option (Bor Explanation) → Test → List Move
+    → Result Answer E → Type 0
+Draws how why test u result =
+    IfOk result (IsDrawnLent how why test.component.now test.matrix.now u)

@@ -4,6 +4,7 @@ use Rattle.lu_text.specs.Words.{exactly_four}
 use Rattle.lu_component.specs.Component.{Component}
 use Rattle.lu_test.specs.declared.schedule.Move.{Move}
 use Rattle.lu_test.specs.Matrix.{Matrix}
+use Rattle.lu_machine.specs.declared.test.Test.{Test}
 use Rattle.lu_history.specs.declared.serial.SerialOp.{SerialOp}
 use Rattle.lu_report.specs.Parts.{Report}
 use Rattle.lu_refute.specs.Answers.{IsAnswer as IsRefutation, IsConfirmedFailure}
@@ -27,8 +28,12 @@ abbrev pub IsRefutedTexts : Component → Matrix → List ℕ → List ℕ → A
 IsRefutedTexts c matrix report spec = ToReport report (λ r. ToSpec matrix spec (IsRefuted c matrix r))
 
 -- that is answered, or a refusal that is
-abbrev pub RefutesTexts : Component → Matrix → List ℕ → List ℕ → Result Answer Refusal → Type 0
-RefutesTexts c matrix report spec result = Answered (IsRefutedTexts c matrix report spec) result
+abbrev pub RefutesSpec : Test → Report → List (List SerialOp) → Result Answer Refusal → Type 0
+RefutesSpec test r members = Answered (IsRefuted test.component.now test.matrix.now r members)
+
+abbrev pub RefutesTexts : Test → List ℕ → List ℕ → Result Answer Refusal → Type 0
+RefutesTexts test report spec =
+    Answered (IsRefutedTexts test.component.now test.matrix.now report spec)
 
 abbrev pub IsAnswerToRefute : List (List ℕ) → Answer → Type 0
 IsAnswerToRefute parts =

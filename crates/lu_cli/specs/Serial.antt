@@ -1,8 +1,9 @@
 -- What `serial` answers.
-use Rattle.std.specs.Prelude.{◌↔◌, List, ◌≡◌, ◌⊎◌, ℕ}
+use Rattle.std.specs.Prelude.{◌↔◌, List, ◌≡◌, ◌⊎◌, ℕ, Result, IfOk}
 use Rattle.lu_text.specs.Words.{exactly_two}
 use Rattle.lu_component.specs.Component.{Component}
 use Rattle.lu_test.specs.Matrix.{Matrix}
+use Rattle.lu_machine.specs.declared.test.Test.{Test}
 use Rattle.lu_machine.specs.States.{State}
 use Rattle.lu_machine.specs.Starts.{FromEachStart, IsStart}
 use Rattle.lu_history.specs.declared.serial.SerialOp.{SerialOp}
@@ -38,12 +39,21 @@ IsOffenceReported c m limits answer =
     (r : Report) × IsReport c m limits.bound limits.serial r × IsOfOffence r.finding
     × (answer ≡ reported r)
 
+-- so it is of the result, where there is one
+abbrev pub ReportsOffence : {E : Type 0} → Test → Bounds → Result Answer E → Type 0
+ReportsOffence test limits result =
+    IfOk result (IsOffenceReported test.component.now test.matrix.now limits)
+
 -- where there is no serial offence, the specification of the serial histories; else the report of
 -- the least offence
 abbrev pub IsRunSerially : Component → Matrix → Bounds → Answer → Type 0
 IsRunSerially c matrix limits answer =
     ((s : State) × IsStart c matrix s × NoOffence s limits.serial × ListsSerial s answer)
     ⊎ IsOffenceReported c matrix limits answer
+
+abbrev pub RunsSerially : {E : Type 0} → Test → Bounds → Result Answer E → Type 0
+RunsSerially test limits result =
+    IfOk result (IsRunSerially test.component.now test.matrix.now limits)
 
 abbrev pub IsAnswerToSerial : Bounds → List (List ℕ) → Answer → Type 0
 IsAnswerToSerial limits parts =

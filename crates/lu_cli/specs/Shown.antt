@@ -5,6 +5,7 @@ use Rattle.lu_test.specs.declared.schedule.Move.{Move}
 use Rattle.lu_test.specs.declared.schedule_fault.ScheduleFault.{ScheduleFault}
 use Rattle.lu_test.specs.ScheduleText.{schedule_of, IsScheduleUnlessMemory}
 use Rattle.lu_test.specs.Matrix.{Matrix}
+use Rattle.lu_machine.specs.declared.test.Test.{Test}
 use Rattle.lu_report.specs.Parts.{Report, shown_schedule}
 use Rattle.lu_report.specs.Forms.{Spells}
 use Rattle.lu_trace.specs.declared.wording.Wording.{Wording}
@@ -98,13 +99,14 @@ abbrev pub IsTextShown : RunView → Wording → Component → Matrix → List �
 IsTextShown view how c m text = ToShown text (IsRunShown view how c m)
 
 -- the results are so
-abbrev pub ShowsRunOf : {E : Type 0} → RunView → Wording → Component → Matrix → List Move
-    → Result Answer E → Type 0
-ShowsRunOf view how c m u result = IfOk result (IsRunShown view how c m u)
-
-abbrev pub ShowsText : RunView → Wording → Component → Matrix → List ℕ → Result Answer Refusal
+abbrev pub ShowsRunOf : {E : Type 0} → RunView → Wording → Test → List Move → Result Answer E
     → Type 0
-ShowsText view how c m text = Answered (IsTextShown view how c m text)
+ShowsRunOf view how test u result =
+    IfOk result (IsRunShown view how test.component.now test.matrix.now u)
+
+abbrev pub ShowsText : RunView → Wording → Test → List ℕ → Result Answer Refusal → Type 0
+ShowsText view how test text =
+    Answered (IsTextShown view how test.component.now test.matrix.now text)
 
 abbrev pub IsShownAfter : RunView → List (List ℕ) → Answer → Type 0
 IsShownAfter view parts =

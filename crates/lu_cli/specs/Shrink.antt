@@ -1,8 +1,9 @@
 -- What `shrink` answers.
-use Rattle.std.specs.Prelude.{◌≡◌, ◌⊎◌, ℕ, List}
+use Rattle.std.specs.Prelude.{◌≡◌, ◌⊎◌, ℕ, List, Result, IfOk}
 use Rattle.lu_text.specs.Words.{exactly_two}
 use Rattle.lu_component.specs.Component.{Component}
 use Rattle.lu_test.specs.Matrix.{Matrix}
+use Rattle.lu_machine.specs.declared.test.Test.{Test}
 use Rattle.lu_report.specs.Parts.{Report}
 use Rattle.lu_replay.specs.Reports.{IsReport}
 use Rattle.lu_report.specs.Parts.{IsFailure}
@@ -20,6 +21,11 @@ ShowsShrunk c matrix limits answer =
     × (answer ≡ with_matrix c smaller r))
     ⊎ ((r : Report) × IsReport c matrix limits.bound limits.serial r × (IsFailure r.finding → ⊥)
     × (answer ≡ reported r))
+
+-- so it is of the result, where there is one
+abbrev pub Shrinks : {E : Type 0} → Test → Bounds → Result Answer E → Type 0
+Shrinks test limits result =
+    IfOk result (ShowsShrunk test.component.now test.matrix.now limits)
 
 abbrev pub IsAnswerToShrink : Bounds → List (List ℕ) → Answer → Type 0
 IsAnswerToShrink limits parts =

@@ -130,7 +130,7 @@ options =
     (codes "campaign" ∷ [])
     ∷ flag (codes "count") (codes "how many matrices there are") (codes "campaign" ∷ [])
     ∷ flag (codes "certify") (codes "certifies each matrix") (codes "campaign" ∷ [])
-    ∷ flag (codes "all") (codes "goes on behind one that is not linearizable; with --certify")
+    ∷ flag (codes "all") (codes "goes on after one that is not linearizable; with --certify")
     (codes "campaign" ∷ [])
     ∷ flag (codes "spec") (codes "holds it against a component that is trusted, the third part")
     (codes "campaign" ∷ [])

@@ -3,9 +3,8 @@
 ghost use Rattle.std.specs.Prelude.{◌≡◌, IfOk, IfSome, OnOk, string_bytes};
 ghost use Rattle.lu_text.specs.Lines.{texts};
 ghost use Rattle.lu_text.specs.Writing.{Writes};
-ghost use Rattle.lu_test.specs.Matrix.{IsOf, IsSetup};
-ghost use Rattle.lu_machine.specs.Starts.{AllEnd, CanRun};
-ghost use Rattle.lu_refine.specs.Campaigns.{AreCallsOf, HaveArguments, IsFoundOf};
+ghost use Rattle.lu_test.specs.Matrix.{IsOf};
+ghost use Rattle.lu_refine.specs.Campaigns.{IsFoundOf};
 ghost use Rattle.lu_refine.specs.Roles.{AllCallsOf, AllHaveArguments};
 ghost use Rattle.lu_refine.specs.ByThread.{CanAsk, asked_of};
 ghost use Rattle.lu_certify.specs.Certificates.{NamesCutOf};
@@ -13,8 +12,7 @@ ghost use Rattle.lu_survey.specs.Certified.{IsCertifiedOf};
 ghost use Rattle.lu_survey.specs.Surveys.{AreShownOf, IsShownOf};
 ghost use Rattle.lu_cli.specs.Refusals.{Answered};
 ghost use Rattle.lu_cli.specs.Campaign as spec;
-ghost use Rattle.lu_cli.specs.Campaign.{IsTriedAll, IsTriedPart, IsTriedSame, PushesFirst, ShowsBelow, tally_line};
-ghost use Rattle.lu_cli.specs.declared.request.CampaignThreads.TheVariants.{Own};
+ghost use Rattle.lu_cli.specs.Campaign.{PushesFirst, ShowsBelow, TriesAlike, TriesLists, TriesTest, lists_of, tally_line};
 
 use crate::answer::{Answer, show_certificate, show_matrix};
 use crate::refusal::Refusal;
@@ -22,12 +20,12 @@ use crate::request::{CampaignOptions, CampaignPart, CampaignThreads, CampaignTri
 use crate::texts::read_texts;
 use lu_certify::{Certificate, DEFAULT_NODES};
 use lu_component::Component;
+use lu_machine::Test;
 use lu_refine::{
-    Campaign, CampaignFault, Roles, campaign, campaign_by_thread, campaign_slice, count_matrices,
-    same_lists,
+    Campaign, CampaignFault, Roles, campaign_by_thread, campaign_slice, count_matrices, same_lists,
 };
 use lu_survey::{CertifiedCampaign, CertifiedMatrix, Survey, certify_slice, survey_slice};
-use lu_test::{Call, Calls, Matrix, write_matrix};
+use lu_test::{Calls, Matrix, write_matrix};
 use lu_text::exactly_two;
 use std::alloc::{AllocError, Global};
 
@@ -162,38 +160,8 @@ fn show_found(alloc: Global, component: &Component, found: &Campaign) -> Result<
     }
 }
 
-/// What the campaign of so many threads over these calls finds, with this setup.
-fn try_matrices(
-    alloc: Global,
-    component: &Component,
-    setup: &Calls,
-    candidates: &[Call],
-    threads: u8,
-    options: CampaignOptions,
-) -> Result<Answer, Refusal>
-    requires setup { IsSetup setup.now }
-    requires setup_of { AreCallsOf component.now setup.now }
-    requires settles { AllEnd component.now setup.now }
-    requires of { AreCallsOf component.now candidates.now }
-    requires arguments { HaveArguments candidates.now }
-    ensures { Answered (IsTriedAll component.now setup.now candidates.now threads options) result }
-{
-    let bounds = options.bounds;
-    let found = campaign(
-        alloc,
-        component,
-        setup,
-        candidates,
-        threads,
-        options.calls,
-        bounds.bound(),
-        bounds.serial(),
-    )?;
-    Ok(show_found(alloc, component, &found)?)
-}
-
-/// What the campaign in which each thread has its own candidates finds.
-fn try_by_thread(alloc: Global, roles: Roles<'_>) -> Result<Answer, Refusal>
+/// What all matrices of the campaign show.
+fn try_all(alloc: Global, roles: Roles<'_>) -> Result<Answer, Refusal>
     requires { CanAsk (asked_of roles) }
     ensures { Answered (spec.IsCheckedWhole (asked_of roles.entry)) result }
 {
@@ -201,7 +169,7 @@ fn try_by_thread(alloc: Global, roles: Roles<'_>) -> Result<Answer, Refusal>
     Ok(show_found(alloc, roles.component, &found)?)
 }
 
-/// What the matrices of that campaign with the numbers `from` to `upto - 1` show.
+/// What the matrices of the campaign with the numbers `from` to `upto - 1` show.
 fn try_slice(alloc: Global, roles: Roles<'_>, from: u64, upto: u64) -> Result<Answer, Refusal>
     requires { CanAsk (asked_of roles) }
     ensures { Answered (spec.IsCheckedNumbers (asked_of roles.entry) from upto) result }
@@ -238,7 +206,7 @@ fn certify_numbers(alloc: Global, roles: Roles<'_>, from: u64, upto: u64) -> Res
     Ok(show_certificates(alloc, roles.component, &found)?)
 }
 
-/// How many matrices that campaign has.
+/// How many matrices the campaign has.
 pub(crate) fn count_all(alloc: Global, candidates: &[Calls], calls: u8) -> Result<Answer, Refusal>
     ensures { Answered (spec.IsCountAnswer candidates.now calls) result }
 {
@@ -252,7 +220,7 @@ fn check_part(alloc: Global, roles: Roles<'_>, part: CampaignPart) -> Result<Ans
     ensures { Answered (spec.IsCheckedPart part (asked_of roles.entry)) result }
 {
     match part {
-        CampaignPart::Whole => try_by_thread(alloc, roles),
+        CampaignPart::Whole => try_all(alloc, roles),
         CampaignPart::Slice { from, upto } => try_slice(alloc, roles, from, upto),
         CampaignPart::Count => count_all(alloc, roles.candidates, roles.calls),
     }
@@ -291,136 +259,72 @@ fn survey_part(alloc: Global, roles: Roles<'_>, part: CampaignPart) -> Result<An
     }
 }
 
-/// What is answered where each thread has its own candidates.
-fn try_lists(
-    alloc: Global,
-    component: &Component,
-    setup: &Calls,
-    candidates: &[Calls],
+/// What is asked for where each thread draws from its own list, after the setup of the test.
+pub(crate) fn roles_of<'a>(
+    test: Test<'a>,
+    lists: &'a [Calls],
     options: CampaignOptions,
-) -> Result<Answer, Refusal>
-    requires setup { IsSetup setup.now }
-    requires setup_of { AreCallsOf component.now setup.now }
-    requires settles { AllEnd component.now setup.now }
-    requires of { AllCallsOf component.now candidates.now }
-    requires arguments { AllHaveArguments candidates.now }
-    ensures { Answered
-        (spec.IsListsAnswer component.now setup.now candidates.now options) result }
+) -> Roles<'a>
+    requires of { AllCallsOf test.component.now lists.now }
+    requires arguments { AllHaveArguments lists.now }
+    ensures asked { asked_of result ≡ lists_of test.entry lists.now options }
+    ensures can_ask { CanAsk (asked_of result) }
 {
-    let roles = Roles {
-        component,
-        setup,
-        candidates,
+    Roles {
+        component: test.component,
+        setup: test.matrix.setup(),
+        candidates: lists,
         calls: options.calls,
         bound: options.bounds.bound(),
         serial: options.bounds.serial(),
-    };
-    match options.trial {
-        CampaignTrial::Checked => check_part(alloc, roles, options.part),
-        CampaignTrial::Certified => certify_part(alloc, roles, options.part),
-        CampaignTrial::Surveyed => survey_part(alloc, roles, options.part),
     }
 }
 
-/// What is answered where so many threads have the same candidates, and a part is asked for.
-fn try_part(
+/// What is answered where each thread draws from its own list.
+fn try_lists<'a>(
     alloc: Global,
-    component: &Component,
-    setup: &Calls,
-    candidates: &[Call],
-    threads: u8,
+    test: Test<'a>,
+    lists: &'a [Calls],
     options: CampaignOptions,
 ) -> Result<Answer, Refusal>
-    requires setup { IsSetup setup.now }
-    requires setup_of { AreCallsOf component.now setup.now }
-    requires settles { AllEnd component.now setup.now }
-    requires of { AreCallsOf component.now candidates.now }
-    requires arguments { HaveArguments candidates.now }
-    ensures { Answered (IsTriedPart component.now setup.now candidates.now threads options) result }
+    requires of { AllCallsOf test.component.now lists.now }
+    requires arguments { AllHaveArguments lists.now }
+    ensures { TriesLists test.entry lists.now options result }
 {
-    let lists = same_lists(alloc, candidates, threads)?;
-    try_lists(alloc, component, setup, &lists, options)
+    let (trial, part) = (options.trial, options.part);
+    let roles = roles_of(test, lists, options);
+    match trial {
+        CampaignTrial::Checked => check_part(alloc, roles, part),
+        CampaignTrial::Certified => certify_part(alloc, roles, part),
+        CampaignTrial::Surveyed => survey_part(alloc, roles, part),
+    }
 }
 
-/// What is answered where so many threads have the same candidates.
+/// What is answered where so many threads draw from the one line of the matrix.
 fn try_alike(
     alloc: Global,
-    component: &Component,
-    setup: &Calls,
-    candidates: &[Call],
+    test: Test<'_>,
     threads: u8,
     options: CampaignOptions,
 ) -> Result<Answer, Refusal>
-    requires setup { IsSetup setup.now }
-    requires setup_of { AreCallsOf component.now setup.now }
-    requires settles { AllEnd component.now setup.now }
-    requires of { AreCallsOf component.now candidates.now }
-    requires arguments { HaveArguments candidates.now }
-    ensures { Answered (IsTriedSame component.now setup.now candidates.now threads options) result }
+    ensures { TriesAlike test.entry threads options result }
 {
-    match (options.trial, options.part) {
-        (CampaignTrial::Checked, CampaignPart::Whole) => {
-            try_matrices(alloc, component, setup, candidates, threads, options)
-        }
-        _ => try_part(alloc, component, setup, candidates, threads, options),
-    }
-}
-
-/// What is answered to the calls of the matrix's one thread, with the matrix's setup.
-fn try_candidates(
-    alloc: Global,
-    component: &Component,
-    matrix: &Matrix,
-    threads: u8,
-    options: CampaignOptions,
-) -> Result<Answer, Refusal>
-    requires { CanRun component.now matrix.now }
-    ensures { Answered (spec.IsCampaignAlike component.now threads options matrix.now) result }
-{
-    match matrix.as_slice() {
+    match test.matrix.as_slice() {
         [candidates] => {
-            let setup = matrix.setup();
-            try_alike(
-                alloc,
-                component,
-                setup,
-                candidates.as_slice(),
-                threads,
-                options,
-            )
+            let lists = same_lists(alloc, candidates.as_slice(), threads)?;
+            try_lists(alloc, test, &lists, options)
         }
         _ => Err(Refusal::Campaign(CampaignFault::Candidates)),
     }
 }
 
-/// What is answered to the lines of the matrix, with its setup.
-fn try_lines(
-    alloc: Global,
-    component: &Component,
-    matrix: &Matrix,
-    options: CampaignOptions,
-) -> Result<Answer, Refusal>
-    requires { CanRun component.now matrix.now }
-    ensures { Answered (spec.IsCampaignByThreads Own component.now options matrix.now) result }
-{
-    try_lists(alloc, component, matrix.setup(), matrix.as_slice(), options)
-}
-
-/// What is answered to a matrix of the component.
-fn try_matrix(
-    alloc: Global,
-    component: &Component,
-    matrix: &Matrix,
-    options: CampaignOptions,
-) -> Result<Answer, Refusal>
-    requires { CanRun component.now matrix.now }
-    ensures { Answered (spec.IsCampaignOfMatrix component.now options matrix.now) result }
+/// What is answered to a test: its matrix lists the calls that threads draw from.
+fn try_test(alloc: Global, test: Test<'_>, options: CampaignOptions) -> Result<Answer, Refusal>
+    ensures { TriesTest test.entry options result }
 {
     match options.threads {
-        CampaignThreads::Alike(threads) => {
-            try_candidates(alloc, component, matrix, threads, options)
-        }
-        CampaignThreads::Own => try_lines(alloc, component, matrix, options),
+        CampaignThreads::Alike(threads) => try_alike(alloc, test, threads, options),
+        CampaignThreads::Own => try_lists(alloc, test, test.matrix.as_slice(), options),
     }
 }
 
@@ -435,5 +339,9 @@ pub(crate) fn answer_campaign(
 {
     let (component, matrix) = exactly_two(parts).ok_or(Refusal::Parts)?;
     let case = read_texts(alloc, component, matrix)?;
-    try_matrix(alloc, &case.component, &case.matrix, options)
+    let test = Test {
+        component: &case.component,
+        matrix: &case.matrix,
+    };
+    try_test(alloc, test, options)
 }

@@ -5,24 +5,22 @@ ghost use Rattle.lu_text.specs.Faults.{meaning_of};
 ghost use Rattle.lu_lang.specs.Grammar.{component_grammar};
 ghost use Rattle.lu_text.specs.Lines.{texts};
 ghost use Rattle.lu_text.specs.Results.{Builds};
-ghost use Rattle.lu_test.specs.Matrix.{IsOf, IsSetup};
-ghost use Rattle.lu_machine.specs.Starts.{AllEnd, CanRun};
-ghost use Rattle.lu_refine.specs.Campaigns.{AreCallsOf};
+ghost use Rattle.lu_test.specs.Matrix.{IsOf};
 ghost use Rattle.lu_refine.specs.Roles.{AllCallsOf, AllHaveArguments};
 ghost use Rattle.lu_refine.specs.ByThread.{asked_of};
 ghost use Rattle.lu_survey.specs.Comparing.{CanCompare, HasSameOperations, IsComparedOf};
 ghost use Rattle.lu_cli.specs.Refusals.{Answered};
 ghost use Rattle.lu_cli.specs.CampaignAgainst as spec;
-ghost use Rattle.lu_cli.specs.CampaignAgainst.{ComparesAlike, ComparesLists, ComparesNumbers, ComparesSettled, ComparesWith, IsTrustedRefusal, all_agree, comparison_answer, difference_answer, run_verdict};
+ghost use Rattle.lu_cli.specs.CampaignAgainst.{ComparesAlike, ComparesLists, ComparesNumbers, ComparesSettled, ComparesTest, ComparesWith, IsTrustedFor, IsTrustedRefusal, all_agree, comparison_answer, difference_answer, run_verdict};
 
 use crate::answer::{Answer, show_schedule, verdict, write_both};
-use crate::campaign::count_all;
+use crate::campaign::{count_all, roles_of};
 use crate::refusal::Refusal;
 use crate::request::{CampaignOptions, CampaignPart, CampaignThreads};
 use crate::texts::{Fault, read_texts};
 use lu_component::Component;
 use lu_lang::read_component;
-use lu_machine::settles;
+use lu_machine::{Test, settles};
 use lu_refine::{CampaignFault, Roles, same_lists};
 use lu_survey::{Comparison, Difference, compare_slice, have_same_operations};
 use lu_test::{Calls, Matrix, Schedule};
@@ -142,79 +140,58 @@ fn compare_part(
     }
 }
 
-/// What is answered against a trusted component, where each thread has its own candidates.
-fn compare_lists(
+/// What is answered against a trusted component, where each thread draws from its own list.
+fn compare_lists<'a>(
     alloc: Global,
-    component: &Component,
+    test: Test<'a>,
     trusted: &Component,
-    setup: &Calls,
-    candidates: &[Calls],
+    lists: &'a [Calls],
     options: CampaignOptions,
 ) -> Result<Answer, Refusal>
-    requires setup { IsSetup setup.now }
-    requires setup_of { AreCallsOf component.now setup.now }
-    requires settles { AllEnd component.now setup.now }
-    requires trusted_settles { AllEnd trusted.now setup.now }
-    requires operations { HasSameOperations component.now trusted.now }
-    requires of { AllCallsOf component.now candidates.now }
-    requires arguments { AllHaveArguments candidates.now }
-    ensures { ComparesLists trusted.now component.now setup.now candidates.now options result }
+    requires trusted { IsTrustedFor test trusted.now }
+    requires of { AllCallsOf test.component.now lists.now }
+    requires arguments { AllHaveArguments lists.now }
+    ensures { ComparesLists trusted.now test.entry lists.now options result }
 {
-    let roles = Roles {
-        component,
-        setup,
-        candidates,
-        calls: options.calls,
-        bound: options.bounds.bound(),
-        serial: options.bounds.serial(),
-    };
-    compare_part(alloc, roles, trusted, options.part)
+    let part = options.part;
+    compare_part(alloc, roles_of(test, lists, options), trusted, part)
 }
 
-/// What is answered against a trusted component, where so many threads have the same candidates.
+/// What is answered against a trusted component, where so many threads draw from the one line of
+/// the matrix.
 fn compare_alike(
     alloc: Global,
-    component: &Component,
+    test: Test<'_>,
     trusted: &Component,
-    matrix: &Matrix,
     threads: u8,
     options: CampaignOptions,
 ) -> Result<Answer, Refusal>
-    requires runs { CanRun component.now matrix.now }
-    requires trusted_runs { CanRun trusted.now matrix.now }
-    requires operations { HasSameOperations component.now trusted.now }
-    ensures { ComparesAlike trusted.now component.now threads options matrix.now result }
+    requires { IsTrustedFor test trusted.now }
+    ensures { ComparesAlike trusted.now test.entry threads options result }
 {
-    match matrix.as_slice() {
+    match test.matrix.as_slice() {
         [candidates] => {
             let lists = same_lists(alloc, candidates.as_slice(), threads)?;
-            compare_lists(alloc, component, trusted, matrix.setup(), &lists, options)
+            compare_lists(alloc, test, trusted, &lists, options)
         }
         _ => Err(Refusal::Campaign(CampaignFault::Candidates)),
     }
 }
 
-/// What is answered to a matrix of the component and of the trusted one.
-fn compare_matrix(
+/// What is answered to a test against a trusted component.
+fn compare_test(
     alloc: Global,
-    component: &Component,
+    test: Test<'_>,
     trusted: &Component,
-    matrix: &Matrix,
     options: CampaignOptions,
 ) -> Result<Answer, Refusal>
-    requires runs { CanRun component.now matrix.now }
-    requires trusted_runs { CanRun trusted.now matrix.now }
-    requires operations { HasSameOperations component.now trusted.now }
-    ensures { Answered
-        (spec.IsComparedMatrix trusted.now component.now options matrix.now) result }
+    requires { IsTrustedFor test trusted.now }
+    ensures { ComparesTest trusted.now test.entry options result }
 {
     match options.threads {
-        CampaignThreads::Alike(threads) => {
-            compare_alike(alloc, component, trusted, matrix, threads, options)
-        }
+        CampaignThreads::Alike(threads) => compare_alike(alloc, test, trusted, threads, options),
         CampaignThreads::Own => {
-            let (setup, lists) = (matrix.setup(), matrix.as_slice());
-            compare_lists(alloc, component, trusted, setup, lists, options)
+            compare_lists(alloc, test, trusted, test.matrix.as_slice(), options)
         }
     }
 }
@@ -223,18 +200,16 @@ fn compare_matrix(
 /// to settle with it too.
 fn compare_settled(
     alloc: Global,
-    component: &Component,
+    test: Test<'_>,
     trusted: &Component,
-    matrix: &Matrix,
     options: CampaignOptions,
 ) -> Result<Answer, Refusal>
-    requires runs { CanRun component.now matrix.now }
-    requires operations { HasSameOperations component.now trusted.now }
-    ensures { ComparesSettled trusted.now component.now options matrix.now result }
+    requires { HasSameOperations test.component.now trusted.now }
+    ensures { ComparesSettled trusted.now test.entry options result }
 {
-    match settles(alloc, trusted, matrix)? {
+    match settles(alloc, trusted, test.matrix)? {
         Some(call) => Err(Refusal::Texts(Fault::Setup(call))),
-        None => compare_matrix(alloc, component, trusted, matrix, options),
+        None => compare_test(alloc, test, trusted, options),
     }
 }
 
@@ -249,22 +224,20 @@ fn read_trusted(alloc: Global, text: &[u8]) -> Result<Component, Refusal>
     }
 }
 
-/// What is answered to the text of a trusted component.
+/// What is answered to a test and the text of a trusted component.
 fn compare_with(
     alloc: Global,
-    component: &Component,
-    matrix: &Matrix,
+    test: Test<'_>,
     options: CampaignOptions,
     trusted: &[u8],
 ) -> Result<Answer, Refusal>
-    requires { CanRun component.now matrix.now }
-    ensures { ComparesWith trusted.now component.now options matrix.now result }
+    ensures { ComparesWith trusted.now test.entry options result }
 {
     let trusted = read_trusted(alloc, trusted)?;
-    if !have_same_operations(component, &trusted) {
+    if !have_same_operations(test.component, &trusted) {
         return Err(Refusal::Operations);
     }
-    compare_settled(alloc, component, &trusted, matrix, options)
+    compare_settled(alloc, test, &trusted, options)
 }
 
 /// `lineup campaign --spec`: component, matrix, and a component that is trusted.
@@ -277,5 +250,9 @@ pub(crate) fn answer_campaign_against(
 {
     let (component, matrix, trusted) = exactly_three(parts).ok_or(Refusal::Parts)?;
     let case = read_texts(alloc, component, matrix)?;
-    compare_with(alloc, &case.component, &case.matrix, options, trusted)
+    let test = Test {
+        component: &case.component,
+        matrix: &case.matrix,
+    };
+    compare_with(alloc, test, options, trusted)
 }

@@ -1,20 +1,21 @@
 //! Whether a component is linearizable on a matrix.
 
-ghost use Rattle.std.specs.Prelude.{◌≡◌, ◌≤◌, IfOk};
+ghost use Rattle.std.specs.Prelude.{◌≡◌, ◌≤◌};
 ghost use Rattle.lu_text.specs.Lines.{texts};
-ghost use Rattle.lu_machine.specs.Starts.{CanRun};
+ghost use Rattle.lu_component.specs.declared.component.TheConstants.{MOST_LOCAL};
 ghost use Rattle.lu_cli.specs.Refusals.{Answered};
 ghost use Rattle.lu_cli.specs.Certify as spec;
+ghost use Rattle.lu_cli.specs.Certify.{Certifies, CertifiesAlone};
 
 use crate::answer::{Answer, show_certificate};
 use crate::refusal::Refusal;
 use crate::request::CertifyOptions;
 use crate::texts::read_texts;
 use lu_certify::{Limits, Progress};
-use lu_component::Component;
+use lu_component::{Component, MOST_LOCAL};
 use lu_grain::{certify_longer, certify_longer_with_progress};
+use lu_machine::Test;
 use lu_parallel::OpenGate;
-use lu_test::Matrix;
 use lu_text::exactly_two;
 use std::alloc::{AllocError, Global};
 use std::sync::Wait;
@@ -24,36 +25,34 @@ use std::thread::Threads;
 fn certified_local(asked: CertifyOptions, component: &Component) -> u8
     ensures local { result ≡ spec.certified_local asked component.now }
     ensures longer { component.now.local ≤ result }
-    ensures few { result ≤ 16 }
+    ensures few { result ≤ MOST_LOCAL }
 {
-    (asked.local.min(16) as u8).max(component.local())
+    (asked.local.min(MOST_LOCAL as u16) as u8).max(component.local())
 }
 
 /// What the checks of all cuts of the matrix say.
 fn certify_matrix<X: AllocGlobal + Threads + Wait, P: Progress>(
     rt: &X,
     progress: &P,
-    component: &Component,
-    matrix: &Matrix,
+    test: Test<'_>,
     asked: CertifyOptions,
 ) -> Result<Answer, Refusal>
-    requires { CanRun component.now matrix.now }
-    ensures { Answered (spec.IsCertified component.now matrix.now asked) result }
+    ensures { Certifies test.entry asked result }
 {
-    let local = certified_local(asked, component);
+    let local = certified_local(asked, test.component);
     let (alloc, options) = (rt.alloc(), asked.options);
     let certificate = certify_longer_with_progress(
         rt,
         alloc,
         &OpenGate,
         progress,
-        component,
-        matrix,
+        test.component,
+        test.matrix,
         local,
         options,
         asked.nodes,
     )?;
-    Ok(show_certificate(alloc, component, &certificate)?)
+    Ok(show_certificate(alloc, test.component, &certificate)?)
 }
 
 /// `lineup certify`: component and matrix. It tells meanwhile how far it has come.
@@ -67,24 +66,26 @@ pub(crate) fn answer_certify<X: AllocGlobal + Threads + Wait, P: Progress>(
 {
     let (component, matrix) = exactly_two(parts).ok_or(Refusal::Parts)?;
     let case = read_texts(rt.alloc(), component, matrix)?;
-    certify_matrix(rt, progress, &case.component, &case.matrix, asked)
+    let test = Test {
+        component: &case.component,
+        matrix: &case.matrix,
+    };
+    certify_matrix(rt, progress, test, asked)
 }
 
 /// What the checks of all cuts of the matrix say, made on the calling thread.
 fn certify_matrix_alone(
     alloc: Global,
-    component: &Component,
-    matrix: &Matrix,
+    test: Test<'_>,
     asked: CertifyOptions,
 ) -> Result<Answer, AllocError>
-    requires { CanRun component.now matrix.now }
-    ensures { IfOk result (spec.IsCertified component.now matrix.now asked) }
+    ensures { CertifiesAlone test.entry asked result }
 {
     let (options, nodes) = (asked.options, asked.nodes);
-    let local = certified_local(asked, component);
+    let local = certified_local(asked, test.component);
     let limits = Limits::of(options, nodes);
-    let certificate = certify_longer(alloc, component, matrix, local, limits)?;
-    show_certificate(alloc, component, &certificate)
+    let certificate = certify_longer(alloc, test.component, test.matrix, local, limits)?;
+    show_certificate(alloc, test.component, &certificate)
 }
 
 /// `lineup certify` on the calling thread: component and matrix.
@@ -97,5 +98,9 @@ pub(crate) fn answer_certify_alone(
 {
     let (component, matrix) = exactly_two(parts).ok_or(Refusal::Parts)?;
     let case = read_texts(alloc, component, matrix)?;
-    Ok(certify_matrix_alone(alloc, &case.component, &case.matrix, asked)?)
+    let test = Test {
+        component: &case.component,
+        matrix: &case.matrix,
+    };
+    Ok(certify_matrix_alone(alloc, test, asked)?)
 }

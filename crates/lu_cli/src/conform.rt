@@ -2,9 +2,8 @@
 
 ghost use Rattle.std.specs.Prelude.{◌≡◌, IfOk, string_bytes};
 ghost use Rattle.lu_text.specs.Lines.{texts};
-ghost use Rattle.lu_machine.specs.Starts.{CanRun};
 ghost use Rattle.lu_cli.specs.Conform as spec;
-ghost use Rattle.lu_cli.specs.Conform.{ConformsTexts, IsAnswerToConform, IsConformed, TellsConformance};
+ghost use Rattle.lu_cli.specs.Conform.{ConformsTexts, IsAnswerToConform, SaysConformed, TellsConformance};
 ghost use Rattle.lu_cli.specs.Refusals.{Answered};
 
 use crate::answer::Answer;
@@ -12,10 +11,10 @@ use crate::judge::three_parts;
 use crate::refusal::Refusal;
 use crate::request::Showing;
 use crate::texts::read_texts;
-use lu_component::Component;
 use lu_conform::{Conformance, conformance};
+use lu_machine::Test;
 use lu_recorded::{Recorded, read_all, write_recorded};
-use lu_test::{Matrix, Schedule, write_schedule};
+use lu_test::{Schedule, write_schedule};
 use std::alloc::{AllocError, Global};
 
 /// Schedules, each as a part of its own.
@@ -84,31 +83,27 @@ fn show_conformance(
 /// Whether some schedule of the component shows these histories.
 fn conform(
     alloc: Global,
-    component: &Component,
-    matrix: &Matrix,
+    test: Test<'_>,
     showing: Showing,
     all: &[Recorded],
 ) -> Result<Answer, AllocError>
-    requires { CanRun component.now matrix.now }
-    ensures { IfOk result (IsConformed component.now matrix.now showing all.now) }
+    ensures { SaysConformed test.entry showing all.now result }
 {
-    let found = conformance(alloc, component, matrix, all)?;
+    let found = conformance(alloc, test.component, test.matrix, all)?;
     show_conformance(alloc, showing, all, &found)
 }
 
 /// The same of the texts of histories.
 fn conform_texts(
     alloc: Global,
-    component: &Component,
-    matrix: &Matrix,
+    test: Test<'_>,
     showing: Showing,
     histories: &[&[u8]],
 ) -> Result<Answer, Refusal>
-    requires { CanRun component.now matrix.now }
-    ensures { ConformsTexts component.now matrix.now showing (texts histories.now) result }
+    ensures { ConformsTexts test.entry showing (texts histories.now) result }
 {
-    let all = read_all(alloc, matrix, histories)?;
-    Ok(conform(alloc, component, matrix, showing, &all)?)
+    let all = read_all(alloc, test.matrix, histories)?;
+    Ok(conform(alloc, test, showing, &all)?)
 }
 
 /// `lineup conform`: component, matrix, and recorded histories.
@@ -121,5 +116,9 @@ pub(crate) fn answer_conform(
 {
     let (component, matrix, histories) = three_parts(parts).ok_or(Refusal::Parts)?;
     let case = read_texts(alloc, component, matrix)?;
-    conform_texts(alloc, &case.component, &case.matrix, showing, histories)
+    let test = Test {
+        component: &case.component,
+        matrix: &case.matrix,
+    };
+    conform_texts(alloc, test, showing, histories)
 }

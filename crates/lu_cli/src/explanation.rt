@@ -1,23 +1,24 @@
 //! Why the history of a schedule has no serial witness.
 
 ghost use Rattle.std.specs.Prelude.{◌<◌, ◌≡◌, IfOk};
-ghost use Rattle.lu_report.specs.Parts.{IsOfOffence};
+ghost use Rattle.lu_report.specs.Limits.{IsSerialBound};
 ghost use Rattle.lu_test.specs.ScheduleText.{schedule_text};
+ghost use Rattle.lu_test.specs.declared.matrix.TheConstants.{MOST_THREADS};
 ghost use Rattle.lu_cli.specs.Failing.{ExplainsFindingSerially};
 ghost use Rattle.lu_cli.specs.Explanation as spec;
-ghost use Rattle.lu_cli.specs.Explanation.{ExplainsFinding, ExplainsRun, ExplainsSchedule, ExplainsSerially, ExplainsTarget, IsLeastPending, IsPlayed, IsShownExplanation, IsShownThread, PicturesRun, Presents};
+ghost use Rattle.lu_cli.specs.Explanation.{ExplainsFinding, ExplainsRun, ExplainsSchedule, ExplainsSerially, ExplainsTarget, IsLeastPending, IsPlayed, IsShownExplanation, IsShownThread, LearnsOrSays, PicturesRun, Presents};
 
 use crate::answer::{Answer, infeasible};
 use crate::pictures::draw;
 use lu_explain::{Explanation, event_moves, explain as explain_history, write_explanations};
 use lu_history::{History, HistoryFault};
 use lu_machine::{Status, Test};
-use lu_replay::{Replay, ReplayFault, replay, set_or_offence};
+use lu_replay::{Replay, ReplayFault, replay};
 use lu_report::{Bounds, Finding, MOST_MOVES, Report};
-use lu_serial::learn;
+use lu_serial::{Learnt, learn};
 use lu_test::{Schedule, write_schedule};
 use lu_trace::Wording;
-use lu_trie::SerialTree;
+use lu_trie::{SerialTree, Trie};
 use lu_witness::{Verdict, verdict};
 use std::alloc::{AllocError, Global};
 
@@ -106,7 +107,7 @@ fn explain_by<T: SerialTree>(
 /// The least thread with a pending call, or 0 where there is none.
 fn least_pending(history: &History) -> u8
     ensures least { IsLeastPending history.now result }
-    ensures few { result < 8 }
+    ensures few { result < MOST_THREADS }
 {
     for t in 0..8 {
         if history.pending(t) {
@@ -147,10 +148,9 @@ fn picture_by<T: SerialTree>(
 ) -> Result<Answer, AllocError>
     ensures { PicturesRun how.entry T.members tree.now test.entry run.entry result }
 {
-    let Test { component, matrix } = test;
     let ShownSchedule { schedule, shown } = run;
     let explanation = explanation_shown(tree, &shown.history)?;
-    draw(alloc, how, component, matrix, schedule, Some(&explanation))
+    draw(alloc, how, test, schedule, Some(&explanation))
 }
 
 /// The history of an ended schedule, explained in words or in a picture.
@@ -167,19 +167,6 @@ fn present<T: SerialTree>(
     match by.by {
         Presentation::Words => explain_by(alloc, test, tree, run),
         Presentation::Picture => picture_by(alloc, by.how, test, tree, run),
-    }
-}
-
-/// What a report finds that is no failure.
-fn tell_offence(alloc: Global, finding: &Finding) -> Result<Answer, AllocError>
-    requires { IsOfOffence finding.now }
-    ensures { IfOk result (spec.ToFinding (λ _u _a. ⊥) finding.now) }
-{
-    match finding {
-        Finding::SerialCut(schedule) => say_with(alloc, "serial-cut", schedule),
-        Finding::Nondeterministic { schedule, .. } => say_with(alloc, "nondeterministic", schedule),
-        Finding::Fail { .. } => unreachable!(),
-        Finding::Pass(_) => unreachable!(),
     }
 }
 
@@ -240,6 +227,24 @@ pub(crate) fn explain<T: SerialTree>(
     }
 }
 
+/// The serial histories of a test; or, where one of its serial runs offends, what is said of that.
+fn learn_or_say(
+    alloc: Global,
+    test: Test<'_>,
+    serial: u16,
+) -> Result<Result<Trie<Global>, Answer>, AllocError>
+    requires { IsSerialBound serial }
+    ensures { LearnsOrSays test.entry serial result }
+{
+    match learn(alloc, alloc, test.component, test.matrix, serial)? {
+        Learnt::Set(set) => Ok(Ok(set)),
+        Learnt::Cut(schedule) => Ok(Err(say_with(alloc, "serial-cut", &schedule)?)),
+        Learnt::Conflict { schedule, .. } => {
+            Ok(Err(say_with(alloc, "nondeterministic", &schedule)?))
+        }
+    }
+}
+
 /// The schedule of a finding, explained by the serial runs within the bounds of a certificate, or
 /// that one of these offends.
 pub(crate) fn explain_finding_serially(
@@ -250,9 +255,9 @@ pub(crate) fn explain_finding_serially(
 ) -> Result<Answer, AllocError>
     ensures { ExplainsFindingSerially by.entry test.entry finding.now result }
 {
-    match set_or_offence(learn(alloc, alloc, test.component, test.matrix, MOST_MOVES)?) {
+    match learn_or_say(alloc, test, MOST_MOVES)? {
         Ok(set) => explain_finding(alloc, test, &&set, finding, by),
-        Err(offence) => tell_offence(alloc, &offence),
+        Err(answer) => Ok(answer),
     }
 }
 
@@ -266,8 +271,8 @@ pub(crate) fn explain_serially(
 ) -> Result<Answer, AllocError>
     ensures { ExplainsSerially by.entry bounds test.entry target.now result }
 {
-    match set_or_offence(learn(alloc, alloc, test.component, test.matrix, bounds.serial())?) {
+    match learn_or_say(alloc, test, bounds.serial())? {
         Ok(set) => explain(alloc, test, &&set, target, by),
-        Err(offence) => tell_offence(alloc, &offence),
+        Err(answer) => Ok(answer),
     }
 }

@@ -2,12 +2,11 @@
 
 ghost use Rattle.std.specs.Prelude.{◌≡◌, IfOk, string_bytes};
 ghost use Rattle.std.specs.Option.{option_map};
-ghost use Rattle.lu_machine.specs.Starts.{CanRun};
 ghost use Rattle.lu_report.specs.Parts.{shown_schedule};
 ghost use Rattle.lu_cli.specs.Refusals.{Answered};
 ghost use Rattle.lu_cli.specs.Failing as spec;
 ghost use Rattle.lu_certify.specs.Certificates.{NamesCutOf};
-ghost use Rattle.lu_cli.specs.Failing.{CanRunCut, ShowsFailure, ShowsRunBelow};
+ghost use Rattle.lu_cli.specs.Failing.{CanRunCut, ShowsAlone, ShowsFailure, ShowsRunBelow};
 ghost use Rattle.lu_cli.specs.Reading.{ToTold};
 
 use crate::answer::{Answer, show_certificate, show_schedule, write_both};
@@ -21,7 +20,7 @@ use lu_certify::{Certificate, DEFAULT_NODES, Limits, certify};
 use lu_component::Component;
 use lu_machine::Test;
 use lu_report::{Finding, MOST_MOVES, Report};
-use lu_test::{Matrix, Schedule};
+use lu_test::Schedule;
 use lu_trace::Wording;
 use std::alloc::{AllocError, Global};
 
@@ -83,26 +82,24 @@ fn below(mut text: String, more: &Answer) -> Result<String, AllocError>
 fn show_run(
     alloc: Global,
     how: Wording<'_>,
-    component: &Component,
-    cut: &Matrix,
+    test: Test<'_>,
     schedule: &Schedule,
     text: String,
     view: View,
 ) -> Result<Answer, AllocError>
-    requires { CanRun component.now cut.now }
-    ensures { ShowsRunBelow view how.entry component.now cut.now schedule.now text result }
+    ensures { ShowsRunBelow view how.entry test.entry schedule.now text result }
 {
     match view {
         View::Explanation => {
-            let steps = trace(alloc, TraceStart::FirstMove, how, component, cut, schedule)?;
+            let steps = trace(alloc, TraceStart::FirstMove, how, test, schedule)?;
             Ok(failure(below(text, &steps)?))
         }
         View::Trace(start) => {
-            let steps = trace(alloc, start, how, component, cut, schedule)?;
+            let steps = trace(alloc, start, how, test, schedule)?;
             Ok(failure(below(text, &steps)?))
         }
         View::Picture | View::ExplainedPicture => {
-            let picture = draw(alloc, how, component, cut, schedule, None)?;
+            let picture = draw(alloc, how, test, schedule, None)?;
             Ok(failure(picture.text))
         }
     }
@@ -124,37 +121,23 @@ fn schedule_of(finding: &Finding) -> Option<&Schedule>
 fn show_failing(
     alloc: Global,
     how: Wording<'_>,
-    component: &Component,
-    cut: &Matrix,
+    test: Test<'_>,
     report: &Report,
     schedule: &Schedule,
     view: View,
 ) -> Result<Answer, AllocError>
-    requires { CanRun component.now cut.now }
-    ensures { ShowsFailure view how.entry component.now cut.now report.now schedule.now result }
+    ensures { ShowsFailure view how.entry test.entry report.now schedule.now result }
 {
     let finding = report.finding();
-    let test = Test {
-        component,
-        matrix: cut,
-    };
     match view {
         View::Explanation => {
-            let text = write_both(alloc, component, cut, report)?;
+            let text = write_both(alloc, test.component, test.matrix, report)?;
             let by = Presenting {
                 by: Presentation::Words,
                 how,
             };
             let why = explain_finding_serially(alloc, test, finding, by)?;
-            show_run(
-                alloc,
-                how,
-                component,
-                cut,
-                schedule,
-                below(text, &why)?,
-                view,
-            )
+            show_run(alloc, how, test, schedule, below(text, &why)?, view)
         }
         View::ExplainedPicture => {
             let by = Presenting {
@@ -165,8 +148,8 @@ fn show_failing(
             Ok(failure(picture.text))
         }
         View::Trace(_) | View::Picture => {
-            let text = write_both(alloc, component, cut, report)?;
-            show_run(alloc, how, component, cut, schedule, text, view)
+            let text = write_both(alloc, test.component, test.matrix, report)?;
+            show_run(alloc, how, test, schedule, text, view)
         }
     }
 }
@@ -187,11 +170,15 @@ fn show_by_view(
         Certificate::Linearizable(_) => show_certificate(alloc, component, certificate),
         Certificate::NotLinearizable { matrix, report } => match schedule_of(report.finding()) {
             None => show_certificate(alloc, component, certificate),
-            Some(schedule) => show_failing(alloc, how, component, matrix, report, schedule, view),
+            Some(schedule) => {
+                let test = Test { component, matrix };
+                show_failing(alloc, how, test, report, schedule, view)
+            }
         },
         Certificate::Livelock { matrix, schedule } => {
             let shown = show_schedule(alloc, component, matrix, schedule)?;
-            show_run(alloc, how, component, matrix, schedule, shown.text, view)
+            let test = Test { component, matrix };
+            show_run(alloc, how, test, schedule, shown.text, view)
         }
         Certificate::Undecided { .. } => show_certificate(alloc, component, certificate),
     }
@@ -201,20 +188,18 @@ fn show_by_view(
 fn show_alone(
     alloc: Global,
     how: Wording<'_>,
-    component: &Component,
-    matrix: &Matrix,
+    test: Test<'_>,
     view: View,
 ) -> Result<Answer, AllocError>
-    requires { CanRun component.now matrix.now }
-    ensures { IfOk result (spec.IsShownAlone view how.entry component.now matrix.now) }
+    ensures { ShowsAlone view how.entry test.entry result }
 {
     let limits = Limits {
         bound: MOST_MOVES,
         serial: MOST_MOVES,
         nodes: DEFAULT_NODES,
     };
-    let certificate = certify(alloc, component, matrix, limits)?;
-    show_by_view(alloc, how, component, &certificate, view)
+    let certificate = certify(alloc, test.component, test.matrix, limits)?;
+    show_by_view(alloc, how, test.component, &certificate, view)
 }
 
 /// `lineup explain`, `trace` and `draw` of component and matrix alone.
@@ -227,5 +212,9 @@ pub(crate) fn answer_failing(
     ensures { Answered (ToTold component.now matrix.now (spec.IsShownAlone view)) result }
 {
     let told = read_told(alloc, component, matrix)?;
-    Ok(show_alone(alloc, told.wording(), &told.component, &told.matrix, view)?)
+    let test = Test {
+        component: &told.component,
+        matrix: &told.matrix,
+    };
+    Ok(show_alone(alloc, told.wording(), test, view)?)
 }

@@ -2,22 +2,20 @@
 
 ghost use Rattle.std.specs.Prelude.{◌≡◌, IfOk};
 ghost use Rattle.lu_text.specs.Lines.{texts};
-ghost use Rattle.lu_machine.specs.Starts.{CanRun};
 ghost use Rattle.lu_cli.specs.Judge as spec;
-ghost use Rattle.lu_cli.specs.Judge.{IsAnswerToJudgeAgainst, IsAnswerToJudge, IsJudgedSerially, JudgesBy, JudgesTexts, JudgesTextsAgainst, ShowsFirst, four_parts, seen_as_four, seen_as_three, three_parts};
+ghost use Rattle.lu_cli.specs.Judge.{IsAnswerToJudgeAgainst, IsAnswerToJudge, JudgesBy, JudgesSerially, JudgesTexts, JudgesTextsAgainst, ShowsFirst, four_parts, seen_as_four, seen_as_three, three_parts};
 ghost use Rattle.lu_cli.specs.Refusals.{Answered};
 
 use crate::answer::Answer;
 use crate::refusal::Refusal;
 use crate::serial::show_offence;
 use crate::texts::read_texts;
-use lu_component::Component;
+use lu_machine::Test;
 use lu_recorded::{Recorded, first_unwitnessed, read_all, write_reason_of, write_recorded};
 use lu_replay::set_or_offence;
 use lu_report::Bounds;
 use lu_serial::learn;
 use lu_spec::{Spec, read_given_spec};
-use lu_test::Matrix;
 use lu_trie::SerialTree;
 use std::alloc::{AllocError, Global};
 
@@ -50,32 +48,30 @@ fn unwitnessed(
 /// The first history that has not its witnesses, which has this number.
 fn show_first<T: SerialTree>(
     alloc: Global,
-    component: &Component,
-    matrix: &Matrix,
+    test: Test<'_>,
     tree: &T,
     number: usize,
     recorded: &Recorded,
 ) -> Result<Answer, AllocError>
-    ensures { ShowsFirst (T.members tree.now) component.now matrix.now number recorded.now result }
+    ensures { ShowsFirst (T.members tree.now) test.entry number recorded.now result }
 {
     let text = write_recorded(alloc, recorded)?;
-    let reason = write_reason_of(alloc, component, matrix, tree, recorded)?;
+    let reason = write_reason_of(alloc, test.component, test.matrix, tree, recorded)?;
     unwitnessed(alloc, number, text.as_str(), reason.as_str())
 }
 
 /// Recorded histories, judged by the serial histories of a tree.
 fn judge_by<T: SerialTree>(
     alloc: Global,
-    component: &Component,
-    matrix: &Matrix,
+    test: Test<'_>,
     tree: &T,
     all: &[Recorded],
 ) -> Result<Answer, AllocError>
-    ensures { JudgesBy (T.members tree.now) component.now matrix.now all.now result }
+    ensures { JudgesBy (T.members tree.now) test.entry all.now result }
 {
     match first_unwitnessed(tree, all) {
         None => all_witnessed(alloc, all.len()),
-        Some(number) => show_first(alloc, component, matrix, tree, number, &all[number]),
+        Some(number) => show_first(alloc, test, tree, number, &all[number]),
     }
 }
 
@@ -83,21 +79,19 @@ fn judge_by<T: SerialTree>(
 /// serial offence.
 fn judge_serially(
     alloc: Global,
-    component: &Component,
-    matrix: &Matrix,
+    test: Test<'_>,
     bounds: Bounds,
     all: &[Recorded],
 ) -> Result<Answer, AllocError>
-    requires { CanRun component.now matrix.now }
-    ensures { IfOk result (IsJudgedSerially component.now matrix.now bounds all.now) }
+    ensures { JudgesSerially test.entry bounds all.now result }
 {
-    let learnt = learn(alloc, alloc, component, matrix, bounds.serial())?;
+    let learnt = learn(alloc, alloc, test.component, test.matrix, bounds.serial())?;
     match set_or_offence(learnt) {
         Ok(set) => {
-            let specification = Spec::closure(alloc, matrix, &set)?;
-            judge_by(alloc, component, matrix, &specification.tree(), all)
+            let specification = Spec::closure(alloc, test.matrix, &set)?;
+            judge_by(alloc, test, &specification.tree(), all)
         }
-        Err(finding) => show_offence(alloc, component, matrix, bounds, finding),
+        Err(finding) => show_offence(alloc, test, bounds, finding),
     }
 }
 
@@ -117,16 +111,14 @@ pub(crate) fn three_parts<'a, 'b>(
 /// The texts of recorded histories, judged by the serial runs.
 fn judge_texts(
     alloc: Global,
-    component: &Component,
-    matrix: &Matrix,
+    test: Test<'_>,
     bounds: Bounds,
     histories: &[&[u8]],
 ) -> Result<Answer, Refusal>
-    requires { CanRun component.now matrix.now }
-    ensures { JudgesTexts component.now matrix.now bounds (texts histories.now) result }
+    ensures { JudgesTexts test.entry bounds (texts histories.now) result }
 {
-    let all = read_all(alloc, matrix, histories)?;
-    Ok(judge_serially(alloc, component, matrix, bounds, &all)?)
+    let all = read_all(alloc, test.matrix, histories)?;
+    Ok(judge_serially(alloc, test, bounds, &all)?)
 }
 
 /// `lineup judge`: component, matrix, and recorded histories.
@@ -139,23 +131,25 @@ pub(crate) fn answer_judge(
 {
     let (component, matrix, histories) = three_parts(parts).ok_or(Refusal::Parts)?;
     let case = read_texts(alloc, component, matrix)?;
-    judge_texts(alloc, &case.component, &case.matrix, bounds, histories)
+    let test = Test {
+        component: &case.component,
+        matrix: &case.matrix,
+    };
+    judge_texts(alloc, test, bounds, histories)
 }
 
 /// A text of a specification and texts of recorded histories, which are judged by it.
 fn judge_texts_against(
     alloc: Global,
-    component: &Component,
-    matrix: &Matrix,
+    test: Test<'_>,
     spec: &[u8],
     histories: &[&[u8]],
 ) -> Result<Answer, Refusal>
-    requires { CanRun component.now matrix.now }
-    ensures { JudgesTextsAgainst component.now matrix.now spec.now (texts histories.now) result }
+    ensures { JudgesTextsAgainst test.entry spec.now (texts histories.now) result }
 {
-    let specification = read_given_spec(alloc, matrix, spec)?;
-    let all = read_all(alloc, matrix, histories)?;
-    Ok(judge_by(alloc, component, matrix, &specification.tree(), &all)?)
+    let specification = read_given_spec(alloc, test.matrix, spec)?;
+    let all = read_all(alloc, test.matrix, histories)?;
+    Ok(judge_by(alloc, test, &specification.tree(), &all)?)
 }
 
 /// The first three parts, and those after them, where there are some.
@@ -177,5 +171,9 @@ pub(crate) fn answer_judge_against(alloc: Global, parts: &[&[u8]]) -> Result<Ans
 {
     let (component, matrix, spec, histories) = four_parts(parts).ok_or(Refusal::Parts)?;
     let case = read_texts(alloc, component, matrix)?;
-    judge_texts_against(alloc, &case.component, &case.matrix, spec, histories)
+    let test = Test {
+        component: &case.component,
+        matrix: &case.matrix,
+    };
+    judge_texts_against(alloc, test, spec, histories)
 }

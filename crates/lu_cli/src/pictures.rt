@@ -1,15 +1,13 @@
 //! Pictures of schedules.
 
-ghost use Rattle.std.specs.Prelude.{IfErr, IfOk};
-ghost use Rattle.lu_machine.specs.Starts.{CanRun};
-ghost use Rattle.lu_trace.specs.Traces.{IsTraceFault};
-ghost use Rattle.lu_cli.specs.Pictures.{IsDrawnLent, Pictures};
+ghost use Rattle.lu_cli.specs.Pictures.{Draws, Pictures};
+ghost use Rattle.lu_cli.specs.Trace.{RefusesTrace};
 
 use crate::answer::{Answer, infeasible};
-use lu_component::Component;
 use lu_explain::Explanation;
+use lu_machine::Test;
 use lu_picture::write_worded_picture;
-use lu_test::{Matrix, Schedule};
+use lu_test::Schedule;
 use lu_trace::{TraceFault, Wording};
 use std::alloc::{AllocError, Global};
 
@@ -17,31 +15,27 @@ use std::alloc::{AllocError, Global};
 fn picture(
     alloc: Global,
     how: Wording<'_>,
-    component: &Component,
-    matrix: &Matrix,
+    test: Test<'_>,
     schedule: &Schedule,
     why: Option<&Explanation>,
 ) -> Result<String, TraceFault>
-    requires { CanRun component.now matrix.now }
-    ensures picture { Pictures how.entry why.entry component.now matrix.now schedule.now result }
-    ensures fault { IfErr result (IsTraceFault component.now matrix.now schedule.now) }
+    ensures picture { Pictures how.entry why.entry test.entry schedule.now result }
+    ensures fault { RefusesTrace test.entry schedule.now result }
 {
-    write_worded_picture(alloc, &how, component, matrix, schedule, why)
+    write_worded_picture(alloc, &how, test.component, test.matrix, schedule, why)
 }
 
 /// The picture of a schedule, with this explanation or none, or where the schedule is infeasible.
 pub(crate) fn draw(
     alloc: Global,
     how: Wording<'_>,
-    component: &Component,
-    matrix: &Matrix,
+    test: Test<'_>,
     schedule: &Schedule,
     why: Option<&Explanation>,
 ) -> Result<Answer, AllocError>
-    requires { CanRun component.now matrix.now }
-    ensures { IfOk result (IsDrawnLent how.entry why.entry component.now matrix.now schedule.now) }
+    ensures { Draws how.entry why.entry test.entry schedule.now result }
 {
-    match picture(alloc, how, component, matrix, schedule, why) {
+    match picture(alloc, how, test, schedule, why) {
         Ok(text) => Ok(Answer { text, status: 0 }),
         Err(TraceFault::Infeasible(index)) => infeasible(alloc, index),
         Err(TraceFault::Memory) => Err(AllocError),

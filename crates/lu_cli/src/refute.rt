@@ -1,20 +1,18 @@
 //! Where a component that fails does not meet a specification.
 
 ghost use Rattle.lu_text.specs.Lines.{texts};
-ghost use Rattle.lu_machine.specs.Starts.{CanRun};
 ghost use Rattle.lu_spec.specs.Specs.{AreOf};
 ghost use Rattle.lu_cli.specs.Refusals.{Answered};
 ghost use Rattle.lu_cli.specs.Refute as spec;
-ghost use Rattle.lu_cli.specs.Refute.{IsRefuted, RefutesTexts};
+ghost use Rattle.lu_cli.specs.Refute.{RefutesSpec, RefutesTexts};
 
 use crate::answer::{Answer, show_schedule};
 use crate::refusal::Refusal;
 use crate::texts::read_texts;
-use lu_component::Component;
+use lu_machine::Test;
 use lu_refute::refute;
 use lu_report::{Report, read_report};
 use lu_spec::{Spec, read_spec};
-use lu_test::Matrix;
 use lu_text::exactly_four;
 use std::alloc::Global;
 
@@ -22,33 +20,29 @@ use std::alloc::Global;
 /// failure or nondeterministic.
 fn refute_spec(
     alloc: Global,
-    component: &Component,
-    matrix: &Matrix,
+    test: Test<'_>,
     report: &Report,
     specification: &Spec,
 ) -> Result<Answer, Refusal>
-    requires component { CanRun component.now matrix.now }
-    requires spec { AreOf matrix.now specification.now }
-    ensures { Answered (IsRefuted component.now matrix.now report.now specification.now) result }
+    requires { AreOf test.matrix.now specification.now }
+    ensures { RefutesSpec test.entry report.now specification.now result }
 {
-    let (smaller, schedule) = refute(alloc, component, matrix, report, specification)?;
-    Ok(show_schedule(alloc, component, &smaller, &schedule)?)
+    let (smaller, schedule) = refute(alloc, test.component, test.matrix, report, specification)?;
+    Ok(show_schedule(alloc, test.component, &smaller, &schedule)?)
 }
 
 /// What is answered to the texts of a report and a specification.
 fn refute_texts(
     alloc: Global,
-    component: &Component,
-    matrix: &Matrix,
+    test: Test<'_>,
     report: &[u8],
     specification: &[u8],
 ) -> Result<Answer, Refusal>
-    requires { CanRun component.now matrix.now }
-    ensures { RefutesTexts component.now matrix.now report.now specification.now result }
+    ensures { RefutesTexts test.entry report.now specification.now result }
 {
     let report = read_report(alloc, report)?;
-    let specification = read_spec(alloc, matrix, specification)?;
-    refute_spec(alloc, component, matrix, &report, &specification)
+    let specification = read_spec(alloc, test.matrix, specification)?;
+    refute_spec(alloc, test, &report, &specification)
 }
 
 /// `lineup refute`: component, matrix, report and specification.
@@ -57,5 +51,9 @@ pub(crate) fn answer_refute(alloc: Global, parts: &[&[u8]]) -> Result<Answer, Re
 {
     let (component, matrix, report, specification) = exactly_four(parts).ok_or(Refusal::Parts)?;
     let case = read_texts(alloc, component, matrix)?;
-    refute_texts(alloc, &case.component, &case.matrix, report, specification)
+    let test = Test {
+        component: &case.component,
+        matrix: &case.matrix,
+    };
+    refute_texts(alloc, test, report, specification)
 }

@@ -1,31 +1,24 @@
 //! What a schedule shows.
 
-ghost use Rattle.std.specs.Prelude.{IfOk};
 ghost use Rattle.lu_text.specs.Lines.{texts};
-ghost use Rattle.lu_machine.specs.Starts.{CanRun};
 ghost use Rattle.lu_cli.specs.Refusals.{Answered};
 ghost use Rattle.lu_cli.specs.Replay as spec;
+ghost use Rattle.lu_cli.specs.Replay.{Replays};
 
 use crate::answer::{Answer, infeasible};
 use crate::refusal::Refusal;
 use crate::texts::read_texts;
-use lu_component::Component;
+use lu_machine::Test;
 use lu_replay::{ReplayFault, replay, write_replay};
-use lu_test::{Matrix, Schedule, read_schedule};
+use lu_test::{Schedule, read_schedule};
 use lu_text::exactly_three;
 use std::alloc::{AllocError, Global};
 
 /// What the schedule shows, or where it is infeasible.
-fn play(
-    alloc: Global,
-    component: &Component,
-    matrix: &Matrix,
-    schedule: &Schedule,
-) -> Result<Answer, AllocError>
-    requires { CanRun component.now matrix.now }
-    ensures { IfOk result (spec.IsReplayed component.now matrix.now schedule.now) }
+fn play(alloc: Global, test: Test<'_>, schedule: &Schedule) -> Result<Answer, AllocError>
+    ensures { Replays test.entry schedule.now result }
 {
-    match replay(alloc, component, matrix, schedule) {
+    match replay(alloc, test.component, test.matrix, schedule) {
         Ok(shown) => Ok(Answer {
             text: write_replay(alloc, &shown)?,
             status: 0,
@@ -42,5 +35,9 @@ pub(crate) fn answer_replay(alloc: Global, parts: &[&[u8]]) -> Result<Answer, Re
     let (component, matrix, schedule) = exactly_three(parts).ok_or(Refusal::Parts)?;
     let case = read_texts(alloc, component, matrix)?;
     let schedule = read_schedule(alloc, schedule)?;
-    Ok(play(alloc, &case.component, &case.matrix, &schedule)?)
+    let test = Test {
+        component: &case.component,
+        matrix: &case.matrix,
+    };
+    Ok(play(alloc, test, &schedule)?)
 }

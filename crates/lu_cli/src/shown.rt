@@ -2,7 +2,6 @@
 
 ghost use Rattle.std.specs.Prelude.{◌≡◌, IfErr, IfOk};
 ghost use Rattle.lu_text.specs.Lines.{texts};
-ghost use Rattle.lu_machine.specs.Starts.{CanRun};
 ghost use Rattle.lu_cli.specs.Refusals.{Answered};
 ghost use Rattle.lu_cli.specs.Shown as spec;
 ghost use Rattle.lu_cli.specs.Shown.{AreShownParts, IsOfReport, IsShownRefusal, IsTextOfSchedule, ShowsRunOf, ShowsText};
@@ -13,9 +12,9 @@ use crate::pictures::draw;
 use crate::refusal::Refusal;
 use crate::told::read_told;
 use crate::trace::trace;
-use lu_component::Component;
+use lu_machine::Test;
 use lu_report::read_report;
-use lu_test::{Matrix, Schedule, read_schedule};
+use lu_test::{Schedule, read_schedule};
 use lu_text::{Fault, exactly_two};
 use lu_trace::Wording;
 use std::alloc::{AllocError, Global};
@@ -75,17 +74,15 @@ pub(crate) fn shown_parts<'a>(parts: &[&'a [u8]]) -> Option<(&'a [u8], &'a [u8],
 fn show_run(
     alloc: Global,
     how: Wording<'_>,
-    component: &Component,
-    matrix: &Matrix,
+    test: Test<'_>,
     schedule: &Schedule,
     view: RunView,
 ) -> Result<Answer, AllocError>
-    requires { CanRun component.now matrix.now }
-    ensures { ShowsRunOf view how.entry component.now matrix.now schedule.now result }
+    ensures { ShowsRunOf view how.entry test.entry schedule.now result }
 {
     match view {
-        RunView::Trace(start) => trace(alloc, start, how, component, matrix, schedule),
-        RunView::Picture => draw(alloc, how, component, matrix, schedule, None),
+        RunView::Trace(start) => trace(alloc, start, how, test, schedule),
+        RunView::Picture => draw(alloc, how, test, schedule, None),
     }
 }
 
@@ -93,16 +90,14 @@ fn show_run(
 fn show_text(
     alloc: Global,
     how: Wording<'_>,
-    component: &Component,
-    matrix: &Matrix,
+    test: Test<'_>,
     text: &[u8],
     view: RunView,
 ) -> Result<Answer, Refusal>
-    requires { CanRun component.now matrix.now }
-    ensures { ShowsText view how.entry component.now matrix.now text.now result }
+    ensures { ShowsText view how.entry test.entry text.now result }
 {
     let schedule = read_shown(alloc, text)?;
-    Ok(show_run(alloc, how, component, matrix, &schedule, view)?)
+    Ok(show_run(alloc, how, test, &schedule, view)?)
 }
 
 /// Component, matrix, and a schedule or a report.
@@ -111,14 +106,11 @@ fn show_after(alloc: Global, parts: &[&[u8]], view: RunView) -> Result<Answer, R
 {
     let (component, matrix, shown) = shown_parts(parts).ok_or(Refusal::Parts)?;
     let told = read_told(alloc, component, matrix)?;
-    show_text(
-        alloc,
-        told.wording(),
-        &told.component,
-        &told.matrix,
-        shown,
-        view,
-    )
+    let test = Test {
+        component: &told.component,
+        matrix: &told.matrix,
+    };
+    show_text(alloc, told.wording(), test, shown, view)
 }
 
 /// `lineup trace`, `lineup trace --setup` and `lineup draw`: component and matrix, and a schedule

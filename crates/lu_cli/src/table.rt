@@ -336,7 +336,7 @@ static OPTIONS: [OptionRow; 24] = [
         letter: "",
         kind: Kind::Flag,
         default: None,
-        words: "goes on behind one that is not linearizable; with --certify",
+        words: "goes on after one that is not linearizable; with --certify",
         commands: &["campaign"],
     },
     OptionRow {

@@ -11,5 +11,5 @@ returns c =
     let read = c.in_ok-case in
     let parts : exactly_three (texts c.args.parts.now) ≡ Some (p.component.now, p.matrix.now, p.trusted.now) = search rules in
     rw parts
-    (texts_answered p.component.now p.matrix.now read.case.component read.case.matrix (λ d m. ToTrusted p.trusted.now d m (λ t. IsComparedMatrix t d c.args.options m))
+    (texts_answered p.component.now p.matrix.now read.case.component read.case.matrix (λ d m. ToTrusted p.trusted.now d m (λ t. IsComparedMatrix t c.args.options d m))
     read.ensures.read c.compare_with.result c.compare_with.ensures)

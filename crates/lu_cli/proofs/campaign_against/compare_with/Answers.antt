@@ -8,9 +8,9 @@ use Rattle.lu_cli.proofs.campaign_against.compare_with.Goals as goal
 
 pub returns : goal.returns
 returns c =
-    let component = c.args.component.now in
-    let matrix = c.args.matrix.now in
+    let component = c.args.test.component.now in
+    let matrix = c.args.test.matrix.now in
     let trusted = c.in_ok-trusted.trusted in
     let same : HasSameOperations component trusted = search rules in
-    answered_more (ToSettled trusted matrix (IsComparedMatrix trusted component c.args.options matrix)) (ToTrusted c.args.trusted.now component matrix (λ (t : Component). IsComparedMatrix t component c.args.options matrix))
+    answered_more (ToSettled trusted matrix (IsComparedMatrix trusted c.args.options component matrix)) (ToTrusted c.args.trusted.now component matrix (λ (t : Component). IsComparedMatrix t c.args.options component matrix))
     (λ answer is. rw c.in_ok-trusted.ensures.read (inl (same, is))) c.compare_settled.result c.compare_settled.ensures

@@ -8,8 +8,8 @@ use Rattle.lu_cli.proofs.certify.certify_matrix_alone.Goals as goal
 
 pub returns : goal.returns
 returns c =
-    let component = c.args.component.now in
+    let component = c.args.test.component.now in
     let certificate = c.in_ok-certificate.certificate in
-    let at = subst (λ (n : ℕ). IsMadeWith n component c.args.matrix.now c.of-limits.result certificate) c.certified_local-local.ensures.local c.in_ok-certificate.ensures.certificate in
-    IfOk-weaker c.show_certificate.result (ShowsCertificate component certificate) (IsCertified component c.args.matrix.now c.args.asked)
-    (λ answer is. inl (certificate, subst (λ (l : Limits). IsMadeWith (certified_local c.args.asked component) component c.args.matrix.now l certificate) c.of-limits.ensures.limits at, is)) c.show_certificate.ensures
+    let at = subst (λ (n : ℕ). IsMadeWith n component c.args.test.matrix.now c.of-limits.result certificate) c.certified_local-local.ensures.local c.in_ok-certificate.ensures.certificate in
+    IfOk-weaker c.show_certificate.result (ShowsCertificate component certificate) (IsCertified component c.args.test.matrix.now c.args.asked)
+    (λ answer is. inl (certificate, subst (λ (l : Limits). IsMadeWith (certified_local c.args.asked component) component c.args.test.matrix.now l certificate) c.of-limits.ensures.limits at, is)) c.show_certificate.ensures

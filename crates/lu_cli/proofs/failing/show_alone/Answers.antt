@@ -20,11 +20,11 @@ can_run_cut c matrix limits (Undecided smaller r) runs is of = record {}
 
 pub show_by_view-requires-clause-runs : goal.show_by_view-requires-clause-runs
 show_by_view-requires-clause-runs c =
-    can_run_cut c.args.component.now c.args.matrix.now _ c.in_ok-certificate.certificate c.requires c.in_ok-certificate.ensures.certificate c.in_ok-certificate.ensures.of
+    can_run_cut c.args.test.component.now c.args.test.matrix.now _ c.in_ok-certificate.certificate c.args.test.can_run c.in_ok-certificate.ensures.certificate c.in_ok-certificate.ensures.of
 
 pub returns : goal.returns
 returns c =
-    let component = c.args.component.now in
+    let component = c.args.test.component.now in
     let certificate = c.in_ok-certificate.certificate in
-    IfOk-weaker c.show_by_view.result (ShowsByView c.args.view c.args.how component certificate) (IsShownAlone c.args.view c.args.how component c.args.matrix.now)
+    IfOk-weaker c.show_by_view.result (ShowsByView c.args.view c.args.how component certificate) (IsShownAlone c.args.view c.args.how component c.args.test.matrix.now)
     (λ answer is. (certificate, c.in_ok-certificate.ensures.certificate, is)) c.show_by_view.ensures

@@ -11,8 +11,8 @@ use Rattle.lu_cli.proofs.failing.show_failing.Goals as goal
 pub returns-in_ok-below-in-Explanation : goal.returns-in_ok-below-in-Explanation
 returns-in_ok-below-in-Explanation c =
     let how = c.args.how in
-    let component = c.args.component.now in
-    let cut = c.args.cut.now in
+    let component = c.args.test.component.now in
+    let cut = c.args.test.matrix.now in
     let report = c.args.report.now in
     let u = c.args.schedule.now in
     let why = c.in_ok-why-in-Explanation.why in

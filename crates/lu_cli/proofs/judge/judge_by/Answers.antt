@@ -12,5 +12,5 @@ returns-in-Some g c =
     let first = c.in-Some.ensures in
     let same : recorded ≡ first.is.0 = c.index-all-number.is ∙ get_or_from_slice_get c.args.all.now n first.is.0 _ first.is.1 in
     let at : slice_get c.args.all.now n ≡ Some recorded = first.is.1 ∙ ap Some (sym same) in
-    IfOk-weaker c.show_first.result (IsShown members c.args.component.now c.args.matrix.now n recorded) (IsJudgedByMembers members c.args.component.now c.args.matrix.now c.args.all.now)
+    IfOk-weaker c.show_first.result (IsShown members c.args.test.component.now c.args.test.matrix.now n recorded) (IsJudgedByMembers members c.args.test.component.now c.args.test.matrix.now c.args.all.now)
     (λ a is. (Some n, first, (recorded, at, is))) c.show_first.ensures

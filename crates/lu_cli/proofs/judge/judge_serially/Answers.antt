@@ -11,13 +11,13 @@ use Rattle.lu_cli.proofs.judge.judge_serially.Goals as goal
 
 pub closure-requires-clause-deterministic : goal.closure-requires-clause-deterministic
 closure-requires-clause-deterministic c =
-    let there = start_there c.args.component.now c.args.matrix.now c.requires.settles in
+    let there = start_there c.args.test.component.now c.args.test.matrix.now c.args.test.can_run.settles in
     (c.in-Ok.ensures.set there.0 c.serial.result (c.in_ok-learnt.ensures.learnt there.0 there.1)).deterministic
 
 pub closure-requires-clause-of : goal.closure-requires-clause-of
 closure-requires-clause-of c =
-    let there = start_there c.args.component.now c.args.matrix.now c.requires.settles in
-    (learnt_closes c.args.component.now c.args.matrix.now there.0 c.serial.result c.in-Ok.set there.1 (c.in-Ok.ensures.set there.0 c.serial.result (c.in_ok-learnt.ensures.learnt there.0 there.1))).2
+    let there = start_there c.args.test.component.now c.args.test.matrix.now c.args.test.can_run.settles in
+    (learnt_closes c.args.test.component.now c.args.test.matrix.now there.0 c.serial.result c.in-Ok.set there.1 (c.in-Ok.ensures.set there.0 c.serial.result (c.in_ok-learnt.ensures.learnt there.0 there.1))).2
 
 pub show_offence-requires-clause-found : goal.show_offence-requires-clause-found
 show_offence-requires-clause-found c s start =
@@ -26,9 +26,9 @@ show_offence-requires-clause-found c s start =
 
 pub returns-in_ok-specification-in-Ok : goal.returns-in_ok-specification-in-Ok
 returns-in_ok-specification-in-Ok c =
-    let component = c.args.component.now in
-    let matrix = c.args.matrix.now in
-    let there = start_there component matrix c.requires.settles in
+    let component = c.args.test.component.now in
+    let matrix = c.args.test.matrix.now in
+    let there = start_there component matrix c.args.test.can_run.settles in
     let set = c.in-Ok.ensures.set there.0 c.serial.result (c.in_ok-learnt.ensures.learnt there.0 there.1) in
     let own : IsSetOf there.0 c.args.bounds.serial c.in-Ok.set = rw (← c.serial.ensures.serial) set in
     let judged = subst (λ (x : List (List SerialOp)). IfOk c.judge_by.result (IsJudgedByMembers x component matrix c.args.all.now)) c.tree.ensures.set c.judge_by.ensures in
@@ -37,5 +37,5 @@ returns-in_ok-specification-in-Ok c =
 
 pub returns-in-Err : goal.returns-in-Err
 returns-in-Err c =
-    IfOk-weaker c.show_offence.result (IsOffenceReported c.args.component.now c.args.matrix.now c.args.bounds) (IsJudgedSerially c.args.component.now c.args.matrix.now c.args.bounds c.args.all.now)
+    IfOk-weaker c.show_offence.result (IsOffenceReported c.args.test.component.now c.args.test.matrix.now c.args.bounds) (IsJudgedSerially c.args.test.component.now c.args.test.matrix.now c.args.bounds c.args.all.now)
     (λ answer is. inr is) c.show_offence.ensures

@@ -11,6 +11,6 @@ returns g c =
     let n = c.args.number in
     let text = c.as_str.ensures.value ∙ c.in_ok-text.ensures in
     let reason = c.as_str-2.ensures.value in
-    IfOk-weaker c.unwitnessed.result (λ a. a ≡ unwitnessed n c.as_str.result.now c.as_str-2.result.now) (IsShown members c.args.component.now c.args.matrix.now n c.args.recorded.now)
+    IfOk-weaker c.unwitnessed.result (λ a. a ≡ unwitnessed n c.as_str.result.now c.as_str-2.result.now) (IsShown members c.args.test.component.now c.args.test.matrix.now n c.args.recorded.now)
     (λ a is. (string_bytes c.in_ok-reason.reason, c.in_ok-reason.ensures, is ∙ ap (λ (t : List ℕ). unwitnessed n t c.as_str-2.result.now) text ∙ ap (λ (t : List ℕ). unwitnessed n (recorded_text c.args.recorded.now) t) reason))
     c.unwitnessed.ensures

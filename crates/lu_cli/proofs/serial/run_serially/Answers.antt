@@ -13,23 +13,23 @@ show_offence-requires-clause-found c s start =
 
 pub closure-requires-clause-deterministic : goal.closure-requires-clause-deterministic
 closure-requires-clause-deterministic c =
-    let there = start_there c.args.component.now c.args.matrix.now c.requires.settles in
+    let there = start_there c.args.test.component.now c.args.test.matrix.now c.args.test.can_run.settles in
     let s = there.0 in
     (c.in-Ok.ensures.set s c.serial.result (c.in_ok-learnt.ensures.learnt s there.1)).deterministic
 
 pub closure-requires-clause-of : goal.closure-requires-clause-of
 closure-requires-clause-of c =
-    let there = start_there c.args.component.now c.args.matrix.now c.requires.settles in
+    let there = start_there c.args.test.component.now c.args.test.matrix.now c.args.test.can_run.settles in
     let s = there.0 in
-    (learnt_closes c.args.component.now c.args.matrix.now s c.serial.result c.in-Ok.set there.1 (c.in-Ok.ensures.set s c.serial.result (c.in_ok-learnt.ensures.learnt s there.1))).2
+    (learnt_closes c.args.test.component.now c.args.test.matrix.now s c.serial.result c.in-Ok.set there.1 (c.in-Ok.ensures.set s c.serial.result (c.in_ok-learnt.ensures.learnt s there.1))).2
 
 pub returns-in_ok-closure-in-Ok : goal.returns-in_ok-closure-in-Ok
 returns-in_ok-closure-in-Ok c =
-    set_serial c.args.component.now c.args.matrix.now c.args.bounds c.in-Ok.set c.in_ok-closure-in-Ok.field-0 c.requires.settles
+    set_serial c.args.test.component.now c.args.test.matrix.now c.args.bounds c.in-Ok.set c.in_ok-closure-in-Ok.field-0 c.args.test.can_run.settles
     (λ s start. (let set = c.in-Ok.ensures.set s c.serial.result (c.in_ok-learnt.ensures.learnt s start) in rw (← c.serial.ensures.serial) set))
     c.in_ok-closure-in-Ok.ensures.closure c.show_spec-in-Ok.result c.show_spec-in-Ok.ensures
 
 pub returns-in-Err : goal.returns-in-Err
 returns-in-Err c =
-    IfOk-weaker c.show_offence.result (IsOffenceReported c.args.component.now c.args.matrix.now c.args.bounds) (IsRunSerially c.args.component.now c.args.matrix.now c.args.bounds)
+    IfOk-weaker c.show_offence.result (IsOffenceReported c.args.test.component.now c.args.test.matrix.now c.args.bounds) (IsRunSerially c.args.test.component.now c.args.test.matrix.now c.args.bounds)
     (λ answer is. inr is) c.show_offence.ensures
