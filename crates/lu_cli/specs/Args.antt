@@ -208,7 +208,8 @@ judge_in rows = option_map (judge_command (flag_in (codes "spec") rows)) (limits
 
 -- how many histories are shown, or by which schedules too
 abbrev pub conform_command : Bool → BundleCommand
-conform_command with_schedules = if with_schedules then Conform showing.Schedules else Conform showing.Count
+conform_command with_schedules =
+    if with_schedules then Conform showing.Schedules else Conform showing.Count
 
 abbrev pub conform_in : List Row → BundleCommand
 conform_in rows = conform_command (flag_in (codes "show") rows)

@@ -40,4 +40,5 @@ IsCheckedAgainstText c matrix choice spec = ToGiven matrix spec (IsCheckedAgains
 
 abbrev pub IsAnswerToCheckAgainst : Options → List (List ℕ) → Answer → Type 0
 IsAnswerToCheckAgainst choice parts =
-    ToParts (exactly_three parts) (λ p. ToTexts p.0 p.1 (λ c m. IsCheckedAgainstText c m choice p.2))
+    ToParts (exactly_three parts)
+    (λ p. ToTexts p.0 p.1 (λ c m. IsCheckedAgainstText c m choice p.2))

@@ -96,7 +96,8 @@ IsAnswerToExplain by limits = AloneOr (view_of by) (IsExplainAfter by limits)
 -- the schedule or the report is read first, and then the specification
 abbrev pub IsExplainedAgainstText : Wording → Component → Matrix → List ℕ → List ℕ → Answer → Type 0
 IsExplainedAgainstText how c m text spec =
-    ToTarget text (λ t. ToGiven m spec (λ members. IsExplainedTarget (in_words Words how) members c m t))
+    ToTarget text
+    (λ t. ToGiven m spec (λ members. IsExplainedTarget (in_words Words how) members c m t))
 
 abbrev pub ExplainsAgainst : Wording → Test → List ℕ → List ℕ → Result Answer Refusal → Type 0
 ExplainsAgainst how test text spec =
@@ -104,4 +105,5 @@ ExplainsAgainst how test text spec =
 
 abbrev pub IsAnswerToExplainAgainst : List (List ℕ) → Answer → Type 0
 IsAnswerToExplainAgainst parts =
-    ToParts (exactly_four parts) (λ p. ToTold p.0 p.1 (λ how c m. IsExplainedAgainstText how c m p.2 p.3))
+    ToParts (exactly_four parts)
+    (λ p. ToTold p.0 p.1 (λ how c m. IsExplainedAgainstText how c m p.2 p.3))

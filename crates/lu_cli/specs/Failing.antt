@@ -99,7 +99,8 @@ ShowsFailure view how cut r u result =
 
 -- of a certificate the cut that fails or has a livelock is shown; another one as it is
 abbrev pub ShowsByView : View → Wording → Component → Certificate → Answer → Type 0
-ShowsByView view how c (Linearizable members) answer = ShowsCertificate c (Linearizable members) answer
+ShowsByView view how c (Linearizable members) answer =
+    ShowsCertificate c (Linearizable members) answer
 ShowsByView view how c (NotLinearizable cut r) answer =
     MatchOption (shown_schedule r.finding) (ShowsCertificate c (NotLinearizable cut r) answer)
     (λ u. ShowsFailing view how c cut r u answer)

@@ -70,7 +70,8 @@ IsFaulted source answer =
     (text : List ℕ) × TellsEach (faults_in source) text
     × (answer ≡ record { text = text; status = 2 })
 
--- what is said of a line after the first `above` of a bundle, where `now` lines stand in their place
+-- what is said of a line after the first `above` of a bundle, where `now` lines stand in their
+-- place
 abbrev pub on_line : ℕ → Remark → Remark
 on_line n r = record { said = record { place = n; cause = r.said.cause }; words = r.words }
 

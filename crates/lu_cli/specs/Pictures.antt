@@ -38,8 +38,8 @@ Pictures how why test u result =
     IfOk result (IsPictureOf how why test.component.now test.matrix.now u)
 
 -- the same, or where the schedule is infeasible
-abbrev pub IsDrawnLent : Wording → Option (Bor Explanation) → Component → Matrix → List Move → Answer
-    → Type 0
+abbrev pub IsDrawnLent : Wording → Option (Bor Explanation) → Component → Matrix → List Move
+    → Answer → Type 0
 IsDrawnLent how why c matrix u answer = IsDrawnExplained how (option_copied why) c matrix u answer
 
 -- so it is of the result, where there is one

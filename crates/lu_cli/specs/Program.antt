@@ -36,9 +36,11 @@ IsAnswerToRead request known answer =
     (input : List ℕ) × IfSome known (λ all. input ≡ all) × IsAnswerToInput request input answer
 
 -- the answer to what these words ask for, where they ask for something, and to what was read
-abbrev pub IsAnswerToWords : {S : Type 0} → (S → List ℕ) → List S → Option (List ℕ) → Answer → Type 0
+abbrev pub IsAnswerToWords : {S : Type 0} → (S → List ℕ) → List S → Option (List ℕ) → Answer
+    → Type 0
 IsAnswerToWords text words known answer =
-    (request : Request) → request_said text words ≡ Some request → IsAnswerToRead request known answer
+    (request : Request) → request_said text words ≡ Some request
+    → IsAnswerToRead request known answer
 
 -- ---- what goes out
 

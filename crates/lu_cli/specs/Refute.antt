@@ -25,7 +25,8 @@ IsRefuted c matrix r members answer =
 
 -- the report is read first, and then the specification
 abbrev pub IsRefutedTexts : Component → Matrix → List ℕ → List ℕ → Answer → Type 0
-IsRefutedTexts c matrix report spec = ToReport report (λ r. ToSpec matrix spec (IsRefuted c matrix r))
+IsRefutedTexts c matrix report spec =
+    ToReport report (λ r. ToSpec matrix spec (IsRefuted c matrix r))
 
 -- that is answered, or a refusal that is
 abbrev pub RefutesSpec : Test → Report → List (List SerialOp) → Result Answer Refusal → Type 0

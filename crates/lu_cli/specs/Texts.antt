@@ -116,7 +116,8 @@ IsCheckAgainstFault component matrix spec choice (Component fault) =
     IsFaultOfTexts component matrix (Component fault)
 IsCheckAgainstFault component matrix spec choice (Matrix fault) =
     IsFaultOfTexts component matrix (Matrix fault)
-IsCheckAgainstFault component matrix spec choice (Setup k) = IsFaultOfTexts component matrix (Setup k)
+IsCheckAgainstFault component matrix spec choice (Setup k) =
+    IsFaultOfTexts component matrix (Setup k)
 IsCheckAgainstFault component matrix spec choice (Spec fault) =
     IsFaultOnceSettled component matrix spec choice (Spec fault)
 IsCheckAgainstFault component matrix spec choice (Check fault) =

@@ -178,8 +178,8 @@ fn try_slice(alloc: Global, roles: Roles<'_>, from: u64, upto: u64) -> Result<An
     Ok(show_found(alloc, roles.component, &found)?)
 }
 
-/// How many matrices there are, where the component is linearizable on all; or the first on which it
-/// is not certified to be, with its certificate.
+/// How many matrices there are, where the component is linearizable on all; or the first on which
+/// it is not certified to be, with its certificate.
 fn show_certificates(
     alloc: Global,
     component: &Component,

@@ -127,8 +127,8 @@ pub enum BundleCommand {
     /// `lineup serial`: show the serial histories of a component and a matrix.
     Serial(Bounds),
 
-    /// `lineup judge`: judge recorded histories by the serial histories of a component and a matrix.
-    /// The bound of schedules is used for the line of a report alone.
+    /// `lineup judge`: judge recorded histories by the serial histories of a component and a
+    /// matrix. The bound of schedules is used for the line of a report alone.
     Judge(Bounds),
 
     /// `lineup judge --spec`: judge recorded histories by a specification.

@@ -100,8 +100,8 @@ pub struct Case {
     pub matrix: Matrix,
 }
 
-/// The number of the first call of the setup that does not end, if there is one. Refused memory is a
-/// fault of the matrix.
+/// The number of the first call of the setup that does not end, if there is one. Refused memory is
+/// a fault of the matrix.
 fn find_unsettled(
     alloc: Global,
     component: &Component,
