@@ -4,7 +4,7 @@ use Rattle.lu_cli.proofs.shrink.shrink_matrix.Goals as goal
 pub returns-in-Err-NotFailing : goal.returns-in-Err-NotFailing
 returns-in-Err-NotFailing c =
     not_failing c.args.test.component.now c.args.test.matrix.now c.args.bounds c.bound.result c.serial.result c.bound.ensures.bound c.serial.ensures.serial
-    _ c.in-Err-NotFailing.report c.in-Err-NotFailing.field-0-is c.in-Err-NotFailing.ensures.fault c.show_report.result c.show_report.ensures
+    _ c.in-Err-NotFailing.report c.in-Err-NotFailing.field-0-is c.in-Err-NotFailing.ensures.fault c.show_report.result (rw c.in-Err-NotFailing.field-0-is at c.show_report.ensures)
 
 pub returns-in-Ok : goal.returns-in-Ok
 returns-in-Ok c =
