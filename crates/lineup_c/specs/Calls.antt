@@ -60,7 +60,8 @@ pub record TellsAnswer (line bundle : List ℕ) (stack : ℕ) (old new : List �
 
 -- ---- states
 
--- from the start the moves, of a schedule of so many, lead to a state of which these are the numbers
+-- from the start the moves, of a schedule of so many, lead to a state of which these are the
+-- numbers
 abbrev pub AreNumbersAfter : Component → Matrix → List Move → ℕ → List ℕ → Type 0
 AreNumbersAfter c matrix u all numbers =
     (end : State) × (history : List Event) × (status : Status)

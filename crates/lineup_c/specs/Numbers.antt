@@ -31,7 +31,8 @@ abbrev pub zeros : ℕ → List ℕ
 zeros zero = []
 zeros (suc n) = zeros n ++ 0 ∷ []
 
--- the operation's number from 1, the place of its next instruction, and its registers; zeros where none is open
+-- the operation's number from 1, the place of its next instruction, and its registers; zeros where
+-- none is open
 abbrev pub activity_numbers : Activity → List ℕ
 activity_numbers Idle = zeros 10
 activity_numbers (Open f) = (f.op + 1) ∷ f.place ∷ registers f 8

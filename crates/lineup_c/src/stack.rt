@@ -6,8 +6,9 @@ ghost use Rattle.lineup_c.specs.Stack as spec;
 use lu_cli::{BundleCommand, Request};
 use lu_report::MOST_MOVES;
 
-/// How many bytes of stack a search takes at most: 128 KiB, and 2 KiB for each move of a schedule up
-/// to the bound, or half a KiB for each move of 16 operations that run alone. So much was measured.
+/// How many bytes of stack a search takes at most: 128 KiB, and 2 KiB for each move of a schedule
+/// up to the bound, or half a KiB for each move of 16 operations that run alone. So much was
+/// measured.
 fn stack_within(bound: u16, serial: u16) -> usize
     ensures { result ≡ spec.stack_within bound serial }
 {

@@ -170,7 +170,8 @@ HopelessAlike = (s : State) (n : ℕ) → IsHopeless s ↔ IsHopeless (grained s
 -- Where a schedule leads to such a state, one does with `local n`.
 abbrev pub LosesHopeToo : Type 0
 LosesHopeToo =
-    (s : State) (n : ℕ) (u : List Move) → LosesHope s u → (v : List Move) × LosesHope (grained s n) v
+    (s : State) (n : ℕ) (u : List Move) → LosesHope s u
+    → (v : List Move) × LosesHope (grained s n) v
 
 -- ---- certificates
 

@@ -17,7 +17,8 @@ use std::alloc::Global;
 use std::sync::Wait;
 use std::thread::Threads;
 
-/// The same certificate as by [`certify_longer_by_workers`]. It tells meanwhile how far it has come.
+/// The same certificate as by [`certify_longer_by_workers`]. It tells meanwhile how far it has
+/// come.
 ///
 /// # Errors
 ///

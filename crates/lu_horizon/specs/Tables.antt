@@ -88,7 +88,8 @@ AreOutlooksOfCalls c matrix t k (outlooks ∷ calls) =
     AreOfCall c matrix t k outlooks × AreOutlooksOfCalls c matrix t (k + 1) calls
 
 -- those of all calls of thread t
-pub record IsThread (c : Component) (matrix : Matrix) (t : ℕ) (calls : ThreadOutlooks) : Type 0 where
+pub record IsThread (c : Component) (matrix : Matrix) (t : ℕ)
+    (calls : ThreadOutlooks) : Type 0 where
   pub many : length calls ≡ length (calls_of matrix t)
   pub each : AreOutlooksOfCalls c matrix t 0 calls
 

@@ -83,7 +83,8 @@ local_line d (Some most) =
     (record d { local = Some (value most) })
 
 -- `word NAME LEN INIT`
-abbrev pub array_line : ComponentDraft → Option (Word × Word × Word) → Result ComponentDraft LangFaultKind
+abbrev pub array_line : ComponentDraft → Option (Word × Word × Word)
+    → Result ComponentDraft LangFaultKind
 array_line d None = Err Form
 array_line d (Some (name, len, init)) =
     says ((not (has_name_form name), Form)
@@ -289,7 +290,8 @@ instr_line d b label word words =
     placed d b label (place_fault b label) (statement d (keyword_in word) words)
 
 -- an instruction after a label
-abbrev pub labelled : ComponentDraft → OpenOp → Word → List Word → Result ComponentDraft LangFaultKind
+abbrev pub labelled : ComponentDraft → OpenOp → Word → List Word
+    → Result ComponentDraft LangFaultKind
 labelled d b label [] = Err Form
 labelled d b label (word ∷ words) = instr_line d b (Some label) word words
 

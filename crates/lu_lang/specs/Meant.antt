@@ -113,7 +113,8 @@ abbrev pub read_as : FaultyDraft → List ℕ → List ℕ
 read_as f line = unwrap_or (meant_line f line) line
 
 -- with the next draft
-abbrev pub with_draft : FaultyDraft → Result ComponentDraft LangFaultKind → Result FaultyDraft LangFaultKind
+abbrev pub with_draft : FaultyDraft → Result ComponentDraft LangFaultKind
+    → Result FaultyDraft LangFaultKind
 with_draft f (Ok next) = Ok (record f { draft = next })
 with_draft f (Err kind) = Err kind
 

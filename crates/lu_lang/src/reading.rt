@@ -481,8 +481,8 @@ impl ComponentDraft {
         }
     }
 
-    /// Takes one more line: `None` where it has no fault, and else its fault, and the draft is as it
-    /// was.
+    /// Takes one more line: `None` where it has no fault, and else its fault, and the draft is as
+    /// it was.
     ///
     /// # Errors
     ///
@@ -498,8 +498,8 @@ impl ComponentDraft {
         self.take_words(alloc, &words)
     }
 
-    /// The component that the lines declare, at the end of the text; or what is wrong there, and the
-    /// draft as it was.
+    /// The component that the lines declare, at the end of the text; or what is wrong there, and
+    /// the draft as it was.
     #[tactic(auto, using(crate::proofs::Drafts::draft_component))]
     pub fn finish(self) -> Result<Component, (LangFaultKind, ComponentDraft)>
         requires { IsSoundDraft self }

@@ -91,7 +91,8 @@ ReadsValue returned meant = ReadsAlone returned meant
 -- a length, whether it is written, and the words after it
 abbrev pub ReadsSize : Result (ℕ × Bool × Left) Refusal → Result ((ℕ × Bool) × List Word) Kind
     → Type 0
-ReadsSize returned meant = Reads (λ (n, written, rest). ((n, written), texts rest.now)) returned meant
+ReadsSize returned meant =
+    Reads (λ (n, written, rest). ((n, written), texts rest.now)) returned meant
 
 abbrev pub ReadsNames : {Z : Type 0} → Result (Vec Word Z × Left) Refusal
     → Result (List Word × List Word) Kind → Type 0
@@ -100,7 +101,8 @@ ReadsNames returned meant = Reads (with_rest (λ names. names.items)) returned m
 -- ---- what a line puts into the draft
 
 abbrev pub ReadsObject : Drafted → Result Word Refusal → List Word → Type 0
-ReadsObject d returned ws = Reads (λ name. record d { name = Some name }) returned (object_line d ws)
+ReadsObject d returned ws =
+    Reads (λ name. record d { name = Some name }) returned (object_line d ws)
 
 abbrev pub ReadsLocal : Drafted → Result ℕ Refusal → List Word → Type 0
 ReadsLocal d returned ws = Reads (λ most. record d { local = Some most }) returned (local_line d ws)

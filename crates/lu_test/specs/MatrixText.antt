@@ -119,13 +119,15 @@ is_full threads n =
     nat_le 8 (length threads) || (nat_lt 8 n || nat_lt 16 (sum_by length threads + n))
 
 -- what is wrong with the calls of one more thread; or the draft with it
-abbrev pub with_thread : List Signature → MatrixDraft → List (List Word) → Result MatrixDraft MatrixFaultKind
+abbrev pub with_thread : List Signature → MatrixDraft → List (List Word)
+    → Result MatrixDraft MatrixFaultKind
 with_thread signatures draft calls =
     or_else (calls_fault signatures calls (is_full draft.threads (length calls)))
     (record draft { threads = draft.threads ++ calls_said signatures calls ∷ [] })
 
 -- what is wrong with the calls of the setup; or the draft with them
-abbrev pub with_setup : List Signature → MatrixDraft → List (List Word) → Result MatrixDraft MatrixFaultKind
+abbrev pub with_setup : List Signature → MatrixDraft → List (List Word)
+    → Result MatrixDraft MatrixFaultKind
 with_setup signatures draft calls =
     or_else (calls_fault signatures calls (nat_lt 8 (length calls)))
     (record draft { setup = Some (calls_said signatures calls) })
@@ -135,14 +137,16 @@ abbrev pub calls_after : List Word → List (List Word) → List (List Word)
 calls_after words parts = if length words == 0 && length parts == 0 then [] else words ∷ parts
 
 -- the first word is `thread`, or, on the first line with words, `setup`
-abbrev pub by_keyword : List Signature → MatrixDraft → Word → List (List Word) → Result MatrixDraft MatrixFaultKind
+abbrev pub by_keyword : List Signature → MatrixDraft → Word → List (List Word)
+    → Result MatrixDraft MatrixFaultKind
 by_keyword signatures draft word calls =
     if bytes_eq word (codes "thread") then with_thread signatures draft calls
     else (if bytes_eq word (codes "setup") && is_nothing draft then with_setup signatures draft
     calls else Err Form)
 
 -- a line by the words of its parts, between which stands `;`
-abbrev pub by_parts : List Signature → MatrixDraft → List (List Word) → Result MatrixDraft MatrixFaultKind
+abbrev pub by_parts : List Signature → MatrixDraft → List (List Word)
+    → Result MatrixDraft MatrixFaultKind
 by_parts signatures draft [] = Ok draft
 by_parts signatures draft ([] ∷ []) = Ok draft
 by_parts signatures draft ([] ∷ part ∷ parts) = Err Form

@@ -382,8 +382,8 @@ impl MatrixDraft {
         }
     }
 
-    /// Takes one more line, whose calls may name the operations of these signatures: `None` where it
-    /// has no fault, and else its fault, and the draft is as it was.
+    /// Takes one more line, whose calls may name the operations of these signatures: `None` where
+    /// it has no fault, and else its fault, and the draft is as it was.
     ///
     /// # Errors
     ///

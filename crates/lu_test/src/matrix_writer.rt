@@ -37,8 +37,8 @@ fn put_arguments(text: &mut String, arguments: &[u32]) -> Result<(), AllocError>
     Ok(())
 }
 
-/// Adds a call of one of these operations at the end of a text, as a matrix has it: its name and its
-/// arguments, with spaces between them.
+/// Adds a call of one of these operations at the end of a text, as a matrix has it: its name and
+/// its arguments, with spaces between them.
 ///
 /// # Errors
 ///

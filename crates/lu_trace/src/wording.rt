@@ -28,8 +28,8 @@ pub enum Wording<'a> {
         /// The lines of the source, in their order and without their LFs.
         lines: &'a [&'a [u8]],
 
-        /// Where the instructions of the component come from. What it lacks is told without line and
-        /// locals.
+        /// Where the instructions of the component come from. What it lacks is told without line
+        /// and locals.
         origins: &'a Origins,
     },
 }

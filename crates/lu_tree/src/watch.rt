@@ -5,10 +5,10 @@ ghost use Rattle.std.specs.Prelude.{◌≡◌, Bool, false};
 /// What a search asks, now and then, whether it is to stop.
 ///
 /// A search of schedules asks after each 64 further ones: by `stop`, or by `stop_within` where many
-/// were counted together. A search of states, or of nodes, asks before each. An implementor's `stop`
-/// may expect a watch that has not stopped, and owes that `stopped` then says what it returned;
-/// after a yes no more is asked. How often it is asked is tested and not proved, and where an
-/// implementor has a `stop_within` of its own, that alone says how often it asks.
+/// were counted together. A search of states, or of nodes, asks before each. An implementor's
+/// `stop` may expect a watch that has not stopped, and owes that `stopped` then says what it
+/// returned; after a yes no more is asked. How often it is asked is tested and not proved, and
+/// where an implementor has a `stop_within` of its own, that alone says how often it asks.
 pub trait Watch {
     /// What stays as it is when the watch is asked. No value of it needs to be made.
     type Base;

@@ -38,7 +38,7 @@ impl<'a> Kept<'a> {
         ensures events { result ≡ history.now }
         ensures well_formed { IsWellFormed result }
     {
-        // For the proof: a history's own rule is told by its calls, and no other call comes before a search.
+        // For the proof: a history's own rule is told by its calls, and no other call comes before.
         let _events = history.events();
         Kept {
             history,
