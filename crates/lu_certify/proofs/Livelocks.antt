@@ -31,7 +31,7 @@ use Rattle.lu_certify.specs.declared.judged.Standing.TheVariants.{FullPass, Open
 use Rattle.lu_certify.specs.declared.so_far.SoFar.{SoFar}
 use Rattle.lu_certify.specs.declared.so_far.SoFar.TheVariants.{Clear, Lost, Unclear}
 use Rattle.lu_certify.specs.Certificates.{HasNoLivelock, HasReport, IsFullPass, IsProved}
-use Rattle.lu_certify.specs.Places.{IsLivelockIfAny, IsLost, IsNext, IsStanding, so_far_after}
+use Rattle.lu_certify.specs.Places.{IsFirstLostOf, IsLivelockIfAny, IsLost, IsNext, IsStanding, so_far_after}
 use Rattle.lu_certify.proofs.Linear.{full_at}
 use Rattle.lu_certify.proofs.Within.{cut_there, none_of}
 
@@ -96,7 +96,7 @@ module _ (c : Component) (matrix : Matrix) (limits : Limits) (settles : Settles 
       let full = full_at c matrix limits.bound limits.serial has s there.1 in
       never_lost s limits.bound (λ v cut. none_of (λ w. Any w × IsCutAt s limits.bound w) full.counts.cut full.good.numbers.cut full.uncut v (tt, cut)) u (livelock s there.1).2.lost
 
-  pub livelock_where : {E : Type 0} (result : Result (Option (List Move)) E) → FromEachStart c matrix (λ s. NoOffence s limits.serial) → FromEachStart c matrix (λ s. IfOk result (IsFirstLostIfAny limits.nodes s)) → IfOk result (IsLivelockIfAny c limits matrix)
+  pub livelock_where : {E : Type 0} (result : Result (Option (List Move)) E) → FromEachStart c matrix (λ s. NoOffence s limits.serial) → IfOk result (IsFirstLostOf c limits matrix) → IfOk result (IsLivelockIfAny c limits matrix)
   livelock_where (Ok None) none lost = λ u livelock.
       (let there = start_there c matrix settles in
       let x = livelock there.0 there.1 in
@@ -113,6 +113,11 @@ module _ (c : Component) (matrix : Matrix) (limits : Limits) (settles : Settles 
     none_in_serial_cut v is u livelock =
         let there = start_there c matrix settles in
         (livelock there.0 there.1).0 v (finds_as (SerialCut v) is there.0 there.1).0.kind
+
+-- what is sought from each start is the cut's
+pub first_lost_of : {E : Type 0} (c : Component) (matrix : Matrix) (limits : Limits) (result : Result (Option (List Move)) E) → FromEachStart c matrix (λ s. IfOk result (IsFirstLostIfAny limits.nodes s)) → IfOk result (IsFirstLostOf c limits matrix)
+first_lost_of c matrix limits (Ok lost) is = is
+first_lost_of c matrix limits (Err e) is = tt
 
 -- ---- what is known after it
 

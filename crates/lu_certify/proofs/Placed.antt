@@ -1,22 +1,28 @@
 -- What is known of cuts, each at its place.
-use Rattle.std.proofs.Common.{arith, ◌≡◌, ℕ, zero, suc, All, List, [], ◌∷◌, ◌++◌, Option, Some, None, slice_set, subst}
+use Rattle.std.proofs.Common.{arith, ◌≡◌, ◌<◌, ℕ, zero, suc, All, List, [], ◌∷◌, ◌++◌, length, Some, slice_index_or, slice_set, sym, ap, subst}
 use Rattle.std.specs.List.{slice_get}
-use Rattle.lu_certify.specs.declared.looked.Looked.{Looked}
+use Rattle.lu_certify.specs.declared.looked.Found.{Found}
 
--- what is known stays known where a place is added of which nothing is known
-pub longer : (Holds : ℕ → Looked → Type 0) (known : List (Option Looked)) → ((place : ℕ) (looked : Looked) → slice_get known place ≡ Some (Some looked) → Holds place looked) → (place : ℕ) (looked : Looked) → slice_get (known ++ None ∷ []) place ≡ Some (Some looked) → Holds place looked
-longer Holds [] all zero looked is = absurd (cc)
-longer Holds [] all (suc n) looked is = absurd (cc)
-longer Holds (x ∷ known) all zero looked is = all zero looked is
-longer Holds (x ∷ known) all (suc n) looked is = longer (λ k. Holds (suc k)) known (λ k l e. all (suc k) l e) n looked is
+-- what is known stays known where a place is added of which that is known
+pub longer : (Holds : ℕ → Found → Type 0) (known : List Found) (one : Found) → ((place : ℕ) (found : Found) → slice_get known place ≡ Some found → Holds place found) → ((place : ℕ) → Holds place one) → (place : ℕ) (found : Found) → slice_get (known ++ one ∷ []) place ≡ Some found → Holds place found
+longer Holds [] one all here zero found is = subst (Holds 0) (cc) (here 0)
+longer Holds [] one all here (suc n) found is = absurd (cc)
+longer Holds (x ∷ known) one all here zero found is = all zero found is
+longer Holds (x ∷ known) one all here (suc n) found is = longer (λ k. Holds (suc k)) known one (λ k l e. all (suc k) l e) (λ k. here (suc k)) n found is
 
--- and where something is put at a place
-pub one_more : (Holds : ℕ → Looked → Type 0) (known : List (Option Looked)) (at : ℕ) (one : Looked) → ((place : ℕ) (looked : Looked) → slice_get known place ≡ Some (Some looked) → Holds place looked) → Holds at one → (place : ℕ) (looked : Looked) → slice_get (slice_set known at (Some one)) place ≡ Some (Some looked) → Holds place looked
-one_more Holds [] at one all here place looked is = absurd (cc)
-one_more Holds (x ∷ known) zero one all here zero looked is = subst (Holds 0) (cc) here
-one_more Holds (x ∷ known) zero one all here (suc n) looked is = all (suc n) looked is
-one_more Holds (x ∷ known) (suc at) one all here zero looked is = all zero looked is
-one_more Holds (x ∷ known) (suc at) one all here (suc n) looked is = one_more (λ k. Holds (suc k)) known at one (λ k l e. all (suc k) l e) here n looked is
+-- and where that at a place is another, which holds there
+pub one_more : (Holds : ℕ → Found → Type 0) (known : List Found) (at : ℕ) (one : Found) → ((place : ℕ) (found : Found) → slice_get known place ≡ Some found → Holds place found) → Holds at one → (place : ℕ) (found : Found) → slice_get (slice_set known at one) place ≡ Some found → Holds place found
+one_more Holds [] at one all here place found is = absurd (cc)
+one_more Holds (x ∷ known) zero one all here zero found is = subst (Holds 0) (cc) here
+one_more Holds (x ∷ known) zero one all here (suc n) found is = all (suc n) found is
+one_more Holds (x ∷ known) (suc at) one all here zero found is = all zero found is
+one_more Holds (x ∷ known) (suc at) one all here (suc n) found is = one_more (λ k. Holds (suc k)) known at one (λ k l e. all (suc k) l e) here n found is
+
+-- what is read at a place stands there
+pub there : (known : List Found) (place : ℕ) (read : Found) → place < length known → read ≡ slice_index_or known place read → slice_get known place ≡ Some read
+there [] place read below is = absurd (omega (arith, below))
+there (x ∷ known) zero read below is = ap Some (sym is)
+there (x ∷ known) (suc n) read below is = there known n read (omega (arith, below)) is
 
 -- of a list that begins with x, x has what all have
 pub all_first : {X : Type 0} (P : X → Type 0) (xs : List X) (x : X) (rest : List X) → xs ≡ x ∷ rest → All P xs → P x

@@ -1,18 +1,15 @@
 -- What is found of cuts that are looked at, in any order.
-use Rattle.std.specs.Prelude.{◌≡◌, ◌≤◌, ℕ, Bool, true, List, All, Option, Some, IfSome, Vec}
+use Rattle.std.specs.Prelude.{◌≡◌, ℕ, Bool, true, List, All, Some, IfSome, Vec}
 use Rattle.std.specs.List.{slice_get}
 use Rattle.lu_component.specs.Component.{Component}
 use Rattle.lu_test.specs.Matrix.{Matrix}
-use Rattle.lu_machine.specs.Starts.{CanRun}
-use Rattle.lu_report.specs.Limits.{IsSerialBound, most_moves}
-use Rattle.lu_parallel.specs.Ranges.{Options}
 use Rattle.lu_certify.specs.declared.limits.Limits.{Limits}
 use Rattle.lu_certify.specs.declared.looked.Looked.{Looked}
 use Rattle.lu_certify.specs.declared.looked.Looked.TheVariants.{Failing, Stands}
-use Rattle.lu_certify.specs.declared.looked.LookedAt.{LookedAt}
-use Rattle.lu_certify.specs.declared.sharing.CutJob.{CutJob}
-use Rattle.lu_certify.specs.Certificates.{IsFailingReport, limits_of}
-use Rattle.lu_certify.specs.Places.{IsCutAtPlace, IsLivelockIfAny, IsStanding}
+use Rattle.lu_certify.specs.declared.looked.Found.{Found}
+use Rattle.lu_certify.specs.declared.looked.FoundAt.{FoundAt}
+use Rattle.lu_certify.specs.Certificates.{IsFailingReport}
+use Rattle.lu_certify.specs.Places.{IsCutAtPlace, IsFirstLostOf, IsJudged, IsLivelockIfAny, IsStanding}
 
 -- the report that shows that the cut fails; or how it stands, and its livelock, or none, where one
 -- was sought
@@ -22,80 +19,73 @@ IsLooked sought c limits smaller (Stands standing livelock) =
     IsStanding c limits smaller standing
     × (sought ≡ true → IsLivelockIfAny c limits smaller livelock)
 
--- within the bounds of a check's options
-abbrev pub IsLookedWithin : Component → Bool → Options → ℕ → Matrix → Looked → Type 0
-IsLookedWithin c sought choice nodes smaller looked =
-    IsLooked sought c (limits_of choice nodes) smaller looked
+-- how the cut is judged, if that was found, and its first lost schedule, if that was sought
+abbrev pub IsFound : Component → Limits → Matrix → Found → Type 0
+IsFound c limits smaller found =
+    IfSome found.judged (IsJudged c limits smaller)
+    × IfSome found.lost (IsFirstLostOf c limits smaller)
 
--- so it is of the cut of the matrix at this place, whose livelock was sought
-abbrev pub IsLookedAt : Component → Matrix → Limits → ℕ → Looked → Type 0
-IsLookedAt c matrix limits place looked =
-    (smaller : Matrix) → IsCutAtPlace matrix place smaller → IsLooked true c limits smaller looked
+-- so it is of the cut of the matrix at this place
+abbrev pub IsFoundAt : Component → Matrix → Limits → ℕ → Found → Type 0
+IsFoundAt c matrix limits place found =
+    (smaller : Matrix) → IsCutAtPlace matrix place smaller → IsFound c limits smaller found
 
 -- so it is of each of them, at its place
-pub record AreLookedAt (c : Component) (matrix : Matrix) (limits : Limits) (found : List LookedAt) :
+pub record AreFoundAt (c : Component) (matrix : Matrix) (limits : Limits) (found : List FoundAt) :
     Type 0 where
-  pub each : All (λ one. IsLookedAt c matrix limits one.place one.looked) found
+  pub each : All (λ one. IsFoundAt c matrix limits one.place one.found) found
 
 -- and of each in the lists of all workers
-abbrev pub AreAllLookedAt : {A : Type 0} → Component → Matrix → Limits → List (Vec LookedAt A)
+abbrev pub AreAllFoundAt : {A : Type 0} → Component → Matrix → Limits → List (Vec FoundAt A)
     → Type 0
-AreAllLookedAt c matrix limits found =
-    All (λ list. AreLookedAt c matrix limits list.items) found
+AreAllFoundAt c matrix limits found =
+    All (λ list. AreFoundAt c matrix limits list.items) found
 
 -- what is known of cuts, each at its place
-abbrev pub AreKnown : Component → Matrix → Limits → List (Option Looked) → Type 0
+abbrev pub AreKnown : Component → Matrix → Limits → List Found → Type 0
 AreKnown c matrix limits known =
-    (place : ℕ) (looked : Looked) → slice_get known place ≡ Some (Some looked)
-    → IsLookedAt c matrix limits place looked
+    (place : ℕ) (found : Found) → slice_get known place ≡ Some found
+    → IsFoundAt c matrix limits place found
 
 -- ---- how that changes, whatever is certified, and within which limits
 
+-- of one cut, after more of it was found
+abbrev pub FindsMore : Found → Found → Found → Type 0
+FindsMore old more new =
+    (c : Component) (limits : Limits) (smaller : Matrix) → IsFound c limits smaller old
+    → IsFound c limits smaller more → IsFound c limits smaller new
+
 -- nothing is known
-abbrev pub KnowsNone : List (Option Looked) → Type 0
-KnowsNone known = (c : Component) (matrix : Matrix) (limits : Limits) → AreKnown c matrix limits known
+abbrev pub KnowsNone : List Found → Type 0
+KnowsNone known =
+    (c : Component) (matrix : Matrix) (limits : Limits) → AreKnown c matrix limits known
 
 -- after what was found of one cut more
-abbrev pub KnowsOneMore : List (Option Looked) → LookedAt → List (Option Looked) → Type 0
+abbrev pub KnowsOneMore : List Found → FoundAt → List Found → Type 0
 KnowsOneMore old one new =
     (c : Component) (matrix : Matrix) (limits : Limits) → AreKnown c matrix limits old
-    → IsLookedAt c matrix limits one.place one.looked → AreKnown c matrix limits new
+    → IsFoundAt c matrix limits one.place one.found → AreKnown c matrix limits new
 
 -- after what a worker found
-abbrev pub KnowsMore : List (Option Looked) → List LookedAt → List (Option Looked) → Type 0
+abbrev pub KnowsMore : List Found → List FoundAt → List Found → Type 0
 KnowsMore old found new =
     (c : Component) (matrix : Matrix) (limits : Limits) → AreKnown c matrix limits old
-    → AreLookedAt c matrix limits found → AreKnown c matrix limits new
+    → AreFoundAt c matrix limits found → AreKnown c matrix limits new
 
 -- after what all workers found
-abbrev pub KnowsAll : {A : Type 0} → List (Vec LookedAt A) → List (Option Looked) → Type 0
+abbrev pub KnowsAll : {A : Type 0} → List (Vec FoundAt A) → List Found → Type 0
 KnowsAll found known =
-    (c : Component) (matrix : Matrix) (limits : Limits) → AreAllLookedAt c matrix limits found
+    (c : Component) (matrix : Matrix) (limits : Limits) → AreAllFoundAt c matrix limits found
     → AreKnown c matrix limits known
 
 -- after some was taken out
-abbrev pub KnowsLess : List (Option Looked) → List (Option Looked) → Type 0
+abbrev pub KnowsLess : List Found → List Found → Type 0
 KnowsLess old new =
     (c : Component) (matrix : Matrix) (limits : Limits) → AreKnown c matrix limits old
     → AreKnown c matrix limits new
 
--- what was taken out, if anything, is found of the cut at this place
-abbrev pub IsTakenAt : List (Option Looked) → ℕ → Option Looked → Type 0
+-- what was taken out is found of the cut at this place
+abbrev pub IsTakenAt : List Found → ℕ → Found → Type 0
 IsTakenAt known place taken =
     (c : Component) (matrix : Matrix) (limits : Limits) → AreKnown c matrix limits known
-    → IfSome taken (IsLookedAt c matrix limits place)
-
--- ---- what workers are lent
-
-pub record IsCutJob {P : Type 0} (job : CutJob P) : Type 0 where
-  pub of : CanRun job.component.now job.matrix.now
-  pub bound : job.limits.bound ≤ most_moves
-  pub serial : IsSerialBound job.limits.serial
-
--- what one of them found
-abbrev pub IsFoundFor : {P A : Type 0} → CutJob P → Vec LookedAt A → Type 0
-IsFoundFor job found = AreLookedAt job.component.now job.matrix.now job.limits found.items
-
--- what all of them found
-abbrev pub AreFoundFor : {P A B : Type 0} → CutJob P → Vec (Vec LookedAt A) B → Type 0
-AreFoundFor job found = AreAllLookedAt job.component.now job.matrix.now job.limits found.items
+    → IsFoundAt c matrix limits place taken

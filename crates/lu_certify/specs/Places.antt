@@ -1,12 +1,13 @@
 -- The cuts of a matrix, by their places from 0 in the lexicographic order of their lengths, and
 -- what is known of those before a place.
-use Rattle.std.specs.Prelude.{◌≡◌, ◌<◌, ◌≤◌, ℕ, ◌+◌, ◌*◌, Bool, true, IfOk, Result, List, [], ◌∷◌, length, Option, Some, None}
+use Rattle.std.specs.Prelude.{◌≡◌, ◌<◌, ◌≤◌, ℕ, ◌+◌, ◌*◌, Bool, true, false, IfOk, Result, List, [], ◌∷◌, length, Option, Some, None}
 use Rattle.lu_component.specs.Component.{Component}
 use Rattle.lu_test.specs.declared.matrix.Call.{Call}
 use Rattle.lu_test.specs.declared.schedule.Move.{Move}
 use Rattle.lu_test.specs.Matrix.{Matrix, cut}
-use Rattle.lu_machine.specs.Starts.{FromEachStart}
+use Rattle.lu_machine.specs.Starts.{FromEachStart, Settles}
 use Rattle.lu_serial.specs.Offences.{NoOffence}
+use Rattle.lu_graph.specs.Hopeless.{IsFirstLostIfAny}
 use Rattle.lu_graph.specs.declared.ending.Ending.{Ending}
 use Rattle.lu_graph.specs.declared.ending.Ending.TheVariants.{Badly, TooMany, Well}
 use Rattle.lu_report.specs.Limits.{most_moves}
@@ -83,6 +84,11 @@ abbrev pub IsLivelockIfAny : Component → Limits → Matrix → Option (List Mo
 IsLivelockIfAny c limits matrix None = HasNoLivelock c limits matrix
 IsLivelockIfAny c limits matrix (Some u) = IsLivelock c limits matrix u
 
+-- its first schedule that leads to a state from which none ends, or none where there is none
+abbrev pub IsFirstLostOf : Component → Limits → Matrix → Option (List Move) → Type 0
+IsFirstLostOf c limits matrix lost =
+    FromEachStart c matrix (λ s. IsFirstLostIfAny limits.nodes s lost)
+
 -- ---- the cuts so far
 
 abbrev pub IsLost : SoFar → Type 0
@@ -118,6 +124,10 @@ IsNext c limits Clear matrix (Lost other u) = (other ≡ matrix) × IsLivelock c
 
 -- ---- what the steps of a round answer
 
+-- no serial run offends
+abbrev pub IsWithoutOffence : Component → Matrix → ℕ → Type 0
+IsWithoutOffence c matrix serial = FromEachStart c matrix (λ s. NoOffence s serial)
+
 -- how schedules end, searched up to the bound, tells so much
 abbrev pub IsToldBy : ℕ → Ending → Told → Type 0
 IsToldBy bound Well told = told ≡ AllGood
@@ -127,17 +137,22 @@ IsToldBy bound (Badly moves) (BadAfter n) =
 IsToldBy bound (Badly moves) Nothing = bound < moves → most_moves < moves
 IsToldBy bound TooMany told = told ≡ Nothing
 
+-- a cut that stands so has no serial run that offends; or, where it asks for none, no livelock
+abbrev pub AsksForLost : Standing → Bool → Type 0
+AsksForLost standing true =
+    (c : Component) (limits : Limits) (matrix : Matrix) → Settles c matrix
+    → IsStanding c limits matrix standing → IsWithoutOffence c matrix limits.serial
+AsksForLost standing false =
+    (c : Component) (limits : Limits) (matrix : Matrix) → Settles c matrix
+    → IsStanding c limits matrix standing → HasNoLivelock c limits matrix
+
 -- the cut that stands so has this livelock, or none
-abbrev pub SeeksLivelock : {E : Type 0} → Component → Matrix → Limits → Standing
+abbrev pub SeeksLivelock : {E : Type 0} → Component → Limits → Matrix → Standing
     → Result (Option (List Move)) E → Type 0
-SeeksLivelock c matrix limits standing result =
+SeeksLivelock c limits matrix standing result =
     IsStanding c limits matrix standing → IfOk result (IsLivelockIfAny c limits matrix)
 
 -- ---- at the end
-
--- no serial run offends
-abbrev pub IsWithoutOffence : Component → Matrix → ℕ → Type 0
-IsWithoutOffence c matrix serial = FromEachStart c matrix (λ s. NoOffence s serial)
 
 -- Where no cut fails: the first livelock is shown, or the first that is not clear; where there is
 -- neither, the beginnings of the serial histories are the set.

@@ -1,60 +1,164 @@
-//! Which cuts workers take.
+//! What workers take to do, one after the other.
+//!
+//! All that is to do stands in a row: each cut but the last, in order, which is judged and whose
+//! livelock is sought; then the livelock of the last cut; then the last cut, which is judged. That
+//! is the whole matrix, and takes longest. The calling thread takes from the end of the row: it
+//! judges the whole matrix, and seeks its livelock then. The other workers take from the start; the
+//! first of them that has no cut left seeks the livelock of the whole matrix meanwhile, before it
+//! rests and helps.
 
 ghost use Rattle.std.specs.Prelude.{◌<◌, IfSome};
 
-use std::sync::atomic::{AtomicU64, Ordering};
+use crate::judged::Judged;
+use crate::looked::Found;
+use crate::progress::Progress;
+use lu_graph::Helpers;
+use std::sync::atomic::{AtomicU8, AtomicU64, Ordering};
 
-/// From which end a worker takes cuts. Small cuts stand first, and are soon done, as most failures
-/// are found in them; the last one is the whole matrix, which takes longest.
+/// From which end of the row a worker takes what is to do. Small cuts stand first, and are soon
+/// done, as most failures are found in them.
 #[derive(Clone, Copy)]
 pub(crate) enum End {
     First,
     Last,
 }
 
-/// How many cuts were taken from either end, and the least that failed. What is found of a cut does
-/// not hang on that.
+/// What is to be found of a cut.
+#[derive(Clone, Copy)]
+pub(crate) enum Part {
+    /// How it is judged, and its first lost schedule, where that is asked for.
+    Both,
+
+    /// How it is judged.
+    Judged,
+
+    /// Its first lost schedule.
+    Lost,
+}
+
+/// What a worker takes: this part of the cut at this place.
+#[derive(Clone, Copy)]
+pub(crate) struct Task {
+    pub(crate) place: u64,
+    pub(crate) part: Part,
+}
+
+impl Task {
+    /// Its place among what is wanted: a lost schedule comes after its cut, as it is not wanted
+    /// where that fails.
+    pub(crate) fn order(&self) -> u64 {
+        match self.part {
+            Part::Both => self.place,
+            Part::Judged => self.place,
+            Part::Lost => self.place.saturating_add(1),
+        }
+    }
+}
+
+/// How much was taken from either end, after which cut nothing is wanted, and how many workers
+/// rest. What is found of a cut does not hang on that.
 #[derive(Drop)]
 pub(crate) struct Claims {
     first: AtomicU64,
     last: AtomicU64,
-    pub(crate) failed: AtomicU64,
+    pub(crate) last_wanted: AtomicU64,
+    resting: AtomicU8,
+
+    /// How many nodes were kept of the last cut, and how many of its two parts are done.
+    nodes: AtomicU64,
+    parts: AtomicU8,
 }
 
 impl Claims {
-    /// None is taken, and none has failed.
+    /// Nothing is taken, all is wanted, and no worker rests.
     pub(crate) fn new() -> Claims {
         Claims {
             first: AtomicU64::new(0),
             last: AtomicU64::new(0),
-            failed: AtomicU64::new(u64::MAX),
+            last_wanted: AtomicU64::new(u64::MAX),
+            resting: AtomicU8::new(0),
+            nodes: AtomicU64::new(0),
+            parts: AtomicU8::new(0),
         }
     }
 
-    /// The place of the next of so many cuts from this end, if both ends have not met.
-    pub(crate) fn next(&self, end: End, cuts: u64) -> Option<u64>
-        ensures { IfSome result (λ place. place < cuts) }
+    /// What is to do next from this end, of so many cuts, if both ends have not met.
+    pub(crate) fn next(&self, end: End, cuts: u64) -> Option<Task>
+        ensures { IfSome result (λ task. task.place < cuts) }
     {
         let (mine, others) = match end {
             End::First => (&self.first, &self.last),
             End::Last => (&self.last, &self.first),
         };
+        let last = cuts.checked_sub(1)?;
         let taken = mine.fetch_add(1, Ordering::SeqCst);
-        let left = cuts.saturating_sub(others.load(Ordering::SeqCst));
-        if taken >= left {
+        let all = cuts.saturating_add(1);
+        if taken >= all.saturating_sub(others.load(Ordering::SeqCst)) {
             return None;
         }
-        match end {
-            End::First => Some(taken),
-            End::Last => Some(cuts - 1 - taken),
+        let number = match end {
+            End::First => taken,
+            End::Last => cuts.saturating_sub(taken),
+        };
+        if number < last {
+            return Some(Task {
+                place: number,
+                part: Part::Both,
+            });
+        }
+        let part = if number == last {
+            Part::Lost
+        } else {
+            Part::Judged
+        };
+        Some(Task { place: last, part })
+    }
+
+    /// Notes that nothing is wanted after the cut at this place. Where two are noted at once, the
+    /// greater may stay, which costs some work and no more.
+    fn end_after(&self, place: u64) {
+        if place < self.last_wanted.load(Ordering::SeqCst) {
+            self.last_wanted.store(place, Ordering::SeqCst);
         }
     }
 
-    /// Notes that the cut at this place fails. Where two are noted at once, the greater may stay,
-    /// which costs some work and no more.
-    pub(crate) fn fail(&self, place: u64) {
-        if place < self.failed.load(Ordering::SeqCst) {
-            self.failed.store(place, Ordering::SeqCst);
+    /// Notes what was found of the cut at this place, of so many. Where it fails, nothing after it
+    /// is wanted. Where it asks for no lost schedule, mostly since a serial run offends, the last
+    /// cut will ask for none either.
+    pub(crate) fn note(&self, place: u64, cuts: u64, found: &Found) {
+        match &found.judged {
+            None => {}
+            Some(Judged::Failing(_)) => self.end_after(place),
+            Some(Judged::Stands(standing)) => {
+                if !standing.asks_for_lost() {
+                    self.end_after(cuts.saturating_sub(1));
+                }
+            }
         }
+    }
+
+    /// Tells that a cut is done, with this part, for which so many nodes were kept: the last cut
+    /// when both parts of it are.
+    pub(crate) fn tell<P: Progress>(&self, progress: &P, part: Part, nodes: u64) {
+        if matches!(part, Part::Both) {
+            progress.done(nodes);
+            return;
+        }
+        self.nodes.fetch_add(nodes, Ordering::SeqCst);
+        if self.parts.fetch_add(1, Ordering::SeqCst) == 1 {
+            progress.done(self.nodes.load(Ordering::SeqCst));
+        }
+    }
+
+    /// Notes that one worker more has nothing to take.
+    pub(crate) fn rest(&self) {
+        self.resting.fetch_add(1, Ordering::SeqCst);
+    }
+}
+
+/// The workers that rest help those that go on.
+impl Helpers for Claims {
+    fn count(&self) -> u8 {
+        self.resting.load(Ordering::SeqCst)
     }
 }

@@ -19,9 +19,12 @@ impl<'a, P: Progress> NodeCount<'a, P> {
         NodeCount { progress, nodes: 0 }
     }
 
-    /// Tells that the cut is done.
-    pub(crate) fn tell_done(&self) {
-        self.progress.done(self.nodes);
+    /// Tells that the cut is done, but where that was told when it was judged and no node was kept
+    /// since.
+    pub(crate) fn tell_done(&self, was_judged: bool) {
+        if !was_judged || self.nodes > 0 {
+            self.progress.done(self.nodes);
+        }
     }
 }
 
@@ -43,34 +46,34 @@ impl<'a, P: Progress> Watch for NodeCount<'a, P> {
     }
 }
 
-/// Counts the nodes of the cut at a place, and stops where a cut before it has failed: then nothing
-/// hangs on this one any more.
+/// Counts the nodes of a cut, and stops where what is sought there is no longer wanted.
 #[derive(Drop)]
 pub(crate) struct CutWatch<'a, P> {
     count: NodeCount<'a, P>,
 
-    /// The least place of a cut that has failed, or a greater number than any.
-    failed: &'a AtomicU64,
+    /// After which place nothing is wanted, and that of what is sought.
+    last_wanted: &'a AtomicU64,
     place: u64,
     stopped: bool,
 }
 
 impl<'a, P: Progress> CutWatch<'a, P> {
-    /// Nothing is kept of the cut at this place.
-    pub(crate) fn new(progress: &'a P, failed: &'a AtomicU64, place: u64) -> CutWatch<'a, P>
+    /// Nothing is kept of a cut, of which something is sought that has this place among what is
+    /// wanted.
+    pub(crate) fn new(progress: &'a P, last_wanted: &'a AtomicU64, place: u64) -> CutWatch<'a, P>
         ensures running { result.stopped ≡ false }
     {
         CutWatch {
             count: NodeCount::new(progress),
-            failed,
+            last_wanted,
             place,
             stopped: false,
         }
     }
 
-    /// Tells that the cut is done.
-    pub(crate) fn tell_done(&self) {
-        self.count.tell_done();
+    /// How many nodes were kept.
+    pub(crate) fn nodes(&self) -> u64 {
+        self.count.nodes
     }
 }
 
@@ -84,7 +87,7 @@ impl<'a, P: Progress> Watch for CutWatch<'a, P> {
     fn stop(&mut self) -> bool {
         self.count.nodes = self.count.nodes.saturating_add(1);
         self.count.progress.keep();
-        self.stopped = self.failed.load(Ordering::Relaxed) < self.place;
+        self.stopped = self.last_wanted.load(Ordering::Relaxed) < self.place;
         self.stopped
     }
 

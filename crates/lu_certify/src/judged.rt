@@ -1,6 +1,6 @@
 //! What is found of one cut.
 
-use lu_report::Report;
+use lu_report::{Finding, Report};
 
 /// What is found of a cut.
 #[derive(Drop)]
@@ -23,4 +23,26 @@ pub(crate) enum Standing {
 
     /// It is not clear. This is its report at the bounds.
     Open(Report),
+}
+
+impl Standing {
+    ghost use Rattle.lu_certify.specs.Places.{AsksForLost};
+
+    /// Whether it asks for the first lost schedule, which is its livelock then: no serial run
+    /// offends. Else it has none.
+    pub(crate) fn asks_for_lost(&self) -> bool
+        ensures { AsksForLost self.now result }
+    {
+        let report = match self {
+            Standing::FullPass => return false,
+            Standing::Proved => return true,
+            Standing::Open(report) => report,
+        };
+        match report.finding() {
+            Finding::SerialCut(_) => false,
+            Finding::Nondeterministic { .. } => false,
+            Finding::Fail { .. } => false,
+            Finding::Pass(_) => true,
+        }
+    }
 }

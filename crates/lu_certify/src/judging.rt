@@ -1,21 +1,18 @@
 //! Whether a cut fails, and how it stands where it does not.
 
-ghost use Rattle.std.specs.Prelude.{◌≡◌, ◌≤◌, false, true, IfErr, IfOk, OnOk};
-ghost use Rattle.lu_machine.specs.Starts.{CanRun};
+ghost use Rattle.std.specs.Prelude.{◌≡◌, false, true, IfErr, IfOk, OnOk};
 ghost use Rattle.lu_graph.specs.declared.halted.Halted.TheVariants.{Stopped};
-ghost use Rattle.lu_report.specs.Limits.{IsSerialBound, most_moves};
-ghost use Rattle.lu_replay.specs.Reports.{IsReport};
+ghost use Rattle.lu_certify.specs.Limited.{IsReportAtBounds, OfTest};
 ghost use Rattle.lu_certify.specs.Places.{IsJudged, IsJudgedFirst, IsLeftOpen, IsTold};
 
 use crate::judged::{Judged, Standing};
-use crate::limits::Limits;
+use crate::limited::LimitedTest;
 use crate::told::Told;
 use lu_component::{Component, Instr};
-use lu_graph::{Halted, Watch, ends_well_watched};
+use lu_graph::{Expanders, Halted, Watch, ends_well_watched};
 use lu_parallel::check_one;
 use lu_report::{Finding, Report};
 use lu_serial::{Learnt, learn};
-use lu_test::Matrix;
 use std::alloc::Global;
 
 /// Whether an instruction leads back to one that stands before it, or to itself.
@@ -45,24 +42,30 @@ pub(crate) fn may_spin(component: &Component) -> bool {
 }
 
 /// What the nodes of the cut tell.
-fn tell_by_nodes<W: Watch>(
+fn tell_by_nodes<W: Watch, E: Expanders>(
     alloc: Global,
-    component: &Component,
-    cut: &Matrix,
-    limits: Limits,
+    cut: LimitedTest<'_>,
     watch: &mut W,
+    expanders: &E,
 ) -> Result<Told, Halted>
-    requires of { CanRun component.now cut.now }
-    requires serial { IsSerialBound limits.serial }
     requires running { W.is_stopped watch.old ≡ false }
-    ensures told { IfOk result (IsTold component.now limits cut.now) }
+    ensures told { IfOk result (OfTest IsTold cut.entry) }
     ensures stopped { IfErr result (λ halted. halted ≡ Stopped → W.is_stopped watch.new ≡ true) }
     ensures running { OnOk result (W.is_stopped watch.new ≡ false) }
 {
-    match learn(alloc, alloc, component, cut, limits.serial)? {
+    match learn(alloc, alloc, cut.component, cut.matrix, cut.limits.serial)? {
         Learnt::Set(set) => {
-            let (bound, nodes) = (limits.bound, limits.nodes);
-            let ending = ends_well_watched(alloc, component, cut, &&set, bound, nodes, watch)?;
+            let (bound, nodes) = (cut.limits.bound, cut.limits.nodes);
+            let ending = ends_well_watched(
+                alloc,
+                cut.component,
+                cut.matrix,
+                &&set,
+                bound,
+                nodes,
+                watch,
+                expanders,
+            )?;
             Ok(Told::by(ending, bound))
         }
         Learnt::Cut(_) => Ok(Told::Nothing),
@@ -72,28 +75,26 @@ fn tell_by_nodes<W: Watch>(
 
 /// What is found of the cut by its nodes, where that is to be tried first; none where it is not, or
 /// where they tell nothing.
-pub(crate) fn judge_first<W: Watch>(
+pub(crate) fn judge_first<W: Watch, E: Expanders>(
     alloc: Global,
     is_tried: bool,
-    component: &Component,
-    cut: &Matrix,
-    limits: Limits,
+    cut: LimitedTest<'_>,
     watch: &mut W,
+    expanders: &E,
 ) -> Result<Option<Judged>, Halted>
-    requires of { CanRun component.now cut.now }
-    requires serial { IsSerialBound limits.serial }
     requires running { W.is_stopped watch.old ≡ false }
-    ensures judged { IfOk result (IsJudgedFirst is_tried component.now limits cut.now) }
+    ensures judged { IfOk result (OfTest (IsJudgedFirst is_tried) cut.entry) }
     ensures stopped { IfErr result (λ halted. halted ≡ Stopped → W.is_stopped watch.new ≡ true) }
     ensures running { OnOk result (W.is_stopped watch.new ≡ false) }
 {
     if !is_tried {
         return Ok(None);
     }
-    match tell_by_nodes(alloc, component, cut, limits, watch)? {
+    match tell_by_nodes(alloc, cut, watch, expanders)? {
         Told::AllGood => Ok(Some(Judged::Stands(Standing::Proved))),
         Told::BadAfter(moves) => {
-            let report = check_one(alloc, alloc, component, cut, moves, limits.serial)?;
+            let serial = cut.limits.serial;
+            let report = check_one(alloc, alloc, cut.component, cut.matrix, moves, serial)?;
             Ok(Some(Judged::Failing(report)))
         }
         Told::Nothing => Ok(None),
@@ -102,21 +103,18 @@ pub(crate) fn judge_first<W: Watch>(
 
 /// What is found of the cut that has this report at the bounds. Asks that its nodes tell nothing,
 /// where that was tried.
-pub(crate) fn judge_checked<W: Watch>(
+pub(crate) fn judge_checked<W: Watch, E: Expanders>(
     alloc: Global,
-    component: &Component,
-    cut: &Matrix,
+    cut: LimitedTest<'_>,
     report: Report,
     was_tried: bool,
-    limits: Limits,
     watch: &mut W,
+    expanders: &E,
 ) -> Result<Judged, Halted>
-    requires of { CanRun component.now cut.now }
-    requires serial { IsSerialBound limits.serial }
-    requires report { IsReport component.now cut.now limits.bound limits.serial report }
-    requires tried { was_tried ≡ true → IsLeftOpen component.now limits cut.now }
+    requires report { OfTest IsReportAtBounds cut report }
+    requires tried { was_tried ≡ true → OfTest IsLeftOpen cut }
     requires running { W.is_stopped watch.old ≡ false }
-    ensures judged { IfOk result (IsJudged component.now limits cut.now) }
+    ensures judged { IfOk result (OfTest IsJudged cut.entry) }
     ensures stopped { IfErr result (λ halted. halted ≡ Stopped → W.is_stopped watch.new ≡ true) }
     ensures running { OnOk result (W.is_stopped watch.new ≡ false) }
 {
@@ -126,7 +124,7 @@ pub(crate) fn judge_checked<W: Watch>(
     if report.is_full_pass() {
         return Ok(Judged::Stands(Standing::FullPass));
     }
-    match judge_first(alloc, !was_tried, component, cut, limits, watch)? {
+    match judge_first(alloc, !was_tried, cut, watch, expanders)? {
         Some(judged) => Ok(judged),
         None => Ok(Judged::Stands(Standing::Open(report))),
     }
@@ -134,27 +132,24 @@ pub(crate) fn judge_checked<W: Watch>(
 
 /// What is found of the cut, all on the calling thread. Its nodes are gone through first, where
 /// that is to be tried, and else where its schedules leave it open.
-pub(crate) fn judge<W: Watch>(
+pub(crate) fn judge<W: Watch, E: Expanders>(
     alloc: Global,
-    component: &Component,
-    cut: &Matrix,
+    cut: LimitedTest<'_>,
     nodes_first: bool,
-    limits: Limits,
     watch: &mut W,
+    expanders: &E,
 ) -> Result<Judged, Halted>
-    requires of { CanRun component.now cut.now }
-    requires bound { limits.bound ≤ most_moves }
-    requires serial { IsSerialBound limits.serial }
     requires running { W.is_stopped watch.old ≡ false }
-    ensures judged { IfOk result (IsJudged component.now limits cut.now) }
+    ensures judged { IfOk result (OfTest IsJudged cut.entry) }
     ensures stopped { IfErr result (λ halted. halted ≡ Stopped → W.is_stopped watch.new ≡ true) }
     ensures running { OnOk result (W.is_stopped watch.new ≡ false) }
 {
-    match judge_first(alloc, nodes_first, component, cut, limits, watch)? {
+    match judge_first(alloc, nodes_first, cut, watch, expanders)? {
         Some(judged) => Ok(judged),
         None => {
-            let report = check_one(alloc, alloc, component, cut, limits.bound, limits.serial)?;
-            judge_checked(alloc, component, cut, report, nodes_first, limits, watch)
+            let (bound, serial) = (cut.limits.bound, cut.limits.serial);
+            let report = check_one(alloc, alloc, cut.component, cut.matrix, bound, serial)?;
+            judge_checked(alloc, cut, report, nodes_first, watch, expanders)
         }
     }
 }

@@ -3,21 +3,23 @@
 ghost use Rattle.std.specs.Prelude.{IfOk};
 ghost use Rattle.lu_certify.specs.Looking.{IsTakenAt, KnowsAll, KnowsLess, KnowsMore, KnowsNone, KnowsOneMore};
 
-use crate::looked::{Looked, LookedAt};
+use crate::looked::{Found, FoundAt};
 use std::alloc::{AllocError, Global};
+use std::mem;
 
-/// Puts what was found of a cut at its place.
-fn put(known: &mut Vec<Option<Looked>>, one: LookedAt)
+/// Puts what was found of a cut at its place, with what is there.
+fn put(known: &mut Vec<Found>, one: FoundAt)
     ensures { KnowsOneMore known.old.items one known.new.items }
 {
     let place = one.place as usize;
     if place < known.len() {
-        known[place] = Some(one.looked);
+        let before = mem::replace(&mut known[place], Found::nothing());
+        known[place] = before.with(one.found);
     }
 }
 
 /// Puts what a worker found of each cut at its place.
-fn put_all(known: &mut Vec<Option<Looked>>, found: Vec<LookedAt>)
+fn put_all(known: &mut Vec<Found>, found: Vec<FoundAt>)
     ensures { KnowsMore known.old.items found.items known.new.items }
 {
     for one in found {
@@ -26,12 +28,12 @@ fn put_all(known: &mut Vec<Option<Looked>>, found: Vec<LookedAt>)
 }
 
 /// Nothing is known of so many cuts.
-fn none_known(alloc: Global, cuts: u64) -> Result<Vec<Option<Looked>>, AllocError>
+fn none_known(alloc: Global, cuts: u64) -> Result<Vec<Found>, AllocError>
     ensures { IfOk result (λ known. KnowsNone known.items) }
 {
     let mut known = Vec::new(alloc);
     for _ in 0..cuts {
-        known.push(None)?;
+        known.push(Found::nothing())?;
     }
     Ok(known)
 }
@@ -40,8 +42,8 @@ fn none_known(alloc: Global, cuts: u64) -> Result<Vec<Option<Looked>>, AllocErro
 pub(crate) fn known_by(
     alloc: Global,
     cuts: u64,
-    found: Vec<Vec<LookedAt>>,
-) -> Result<Vec<Option<Looked>>, AllocError>
+    found: Vec<Vec<FoundAt>>,
+) -> Result<Vec<Found>, AllocError>
     ensures { IfOk result (λ known. KnowsAll found.items known.items) }
 {
     let mut known = none_known(alloc, cuts)?;
@@ -52,12 +54,12 @@ pub(crate) fn known_by(
 }
 
 /// Takes out what is known of the cut at this place.
-pub(crate) fn take(known: &mut Vec<Option<Looked>>, place: u64) -> Option<Looked>
+pub(crate) fn take(known: &mut Vec<Found>, place: u64) -> Found
     ensures known { KnowsLess known.old.items known.new.items }
     ensures taken { IsTakenAt known.old.items place result }
 {
     if place as usize >= known.len() {
-        return None;
+        return Found::nothing();
     }
-    known[place as usize].take()
+    mem::replace(&mut known[place as usize], Found::nothing())
 }

@@ -24,6 +24,7 @@ mod judged;
 mod judging;
 mod known;
 pub mod laws;
+mod limited;
 mod limits;
 mod livelock;
 mod looked;

@@ -1,42 +1,63 @@
 //! The livelock of a cut.
 
-ghost use Rattle.std.specs.Prelude.{◌≡◌, IfErr, false, true};
-ghost use Rattle.lu_machine.specs.Starts.{CanRun};
+ghost use Rattle.std.specs.Prelude.{◌≡◌, IfErr, IfOk, IfSome, false, true};
 ghost use Rattle.lu_graph.specs.declared.halted.Halted.TheVariants.{Stopped};
-ghost use Rattle.lu_certify.specs.Places.{SeeksLivelock};
+ghost use Rattle.lu_certify.specs.Limited.{OfTest};
+ghost use Rattle.lu_certify.specs.Places.{IsFirstLostOf, SeeksLivelock};
 
 use crate::judged::Standing;
-use crate::limits::Limits;
-use lu_component::Component;
+use crate::limited::LimitedTest;
 use lu_graph::{Halted, Watch, first_lost_watched};
-use lu_report::Finding;
-use lu_test::{Matrix, Schedule};
+use lu_test::Schedule;
 use std::alloc::Global;
 
-/// The first schedule that leads to a state from which none ends, if there is one; none where a
-/// serial run offends or no schedule was cut.
-pub(crate) fn seek_livelock<W: Watch>(
+/// The first schedule of the cut that leads to a state from which none ends, if there is one.
+pub(crate) fn find_lost<W: Watch>(
     alloc: Global,
-    component: &Component,
-    cut: &Matrix,
-    standing: &Standing,
-    limits: Limits,
+    cut: LimitedTest<'_>,
     watch: &mut W,
 ) -> Result<Option<Schedule>, Halted>
-    requires runs { CanRun component.now cut.now }
     requires running { W.is_stopped watch.old ≡ false }
-    ensures livelock { SeeksLivelock component.now cut.now limits standing.now result }
+    ensures first { IfOk result (OfTest IsFirstLostOf cut.entry) }
     ensures stopped { IfErr result (λ halted. halted ≡ Stopped → W.is_stopped watch.new ≡ true) }
 {
-    let report = match standing {
-        Standing::FullPass => return Ok(None),
-        Standing::Proved => return first_lost_watched(alloc, component, cut, limits.nodes, watch),
-        Standing::Open(report) => report,
-    };
-    match report.finding() {
-        Finding::SerialCut(_) => Ok(None),
-        Finding::Nondeterministic { .. } => Ok(None),
-        Finding::Fail { .. } => Ok(None),
-        Finding::Pass(_) => first_lost_watched(alloc, component, cut, limits.nodes, watch),
+    first_lost_watched(alloc, cut.component, cut.matrix, cut.limits.nodes, watch)
+}
+
+/// The same schedule: what was found already, or else what is sought now.
+fn found_or_seek<W: Watch>(
+    alloc: Global,
+    cut: LimitedTest<'_>,
+    found: Option<Option<Schedule>>,
+    watch: &mut W,
+) -> Result<Option<Schedule>, Halted>
+    requires found { IfSome found (OfTest IsFirstLostOf cut) }
+    requires running { W.is_stopped watch.old ≡ false }
+    ensures first { IfOk result (OfTest IsFirstLostOf cut.entry) }
+    ensures stopped { IfErr result (λ halted. halted ≡ Stopped → W.is_stopped watch.new ≡ true) }
+{
+    match found {
+        Some(lost) => Ok(lost),
+        None => find_lost(alloc, cut, watch),
     }
+}
+
+/// The livelock of the cut that stands so, if it has one: its first lost schedule, which was found
+/// already or is sought now; none where a serial run offends or no schedule was cut.
+pub(crate) fn seek_livelock<W: Watch>(
+    alloc: Global,
+    cut: LimitedTest<'_>,
+    standing: &Standing,
+    found: Option<Option<Schedule>>,
+    watch: &mut W,
+) -> Result<Option<Schedule>, Halted>
+    requires found { IfSome found (OfTest IsFirstLostOf cut) }
+    requires running { W.is_stopped watch.old ≡ false }
+    ensures livelock { OfTest SeeksLivelock cut.entry standing.now result }
+    ensures stopped { IfErr result (λ halted. halted ≡ Stopped → W.is_stopped watch.new ≡ true) }
+{
+    if !standing.asks_for_lost() {
+        return Ok(None);
+    }
+    found_or_seek(alloc, cut, found, watch)
 }

@@ -1,6 +1,8 @@
 //! What was found of a cut that was looked at.
 
-use crate::judged::Standing;
+ghost use Rattle.std.specs.Prelude.{◌≡◌, None};
+
+use crate::judged::{Judged, Standing};
 use lu_report::Report;
 use lu_test::Schedule;
 
@@ -17,19 +19,46 @@ pub(crate) enum Looked {
     },
 }
 
-/// The same, with the place of the cut.
+/// What is found of a cut in parts, by one worker or by several.
 #[derive(Drop)]
-pub(crate) struct LookedAt {
-    pub(crate) place: u64,
-    pub(crate) looked: Looked,
+pub(crate) struct Found {
+    /// How it is judged, if it is judged already.
+    pub(crate) judged: Option<Judged>,
+
+    /// The first schedule that leads to a state from which none ends, or none where there is none;
+    /// if it was sought.
+    pub(crate) lost: Option<Option<Schedule>>,
 }
 
-impl Looked {
-    /// Whether it fails.
-    pub(crate) fn is_failing(&self) -> bool {
-        match self {
-            Looked::Failing(_) => true,
-            Looked::Stands { .. } => false,
+/// The same, with the place of the cut.
+#[derive(Drop)]
+pub(crate) struct FoundAt {
+    pub(crate) place: u64,
+    pub(crate) found: Found,
+}
+
+impl Found {
+    ghost use Rattle.lu_certify.specs.Looking.{FindsMore};
+
+    /// Nothing is found yet.
+    pub(crate) fn nothing() -> Found
+        ensures judged { result.judged ≡ None }
+        ensures lost { result.lost ≡ None }
+    {
+        Found {
+            judged: None,
+            lost: None,
+        }
+    }
+
+    /// The same with what was found besides.
+    pub(crate) fn with(self, more: Found) -> Found
+        ensures { FindsMore self more result }
+    {
+        let Found { judged, lost } = more;
+        Found {
+            judged: judged.or(self.judged),
+            lost: lost.or(self.lost),
         }
     }
 }

@@ -1,42 +1,38 @@
 //! Cuts that are looked at.
 
-ghost use Rattle.std.specs.Prelude.{◌≡◌, ◌≢◌, Ok, ◌<◌, ◌≤◌, IfErr, IfOk, IfSome, false, true};
-ghost use Rattle.lu_machine.specs.Starts.{CanRun};
+ghost use Rattle.std.specs.Prelude.{◌≡◌, ◌≢◌, Ok, ◌<◌, IfErr, IfOk, IfSome, OnOk, false, true};
 ghost use Rattle.lu_graph.specs.declared.halted.Halted.TheVariants.{Stopped};
-ghost use Rattle.lu_replay.specs.Reports.{IsReport};
-ghost use Rattle.lu_report.specs.Limits.{IsSerialBound, most_moves};
-ghost use Rattle.lu_certify.specs.Looking.{AreLookedAt, IsLooked, IsLookedAt};
-ghost use Rattle.lu_certify.specs.Places.{IsJudged, cut_count};
+ghost use Rattle.lu_certify.specs.Limited.{AreFoundIn, IsFoundIn, IsReportAtBounds, OfTest};
+ghost use Rattle.lu_certify.specs.Looking.{IsFound, IsLooked};
+ghost use Rattle.lu_certify.specs.Places.{IsFirstLostOf, IsJudged, cut_count};
 
-use crate::claims::{Claims, End};
+use crate::claims::{Claims, End, Part, Task};
 use crate::cut_watch::{CutWatch, NodeCount};
 use crate::cuts::{count_cuts, cut_at};
 use crate::judged::Judged;
 use crate::judging::{judge, judge_checked};
-use crate::limits::Limits;
-use crate::livelock::seek_livelock;
-use crate::looked::{Looked, LookedAt};
+use crate::limited::LimitedTest;
+use crate::livelock::{find_lost, seek_livelock};
+use crate::looked::{Found, FoundAt, Looked};
 use crate::progress::Progress;
-use lu_component::Component;
-use lu_graph::{Halted, Watch};
+use lu_graph::{Alone, Expanders, Halted, Watch};
 use lu_report::Report;
-use lu_test::Matrix;
+use lu_test::Schedule;
 use std::alloc::{AllocError, Global};
 
 /// What was found of the cut that is judged so: its livelock too, where one is to be sought.
 fn with_livelock<W: Watch>(
     alloc: Global,
-    component: &Component,
-    cut: &Matrix,
+    cut: LimitedTest<'_>,
     judged: Judged,
+    lost: Option<Option<Schedule>>,
     is_sought: bool,
-    limits: Limits,
     watch: &mut W,
 ) -> Result<Looked, Halted>
-    requires of { CanRun component.now cut.now }
-    requires judged { IsJudged component.now limits cut.now judged }
+    requires judged { OfTest IsJudged cut judged }
+    requires lost { IfSome lost (OfTest IsFirstLostOf cut) }
     requires running { W.is_stopped watch.old ≡ false }
-    ensures looked { IfOk result (IsLooked is_sought component.now limits cut.now) }
+    ensures looked { IfOk result (OfTest (IsLooked is_sought) cut.entry) }
     ensures stopped { IfErr result (λ halted. halted ≡ Stopped → W.is_stopped watch.new ≡ true) }
 {
     match judged {
@@ -44,53 +40,71 @@ fn with_livelock<W: Watch>(
         Judged::Stands(standing) => {
             let mut livelock = None;
             if is_sought {
-                livelock = seek_livelock(alloc, component, cut, &standing, limits, watch)?;
+                livelock = seek_livelock(alloc, cut, &standing, lost, watch)?;
             }
             Ok(Looked::Stands { standing, livelock })
         }
     }
 }
 
-/// Looks at a cut: by its nodes first, where that is to be tried.
-fn look<W: Watch>(
+/// How the cut is judged: as was found already, or else by its nodes first, where that is to be
+/// tried.
+fn found_or_judge<W: Watch, E: Expanders>(
     alloc: Global,
-    component: &Component,
-    cut: &Matrix,
+    cut: LimitedTest<'_>,
+    found: Option<Judged>,
+    nodes_first: bool,
+    watch: &mut W,
+    expanders: &E,
+) -> Result<Judged, Halted>
+    requires found { IfSome found (OfTest IsJudged cut) }
+    requires running { W.is_stopped watch.old ≡ false }
+    ensures judged { IfOk result (OfTest IsJudged cut.entry) }
+    ensures stopped { IfErr result (λ halted. halted ≡ Stopped → W.is_stopped watch.new ≡ true) }
+    ensures running { OnOk result (W.is_stopped watch.new ≡ false) }
+{
+    match found {
+        Some(judged) => Ok(judged),
+        None => judge(alloc, cut, nodes_first, watch, expanders),
+    }
+}
+
+/// Looks at a cut of which this was found already.
+fn look<W: Watch, E: Expanders>(
+    alloc: Global,
+    cut: LimitedTest<'_>,
+    found: Found,
     nodes_first: bool,
     is_sought: bool,
-    limits: Limits,
     watch: &mut W,
+    expanders: &E,
 ) -> Result<Looked, Halted>
-    requires of { CanRun component.now cut.now }
-    requires bound { limits.bound ≤ most_moves }
-    requires serial { IsSerialBound limits.serial }
+    requires found { OfTest IsFound cut found }
     requires running { W.is_stopped watch.old ≡ false }
-    ensures looked { IfOk result (IsLooked is_sought component.now limits cut.now) }
+    ensures looked { IfOk result (OfTest (IsLooked is_sought) cut.entry) }
     ensures stopped { IfErr result (λ halted. halted ≡ Stopped → W.is_stopped watch.new ≡ true) }
 {
-    let judged = judge(alloc, component, cut, nodes_first, limits, watch)?;
-    with_livelock(alloc, component, cut, judged, is_sought, limits, watch)
+    let Found { judged, lost } = found;
+    let judged = found_or_judge(alloc, cut, judged, nodes_first, watch, expanders)?;
+    with_livelock(alloc, cut, judged, lost, is_sought, watch)
 }
 
 /// Looks at a cut that has this report at the bounds.
-fn look_checked<W: Watch>(
+fn look_checked<W: Watch, E: Expanders>(
     alloc: Global,
-    component: &Component,
-    cut: &Matrix,
+    cut: LimitedTest<'_>,
     report: Report,
     is_sought: bool,
-    limits: Limits,
     watch: &mut W,
+    expanders: &E,
 ) -> Result<Looked, Halted>
-    requires of { CanRun component.now cut.now }
-    requires serial { IsSerialBound limits.serial }
-    requires report { IsReport component.now cut.now limits.bound limits.serial report }
+    requires report { OfTest IsReportAtBounds cut report }
     requires running { W.is_stopped watch.old ≡ false }
-    ensures looked { IfOk result (IsLooked is_sought component.now limits cut.now) }
+    ensures looked { IfOk result (OfTest (IsLooked is_sought) cut.entry) }
     ensures stopped { IfErr result (λ halted. halted ≡ Stopped → W.is_stopped watch.new ≡ true) }
 {
-    let judged = judge_checked(alloc, component, cut, report, false, limits, watch)?;
-    with_livelock(alloc, component, cut, judged, is_sought, limits, watch)
+    let judged = judge_checked(alloc, cut, report, false, watch, expanders)?;
+    with_livelock(alloc, cut, judged, None, is_sought, watch)
 }
 
 /// What was found, where no watch stopped the look.
@@ -105,120 +119,166 @@ fn unhalted(found: Result<Looked, Halted>) -> Result<Looked, AllocError>
     }
 }
 
-/// What was taken as found of the cut, or else what a look at it says, on the calling thread.
-pub(crate) fn looked_or_look<P: Progress>(
+/// Looks at a cut of which this was found already, on the calling thread.
+pub(crate) fn look_further<P: Progress>(
     alloc: Global,
-    component: &Component,
-    cut: &Matrix,
-    taken: Option<Looked>,
+    cut: LimitedTest<'_>,
+    found: Found,
     nodes_first: bool,
     is_sought: bool,
-    limits: Limits,
     progress: &P,
 ) -> Result<Looked, AllocError>
-    requires of { CanRun component.now cut.now }
-    requires bound { limits.bound ≤ most_moves }
-    requires serial { IsSerialBound limits.serial }
-    requires taken { IfSome taken (IsLooked true component.now limits cut.now) }
-    ensures { IfOk result (IsLooked is_sought component.now limits cut.now) }
+    requires found { OfTest IsFound cut found }
+    ensures { IfOk result (OfTest (IsLooked is_sought) cut.entry) }
 {
-    if let Some(looked) = taken {
-        return Ok(looked);
-    }
+    let was_judged = found.judged.is_some();
     let mut count = NodeCount::new(progress);
     let result = look(
         alloc,
-        component,
         cut,
+        found,
         nodes_first,
         is_sought,
-        limits,
         &mut count,
+        &Alone,
     );
-    count.tell_done();
+    count.tell_done(was_judged);
     unhalted(result)
 }
 
 /// Looks at a cut that has this report at the bounds, on the calling thread.
 pub(crate) fn look_after_check<P: Progress>(
     alloc: Global,
-    component: &Component,
-    cut: &Matrix,
+    cut: LimitedTest<'_>,
     report: Report,
     is_sought: bool,
-    limits: Limits,
     progress: &P,
 ) -> Result<Looked, AllocError>
-    requires of { CanRun component.now cut.now }
-    requires serial { IsSerialBound limits.serial }
-    requires report { IsReport component.now cut.now limits.bound limits.serial report }
-    ensures { IfOk result (IsLooked is_sought component.now limits cut.now) }
+    requires report { OfTest IsReportAtBounds cut report }
+    ensures { IfOk result (OfTest (IsLooked is_sought) cut.entry) }
 {
     let mut count = NodeCount::new(progress);
-    let result = look_checked(alloc, component, cut, report, is_sought, limits, &mut count);
-    count.tell_done();
+    let result = look_checked(alloc, cut, report, is_sought, &mut count, &Alone);
+    count.tell_done(false);
     unhalted(result)
 }
 
-/// Looks at the cut at a place, at its nodes first.
-fn look_at<W: Watch>(
+/// What is found of the cut that is judged so: its first lost schedule too, where it asks for one.
+fn with_lost<W: Watch>(
     alloc: Global,
-    component: &Component,
-    matrix: &Matrix,
-    place: u64,
-    limits: Limits,
+    cut: LimitedTest<'_>,
+    judged: Judged,
     watch: &mut W,
-) -> Result<Looked, Halted>
-    requires of { CanRun component.now matrix.now }
-    requires bound { limits.bound ≤ most_moves }
-    requires serial { IsSerialBound limits.serial }
-    requires place { place < cut_count matrix.now.threads }
+) -> Result<Found, Halted>
+    requires judged { OfTest IsJudged cut judged }
     requires running { W.is_stopped watch.old ≡ false }
-    ensures { IfOk result (IsLookedAt component.now matrix.now limits place) }
+    ensures { IfOk result (OfTest IsFound cut.entry) }
 {
-    let cut = cut_at(alloc, matrix, place)?;
-    look(alloc, component, &cut, true, true, limits, watch)
+    let lost = match &judged {
+        Judged::Failing(_) => None,
+        Judged::Stands(standing) => {
+            if standing.asks_for_lost() {
+                Some(find_lost(alloc, cut, watch)?)
+            } else {
+                None
+            }
+        }
+    };
+    Ok(Found {
+        judged: Some(judged),
+        lost,
+    })
 }
 
-/// The life of a worker: it looks at cuts, from this end on, until none is left, and lists what it
-/// found of each. A cut that is in no list was left out since one before it fails, or since memory
-/// was refused.
-pub(crate) fn look_at_cuts<P: Progress>(
+/// Finds a part of what is to be known of a cut, by its nodes first.
+fn find_part<W: Watch, E: Expanders>(
     alloc: Global,
-    component: &Component,
-    matrix: &Matrix,
-    limits: Limits,
+    cut: LimitedTest<'_>,
+    part: Part,
+    watch: &mut W,
+    expanders: &E,
+) -> Result<Found, Halted>
+    requires running { W.is_stopped watch.old ≡ false }
+    ensures { IfOk result (OfTest IsFound cut.entry) }
+{
+    match part {
+        Part::Both => {
+            let judged = judge(alloc, cut, true, watch, expanders)?;
+            with_lost(alloc, cut, judged, watch)
+        }
+        Part::Judged => {
+            let judged = judge(alloc, cut, true, watch, expanders)?;
+            Ok(Found {
+                judged: Some(judged),
+                lost: None,
+            })
+        }
+        Part::Lost => {
+            let lost = find_lost(alloc, cut, watch)?;
+            Ok(Found {
+                judged: None,
+                lost: Some(lost),
+            })
+        }
+    }
+}
+
+/// Does what is to be done at the cut of the task.
+fn find_at<W: Watch, E: Expanders>(
+    alloc: Global,
+    test: LimitedTest<'_>,
+    task: Task,
+    watch: &mut W,
+    expanders: &E,
+) -> Result<Found, Halted>
+    requires place { task.place < cut_count test.matrix.now.threads }
+    requires running { W.is_stopped watch.old ≡ false }
+    ensures { IfOk result (IsFoundIn test.entry task.place) }
+{
+    let matrix = cut_at(alloc, test.matrix, task.place)?;
+    let cut = LimitedTest {
+        component: test.component,
+        matrix: &matrix,
+        limits: test.limits,
+    };
+    find_part(alloc, cut, task.part, watch, expanders)
+}
+
+/// The life of a worker: it takes what is to do, from this end on, until nothing is left, and lists
+/// what it found of each cut. What is in no list was left out since it is not wanted, or since
+/// memory was refused.
+pub(crate) fn look_at_cuts<P: Progress, E: Expanders>(
+    alloc: Global,
+    test: LimitedTest<'_>,
     claims: &Claims,
     end: End,
     progress: &P,
-) -> Vec<LookedAt>
-    requires of { CanRun component.now matrix.now }
-    requires bound { limits.bound ≤ most_moves }
-    requires serial { IsSerialBound limits.serial }
-    ensures { AreLookedAt component.now matrix.now limits result.items }
+    expanders: &E,
+) -> Vec<FoundAt>
+    ensures { AreFoundIn test.entry result }
 {
-    let cuts = count_cuts(matrix);
-    let mut found = Vec::new(alloc);
-    for _ in 0..cuts {
-        let Some(place) = claims.next(end, cuts) else {
-            return found;
+    let cuts = count_cuts(test.matrix);
+    let mut list = Vec::new(alloc);
+    for _ in 0..cuts.saturating_add(1) {
+        let Some(task) = claims.next(end, cuts) else {
+            claims.rest();
+            return list;
         };
-        let mut watch = CutWatch::new(progress, &claims.failed, place);
-        let result = look_at(alloc, component, matrix, place, limits, &mut watch);
-        watch.tell_done();
+        let mut watch = CutWatch::new(progress, &claims.last_wanted, task.order());
+        let result = find_at(alloc, test, task, &mut watch, expanders);
+        claims.tell(progress, task.part, watch.nodes());
         match result {
-            Ok(looked) => {
-                if looked.is_failing() {
-                    claims.fail(place);
+            Ok(found) => {
+                let place = task.place;
+                claims.note(place, cuts, &found);
+                if list.reserve(1).is_err() {
+                    return list;
                 }
-                if found.reserve(1).is_err() {
-                    return found;
-                }
-                found.push_reserved(LookedAt { place, looked });
+                list.push_reserved(FoundAt { place, found });
             }
             Err(Halted::Stopped) => {}
-            Err(Halted::Memory) => return found,
+            Err(Halted::Memory) => return list,
         }
     }
-    found
+    list
 }

@@ -5,12 +5,13 @@ ghost use Rattle.lu_machine.specs.Starts.{CanRun};
 ghost use Rattle.lu_parallel.specs.declared.fault.CheckFault.TheVariants.{Memory};
 ghost use Rattle.lu_certify.specs.Certificates.{IsCertificateWithin, NamesCutOf};
 ghost use Rattle.lu_certify.specs.Laws.{Decides};
-ghost use Rattle.lu_certify.specs.Looking.{IsLookedWithin};
+ghost use Rattle.lu_certify.specs.Limited.{IsCertifiedWithin, IsLookedWithin};
 
 use crate::certificate::Certificate;
 use crate::certifying::{certify_knowing, conclude};
 use crate::cuts::{count_cuts, cut_at};
 use crate::judging::may_spin;
+use crate::limited::LimitedTest;
 use crate::limits::Limits;
 use crate::looked::Looked;
 use crate::looking::look_after_check;
@@ -18,6 +19,7 @@ use crate::progress::{Progress, Untold};
 use crate::sharing::look_by_workers;
 use crate::so_far::SoFar;
 use lu_component::Component;
+use lu_machine::Test;
 use lu_parallel::{CheckFault, Gate, Options, check};
 use lu_test::Matrix;
 use std::alloc::Global;
@@ -30,18 +32,21 @@ fn check_cut<R: Threads + Wait, G: Gate, P: Progress>(
     alloc: Global,
     gate: &G,
     progress: &P,
-    component: &Component,
-    cut: &Matrix,
+    cut: Test<'_>,
     is_sought: bool,
     options: Options,
     nodes: u32,
 ) -> Result<Looked, CheckFault>
-    requires { CanRun component.now cut.now }
-    ensures { IfOk result (IsLookedWithin component.now is_sought options nodes cut.now) }
+    ensures { IfOk result (IsLookedWithin cut.entry is_sought options nodes) }
 {
-    let limits = Limits::of(options, nodes);
-    let report = check(rt, alloc, gate, component, cut, options)?;
-    Ok(look_after_check(alloc, component, cut, report, is_sought, limits, progress)?)
+    let Test { component, matrix } = cut;
+    let report = check(rt, alloc, gate, component, matrix, options)?;
+    let cut = LimitedTest {
+        component,
+        matrix,
+        limits: Limits::of(options, nodes),
+    };
+    Ok(look_after_check(alloc, cut, report, is_sought, progress)?)
 }
 
 /// The certificate, by as many workers as the options say.
@@ -50,47 +55,46 @@ fn certify_cuts<R: Threads + Wait, G: Gate, P: Progress>(
     alloc: Global,
     gate: &G,
     progress: &P,
-    component: &Component,
-    matrix: &Matrix,
+    test: Test<'_>,
     options: Options,
     nodes: u32,
 ) -> Result<Certificate, CheckFault>
-    requires { CanRun component.now matrix.now }
-    ensures certificate { IfOk result (IsCertificateWithin component.now matrix.now options nodes) }
-    ensures decides { IfOk result (Decides component.now matrix.now) }
-    ensures of { IfOk result (NamesCutOf component.now) }
+    ensures certificate { IfOk result (IsCertifiedWithin test.entry options nodes) }
+    ensures decides { IfOk result (Decides test.entry.component.now test.entry.matrix.now) }
+    ensures of { IfOk result (NamesCutOf test.entry.component.now) }
     ensures alone { IfErr result (λ fault. options.workers ≡ 1 → fault ≡ Memory) }
 {
-    let limits = Limits::of(options, nodes);
-    let cuts = count_cuts(matrix);
+    let limited = LimitedTest {
+        component: test.component,
+        matrix: test.matrix,
+        limits: Limits::of(options, nodes),
+    };
     if options.workers() == 1 {
-        let none = Vec::new(alloc);
-        return Ok(certify_knowing(alloc, component, matrix, limits, none, progress)?);
+        return Ok(certify_knowing(alloc, limited, Vec::new(alloc), progress)?);
     }
-    if may_spin(component) {
-        let workers = options.workers();
-        let known = look_by_workers(rt, alloc, progress, component, matrix, limits, workers)?;
-        return Ok(certify_knowing(alloc, component, matrix, limits, known, progress)?);
+    if may_spin(test.component) {
+        let known = look_by_workers(rt, alloc, progress, limited, options.workers())?;
+        return Ok(certify_knowing(alloc, limited, known, progress)?);
     }
+    let cuts = count_cuts(test.matrix);
     let mut so_far = SoFar::Clear;
     for place in 0..cuts {
-        let cut = cut_at(alloc, matrix, place)?;
+        let matrix = cut_at(alloc, test.matrix, place)?;
+        let cut = Test {
+            component: test.component,
+            matrix: &matrix,
+        };
         let is_sought = !so_far.is_lost();
-        match check_cut(
-            rt, alloc, gate, progress, component, &cut, is_sought, options, nodes,
-        )? {
+        match check_cut(rt, alloc, gate, progress, cut, is_sought, options, nodes)? {
             Looked::Failing(report) => {
-                return Ok(Certificate::NotLinearizable {
-                    matrix: cut,
-                    report,
-                });
+                return Ok(Certificate::NotLinearizable { matrix, report });
             }
             Looked::Stands { standing, livelock } => {
-                so_far = so_far.after(cut, livelock, standing);
+                so_far = so_far.after(matrix, livelock, standing);
             }
         }
     }
-    Ok(conclude(alloc, component, matrix, limits.serial, so_far)?)
+    Ok(conclude(alloc, limited, so_far)?)
 }
 
 /// Whether the answer is that it is not known.
@@ -123,7 +127,8 @@ pub fn certify_with_progress<R: Threads + Wait, G: Gate, P: Progress>(
     ensures alone { IfErr result (λ fault. options.workers ≡ 1 → fault ≡ Memory) }
 {
     progress.begin(count_cuts(matrix));
-    let answer = certify_cuts(rt, alloc, gate, progress, component, matrix, options, nodes);
+    let test = Test { component, matrix };
+    let answer = certify_cuts(rt, alloc, gate, progress, test, options, nodes);
     progress.end(is_undecided(&answer));
     answer
 }

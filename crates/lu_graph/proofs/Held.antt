@@ -5,7 +5,8 @@ use Rattle.std.specs.Bool.{beq}
 use Rattle.std.specs.List.{list_any}
 use Rattle.std.proofs.lemmas.List.{append-nil, length_push}
 use Rattle.std.proofs.lemmas.List.Elements.{All-cons, All-nil}
-use Rattle.std.proofs.lemmas.Option.{slice_get_within}
+use Rattle.std.proofs.lemmas.Bool.{cases_lt}
+use Rattle.std.proofs.lemmas.Option.{slice_get_past, slice_get_within}
 use Rattle.indexmap.specs.IndexSet.{insert_key}
 use Rattle.lu_machine.specs.States.{State}
 use Rattle.lu_graph.specs.declared.holding.Nodes.{Nodes}
@@ -22,12 +23,13 @@ use Rattle.lu_graph.specs.Rows.{Grow, IsRowAt, IsRowOf, KnowsDead}
 use Rattle.lu_graph.proofs.Among.{at_either, at_last, only_one}
 use Rattle.lu_graph.proofs.Many.{some_at}
 use Rattle.lu_graph.proofs.Numbers.{number_stays}
+use Rattle.lu_graph.proofs.Possible.{same_list}
 use Rattle.lu_graph.proofs.Recalled.{left_none}
 use Rattle.lu_graph.proofs.StatesAlike.{from_table}
 use Rattle.lu_graph.proofs.Same.{live_alike, one_node, row_eq, row_of_stays, same_row, still_live}
 
 -- where one passes a test, it stands somewhere
-found_at : {A : Type 0} (test : A → Bool) (xs : List A) → list_any test xs ≡ true → (i : ℕ) × (x : A) × (slice_get xs i ≡ Some x) × (test x ≡ true)
+pub found_at : {A : Type 0} (test : A → Bool) (xs : List A) → list_any test xs ≡ true → (i : ℕ) × (x : A) × (slice_get xs i ≡ Some x) × (test x ≡ true)
 found_at test [] h = absurd (cc)
 found_at test (x ∷ xs) h = by (test x) refl (found_at test xs) h
   where
@@ -36,7 +38,7 @@ found_at test (x ∷ xs) h = by (test x) refl (found_at test xs) h
     by false e rest g = let r = rest g in (suc r.0, r.1, r.2, r.3)
 
 -- it is new, so it goes last
-put_last : (row : Row) (rows new : List Row) (added : Bool) → added ≡ true → added ≡ not (list_any (row_eq row) rows) → new ≡ insert_key row_eq rows row → new ≡ rows ++ row ∷ []
+pub put_last : (row : Row) (rows new : List Row) (added : Bool) → added ≡ true → added ≡ not (list_any (row_eq row) rows) → new ≡ insert_key row_eq rows row → new ≡ rows ++ row ∷ []
 put_last row rows new added so is keys = keys ∙ ap (λ b. if b then rows else rows ++ row ∷ []) (is_not (list_any (row_eq row) rows) (sym is ∙ so))
   where
     is_not : (b : Bool) → not b ≡ true → b ≡ false
@@ -44,7 +46,7 @@ put_last row rows new added so is keys = keys ∙ ap (λ b. if b then rows else 
     is_not false h = refl
 
 -- it is there, so nothing changes
-put_nowhere : (row : Row) (rows new : List Row) (added : Bool) → added ≡ false → added ≡ not (list_any (row_eq row) rows) → new ≡ insert_key row_eq rows row → (list_any (row_eq row) rows ≡ true) × (new ≡ rows)
+pub put_nowhere : (row : Row) (rows new : List Row) (added : Bool) → added ≡ false → added ≡ not (list_any (row_eq row) rows) → new ≡ insert_key row_eq rows row → (list_any (row_eq row) rows ≡ true) × (new ≡ rows)
 put_nowhere row rows new added not_so is keys =
     let found = is_so (list_any (row_eq row) rows) (sym is ∙ not_so) in
     (found, keys ∙ ap (λ b. if b then rows else rows ++ row ∷ []) found)
@@ -77,7 +79,7 @@ module _ (s : State) (alive : List Bool) (number : ℕ) (before parts : Parts) (
         )
 
     -- and what has its row stands for it
-    stands_for : (kept : Kept) → IsRowOf parts kept row → StandsFor s alive kept
+    pub stands_for : (kept : Kept) → IsRowOf parts kept row → StandsFor s alive kept
     stands_for kept is = subst (StandsFor s alive) (one_node parts node kept row row_of_it is) stands_so
 
   -- the first
@@ -101,50 +103,71 @@ hold_grown members old parts list grown left hold = record {
   left = left;
 }
 
--- one more row of the same parts
-pub held_put : (members : List (Vec SerialOp)) (old new : Nodes) (list : List Kept) (kept : Kept) (row : Row) → new.parts ≡ old.parts → new.rows.keys ≡ old.rows.keys ++ row ∷ [] → IsRowOf old.parts kept row → Hold members old list → Hold members new (list ++ kept ∷ [])
-held_put members old new list kept row same_parts rows its hold =
+-- These are the rows of a list, in order, by these parts.
+pub record HoldRows (members : List (Vec SerialOp)) (parts : Parts) (keys : List Row) (list : List Kept) : Type 0 where
+  pub many : length keys ≡ length list
+  pub rows : (i : ℕ) (row : Row) (kept : Kept) → slice_get keys i ≡ Some row → slice_get list i ≡ Some kept → IsRowOf parts kept row
+  pub left : AreLeft members parts.alive
+
+pub rows_of_hold : (members : List (Vec SerialOp)) (nodes : Nodes) (list : List Kept) → Hold members nodes list → HoldRows members nodes.parts nodes.rows.keys list
+rows_of_hold members nodes list hold = record { many = hold.many; rows = hold.rows; left = hold.left }
+
+pub hold_of_rows : (members : List (Vec SerialOp)) (nodes : Nodes) (parts : Parts) (keys : List Row) (list : List Kept) → nodes.parts ≡ parts → nodes.rows.keys ≡ keys → HoldRows members parts keys list → Hold members nodes list
+hold_of_rows members nodes parts keys list same_parts same hold = record {
+  many = ap length same ∙ hold.many;
+  rows = λ i r k p q. subst (λ x. IsRowOf x k r) (sym same_parts) (hold.rows i r k (subst (λ x. slice_get x i ≡ Some r) same p) q);
+  left = subst (λ (x : Parts). AreLeft members x.alive) (sym same_parts) hold.left;
+}
+
+-- one more row
+pub rows_put : (members : List (Vec SerialOp)) (parts : Parts) (keys : List Row) (list : List Kept) (kept : Kept) (row : Row) → IsRowOf parts kept row → HoldRows members parts keys list → HoldRows members parts (keys ++ row ∷ []) (list ++ kept ∷ [])
+rows_put members parts keys list kept row its hold =
     let many = hold.many in
-    let first = length_push old.rows.keys row in
+    let first = length_push keys row in
     let second = length_push list kept in
-    let long = ap length rows in
     record {
-      many = omega (arith, many, first, second, long);
+      many = omega (arith, many, first, second);
       rows = λ i r k p q.
-          elim (at_either old.rows.keys (row ∷ []) i r (subst (λ x. slice_get x i ≡ Some r) rows p)) as (λ _. IsRowOf new.parts k r) [
+          elim (at_either keys (row ∷ []) i r p) as (λ _. IsRowOf parts k r) [
             | inl (lt, there) ↦
-                elim (at_either list (kept ∷ []) i k q) as (λ _. IsRowOf new.parts k r) [
-                  | inl (less, here) ↦ subst (λ x. IsRowOf x k r) (sym same_parts) (hold.rows i r k there here)
+                elim (at_either list (kept ∷ []) i k q) as (λ _. IsRowOf parts k r) [
+                  | inl (less, here) ↦ hold.rows i r k there here
                   | inr (j, e, here) ↦ absurd (omega (arith, lt, e, many))
                 ]
             | inr (m, e, there) ↦
-                elim (at_either list (kept ∷ []) i k q) as (λ _. IsRowOf new.parts k r) [
+                elim (at_either list (kept ∷ []) i k q) as (λ _. IsRowOf parts k r) [
                   | inl (less, here) ↦ absurd (omega (arith, less, e, many))
                   | inr (j, f, here) ↦
                       (let one = only_one row m r there in
                       let two = only_one kept j k here in
-                      subst (λ x. IsRowOf x k r) (sym same_parts) (subst (λ x. IsRowOf old.parts x r) two.1 (subst (IsRowOf old.parts kept) one.1 its)))
+                      subst (λ x. IsRowOf parts x r) two.1 (subst (IsRowOf parts kept) one.1 its))
                 ]
           ];
-      left = subst (λ (x : Parts). AreLeft members x.alive) (sym same_parts) hold.left;
+      left = hold.left;
     }
+
+-- the node of a row that is there
+pub rows_there : (members : List (Vec SerialOp)) (parts : Parts) (keys : List Row) (list : List Kept) (row : Row) → HoldRows members parts keys list → list_any (row_eq row) keys ≡ true → (i : ℕ) × (kept : Kept) × (slice_get list i ≡ Some kept) × IsRowOf parts kept row
+rows_there members parts keys list row hold found =
+    let one = found_at (row_eq row) keys found in
+    let within = slice_get_within keys one.0 one.1 one.2 in
+    let kept = some_at list one.0 (let many = hold.many in omega (arith, within, many)) in
+    let same : row ≡ one.1 = (same_row row one.1).0 one.3 in
+    (one.0, kept.0, kept.1, subst (IsRowOf parts kept.0) (sym same) (hold.rows one.0 one.1 kept.0 one.2 kept.1))
+
+-- one more row of the same parts
+pub held_put : (members : List (Vec SerialOp)) (old new : Nodes) (list : List Kept) (kept : Kept) (row : Row) → new.parts ≡ old.parts → new.rows.keys ≡ old.rows.keys ++ row ∷ [] → IsRowOf old.parts kept row → Hold members old list → Hold members new (list ++ kept ∷ [])
+held_put members old new list kept row same_parts rows its hold =
+    hold_of_rows members new old.parts (old.rows.keys ++ row ∷ []) (list ++ kept ∷ []) same_parts rows
+    (rows_put members old.parts old.rows.keys list kept row its (rows_of_hold members old list hold))
 
 -- the same rows of the same parts
 pub held_same : (members : List (Vec SerialOp)) (old new : Nodes) (list : List Kept) → new.parts ≡ old.parts → new.rows.keys ≡ old.rows.keys → Hold members old list → Hold members new list
-held_same members old new list same_parts rows hold = record {
-  many = ap length rows ∙ hold.many;
-  rows = λ i r k p q. subst (λ x. IsRowOf x k r) (sym same_parts) (hold.rows i r k (subst (λ x. slice_get x i ≡ Some r) rows p) q);
-  left = subst (λ (x : Parts). AreLeft members x.alive) (sym same_parts) hold.left;
-}
+held_same members old new list same_parts rows hold = hold_of_rows members new old.parts old.rows.keys list same_parts rows (rows_of_hold members old list hold)
 
 -- the node of a row that is there
 pub node_there : (members : List (Vec SerialOp)) (nodes : Nodes) (list : List Kept) (row : Row) → Hold members nodes list → list_any (row_eq row) nodes.rows.keys ≡ true → (i : ℕ) × (kept : Kept) × (slice_get list i ≡ Some kept) × IsRowOf nodes.parts kept row
-node_there members nodes list row hold found =
-    let one = found_at (row_eq row) nodes.rows.keys found in
-    let within = slice_get_within nodes.rows.keys one.0 one.1 one.2 in
-    let kept = some_at list one.0 (let many = hold.many in omega (arith, within, many)) in
-    let same : row ≡ one.1 = (same_row row one.1).0 one.3 in
-    (one.0, kept.0, kept.1, subst (IsRowOf nodes.parts kept.0) (sym same) (hold.rows one.0 one.1 kept.0 one.2 kept.1))
+node_there members nodes list row hold found = rows_there members nodes.parts nodes.rows.keys list row (rows_of_hold members nodes list hold) found
 
 -- it is put in, if it is not there
 pub held_more : (members : List (Vec SerialOp)) (s : State) (alive : List Bool) (number : ℕ) (old new : Nodes) (row : Row) (list : List Kept) (added : Bool) → IsRowAt s number old.parts new.parts row → Hold members old list → Knows old alive number → KnowsDead s.component old.parts.dead
@@ -185,3 +208,19 @@ held_more members s alive number old new row list added at hold knows known is k
           };
           parts = at.grows;
         }
+
+-- the nodes are those of one list
+pub one_hold : (members : List (Vec SerialOp)) (nodes : Nodes) (list other : List Kept) → Hold members nodes list → Hold members nodes other → list ≡ other
+one_hold members nodes list other first second = same_list list other (λ i. elim (cases_lt i (length list)) as (λ _. slice_get list i ≡ slice_get other i) [
+  | inl lt ↦
+      (let many = first.many in
+      let as_many = second.many in
+      let row = some_at nodes.rows.keys i (omega (arith, lt, many)) in
+      let a = some_at list i lt in
+      let b = some_at other i (omega (arith, lt, many, as_many)) in
+      a.1 ∙ (ap Some (one_node nodes.parts a.0 b.0 row.0 (first.rows i row.0 a.0 row.1 a.1) (second.rows i row.0 b.0 row.1 b.1)) ∙ sym b.1))
+  | inr past ↦
+      (let many = first.many in
+      let as_many = second.many in
+      slice_get_past list i past ∙ sym (slice_get_past other i (omega (arith, past, many, as_many))))
+])

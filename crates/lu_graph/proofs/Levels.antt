@@ -14,10 +14,11 @@ use Rattle.lu_history.specs.declared.serial.SerialOp.{SerialOp}
 use Rattle.lu_history.specs.Standing.{Agree}
 use Rattle.lu_horizon.specs.Dead.{DeadTable}
 use Rattle.lu_tree.proofs.Reordering.{good_reordered}
+use Rattle.lu_graph.specs.Expanding.{IsNextBetween}
 use Rattle.lu_graph.specs.First.{AllGoFirst, GoesFirst}
 use Rattle.lu_graph.specs.Kept.{Kept}
 use Rattle.lu_graph.specs.Rows.{KnowsDead}
-use Rattle.lu_graph.specs.Growing.{AddsNext, CanStandThere, ComesBy, HasStart, IsNext}
+use Rattle.lu_graph.specs.Growing.{AddsNext, CanStandThere, ComesBy, GrowsBy, HasStart, IsNext}
 use Rattle.lu_graph.specs.Judging.{IsOneOf}
 use Rattle.lu_graph.specs.Nodes.{IsBadAt, IsGoodIfEnded, IsShortestBad, longer}
 use Rattle.lu_graph.specs.Visiting.{AreVisited, IsFor, IsReached, its}
@@ -101,7 +102,52 @@ module _ (s : State) (members : List (Vec SerialOp)) (dead : DeadTable) (dead_kn
           )
       first (m ∷ u) end h lt all leads = absurd (omega (arith, lt))
 
+  -- a node to which a move leads from one that is reached by so many
+  reached_next : (moves : ℕ) (kept : Kept) → IsReachedIn s members moves kept → (one : Kept) → CanStandThere s.component s.matrix one × IsNext members (its s kept) kept.alive one → IsReachedIn s members (moves + 1) one
+  reached_next moves kept reached one (stands, (m, next, event, first, step, by)) =
+      let u = reached.way.schedule in
+      let h = reached.way.history in
+      let end = reached.way.end in
+      let other = step_for s members dead dead_known kept end h reached.way.is m next event step in
+      let long = length_push u m in
+      let before = reached.long in
+      record {
+        way = record {
+          schedule = u ++ m ∷ [];
+          first = first_more s u end h m reached.way.first reached.way.leads (first_back end (its s kept) reached.way.is.state m first);
+          end = other.0;
+          history = longer h event;
+          leads = child_leads s u end h reached.way.leads m other.0 event other.1;
+          is = for_next s members dead dead_known kept one end h reached.way.is m other.0 next event other.1 other.2 by;
+        };
+        long = omega (arith, long, before);
+      }
+
   module _ (list : List Kept) (place moves end : ℕ) (known : AreSearched members s list place moves end) where
+    -- nodes are added to which moves lead from nodes of the level
+    module _ (new : List Kept) (grows : GrowsBy s.component s.matrix (IsNextBetween members s.component s.matrix list place end) list new) (less : place < end) where
+      stood_ahead : (i : ℕ) (one : Kept) → i < length list → slice_get new i ≡ Some one → slice_get list i ≡ Some one
+      stood_ahead i one lt is = at_first list grows.0 i one lt (subst (λ (x : List Kept). slice_get x i ≡ Some one) grows.1 is)
+
+      still_ahead : (i : ℕ) (one : Kept) → slice_get list i ≡ Some one → slice_get new i ≡ Some one
+      still_ahead i one is = subst (λ (x : List Kept). slice_get x i ≡ Some one) (sym grows.1) (at_left list grows.0 i one is)
+
+      ahead_reached : (one : Kept) → CanStandThere s.component s.matrix one × IsNextBetween members s.component s.matrix list place end one → IsReachedIn s members (moves + 1) one
+      ahead_reached one (stands, (i, kept, after, before, at, next)) = reached_next moves kept (known.now i kept after before at) one (stands, next)
+
+      pub searched_ahead : AreSearched members s new place moves end
+      searched_ahead = record {
+        good = λ i one lt is x h for. (let within = known.within in known.good i one lt (stood_ahead i one (omega (arith, lt, less, within)) is) x h for);
+        past = λ u last h lt all leads. (let x = known.past u last h lt all leads in (x.0, x.1, x.2, still_ahead x.0 x.1 x.3, x.4));
+        level = λ u last h lt all leads. (let x = known.level u last h lt all leads in (x.0, x.1, x.2, still_ahead x.0 x.1 x.3, x.4));
+        within = (let within = known.within in let long = ap length grows.1 in let sum = length-append list grows.0 in omega (arith, within, long, sum));
+        now = λ i one le lt is. (let within = known.within in known.now i one le lt (stood_ahead i one (omega (arith, lt, within)) is));
+        next = λ i one le is. elim (at_either list grows.0 i one (subst (λ (x : List Kept). slice_get x i ≡ Some one) grows.1 is)) as (λ _. IsReachedIn s members (moves + 1) one) [
+          | inl old ↦ known.next i one le old.1
+          | inr more ↦ ahead_reached one (all_at (λ (k : Kept). CanStandThere s.component s.matrix k × IsNextBetween members s.component s.matrix list place end k) grows.0 grows.2 more.0 one more.2)
+        ];
+      }
+
     -- the level has ended at this place
     module _ (visited : AreVisited members s list place) (ended : end ≤ place) where
       -- one move after a node of the level
@@ -145,26 +191,6 @@ module _ (s : State) (members : List (Vec SerialOp)) (dead : DeadTable) (dead_kn
         still : (i : ℕ) (one : Kept) → slice_get list i ≡ Some one → slice_get new i ≡ Some one
         still i one is = subst (λ (x : List Kept). slice_get x i ≡ Some one) (sym adds.grows.1) (at_left list adds.grows.0 i one is)
 
-        next_reached : (one : Kept) → CanStandThere s.component s.matrix one × IsNext members (its s kept) kept.alive one → IsReachedIn s members (moves + 1) one
-        next_reached one (stands, (m, next, event, first, step, by)) =
-            let u = reached.way.schedule in
-            let h = reached.way.history in
-            let end = reached.way.end in
-            let other = step_for s members dead dead_known kept end h reached.way.is m next event step in
-            let long = length_push u m in
-            let before = reached.long in
-            record {
-              way = record {
-                schedule = u ++ m ∷ [];
-                first = first_more s u end h m reached.way.first reached.way.leads (first_back end (its s kept) reached.way.is.state m first);
-                end = other.0;
-                history = longer h event;
-                leads = child_leads s u end h reached.way.leads m other.0 event other.1;
-                is = for_next s members dead dead_known kept one end h reached.way.is m other.0 next event other.1 other.2 by;
-              };
-              long = omega (arith, long, before);
-            }
-
         pub searched_more : AreSearched members s new (place + 1) moves end
         searched_more = record {
           good = λ i one lt is x h for. (let within = known.within in elim (cases_lt i place) as (λ _. IsGoodIfEnded (IsOneOf members) x h) [
@@ -180,7 +206,7 @@ module _ (s : State) (members : List (Vec SerialOp)) (dead : DeadTable) (dead_kn
           now = λ i one le lt is. (let within = known.within in known.now i one (omega (arith, le)) lt (stood i one (omega (arith, lt, within)) is));
           next = λ i one le is. elim (at_either list adds.grows.0 i one (subst (λ (x : List Kept). slice_get x i ≡ Some one) adds.grows.1 is)) as (λ _. IsReachedIn s members (moves + 1) one) [
             | inl old ↦ known.next i one le old.1
-            | inr more ↦ next_reached one (all_at (λ (k : Kept). CanStandThere s.component s.matrix k × IsNext members (its s kept) kept.alive k) adds.grows.0 adds.grows.2 more.0 one more.2)
+            | inr more ↦ reached_next moves kept reached one (all_at (λ (k : Kept). CanStandThere s.component s.matrix k × IsNext members (its s kept) kept.alive k) adds.grows.0 adds.grows.2 more.0 one more.2)
           ];
         }
 

@@ -42,3 +42,8 @@ mod Hopeful
 mod Charted
 mod WayBack
 mod Found
+mod Put
+mod Expanded
+mod Ahead
+mod Tabled
+mod Ordered

@@ -112,9 +112,6 @@ with_next table place n is =
     let next : n ≡ suc place = omega (arith, is) in
     ap (with_number table) next
 
-pub with_none : {A : Type 0} (table : List A) (n : ℕ) → n ≡ 0 → with_number table n ≡ None
-with_none table n is = ap (with_number table) is
-
 -- what is there with a number stands at the place before it
 pub with_place : {A : Type 0} (table : List A) (n : ℕ) (x : A) → with_number table n ≡ Some x → (place : ℕ) × (place + 1 ≡ n) × (slice_get table place ≡ Some x)
 with_place table zero x is = absurd (cc)

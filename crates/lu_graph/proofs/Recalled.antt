@@ -1,5 +1,5 @@
 -- What is remembered of returns.
-use Rattle.std.proofs.Common.{arith, ◌≡◌, ℕ, ◌+◌, Bool, true, ◌&&◌, List, [], ◌∷◌, ◌++◌, Option, Some, slice_get, refl, sym, ◌∙◌, ap, subst}
+use Rattle.std.proofs.Common.{◌≡◌, ℕ, Bool, true, ◌&&◌, List, [], ◌∷◌, ◌++◌, Option, Some, refl, sym, ◌∙◌, ap, subst}
 use Rattle.std.specs.Prelude.{nat_eq}
 use Rattle.std.specs.Bool.{Decides, beq}
 use lib.Pointwise.{pointwise}
@@ -9,7 +9,6 @@ use Rattle.std.specs.Map.{lookup}
 use Rattle.std.proofs.lemmas.Bool.Decides.{Decides-and, Decides-eqb, Decides-like}
 use Rattle.std.proofs.lemmas.List.Elements.{All-contains, All-nil, All-push, All-weaker}
 use Rattle.std.proofs.lemmas.Map.Views.{Contains-from_lookup}
-use Rattle.std.proofs.lemmas.Option.{same_Some}
 use Rattle.lu_machine.specs.declared.event.Event.{Event}
 use Rattle.lu_machine.specs.declared.event.Outcome.{Outcome}
 use Rattle.lu_machine.specs.declared.event.Outcome.TheVariants.{Ret, Trap}
@@ -26,7 +25,7 @@ use Rattle.lu_graph.specs.Judging.{Follows, StayTold, called}
 use Rattle.lu_graph.specs.Numbered.{IsNumbered, is_list}
 use Rattle.lu_graph.specs.Possibilities.{AreLeft, Gives, HaveCalls, IsLeft, NumbersAfter, NumbersStay}
 use Rattle.lu_graph.proofs.Numbers.{extends_none, number_stays, numbered}
-use Rattle.lu_graph.proofs.Same.{one_alive, same_bits, same_numbers}
+use Rattle.lu_graph.proofs.Same.{one_alive, same_numbers}
 
 -- ---- equal returns
 
@@ -69,15 +68,6 @@ same_return a b =
     (Decides-and (nat_eq a.alive b.alive) (pointwise nat_eq a.calls b.calls && (op_id_eq a.operation b.operation && outcome_eq a.outcome b.outcome)) (Decides-eqb a.alive b.alive)
     (Decides-and (pointwise nat_eq a.calls b.calls) (op_id_eq a.operation b.operation && outcome_eq a.outcome b.outcome) (same_numbers a.calls b.calls)
     (Decides-and (op_id_eq a.operation b.operation) (outcome_eq a.outcome b.outcome) (same_id a.operation b.operation) (same_outcome a.outcome b.outcome))))).0
-
--- ---- numbered lists
-
-pub gives_at : (possible : Possibilities) (n place : ℕ) (v : Vec Bool) → place + 1 ≡ n → slice_get possible.lists.keys place ≡ Some v → Gives possible n v.items
-gives_at possible n place v next at alive knows =
-    let there = numbered (is_list beq alive) possible.lists.keys n knows in
-    let here : there.0 ≡ place = (let is = there.2 in omega (arith, is, next)) in
-    let same : there.1 ≡ v = same_Some there.1 v (sym there.3 ∙ (ap (slice_get possible.lists.keys) here ∙ at)) in
-    sym ((same_bits alive v.items).0 (subst (λ y. is_list beq alive y ≡ true) same there.4))
 
 -- ---- what is remembered
 

@@ -19,7 +19,6 @@ use Rattle.lu_history.specs.declared.serial.SerialOp.{SerialOp}
 use Rattle.lu_witness.specs.Goodness.{IsGoodAt}
 use Rattle.lu_tree.specs.Alike.{LiveBy}
 use Rattle.lu_tree.specs.Alike as table_alike
-use Rattle.lu_tree.proofs.Alike.{alike_itself}
 use Rattle.lu_tree.proofs.AlikeRuns.{alike_back, complete_alike, good_alike, step_alike, stuck_alike}
 use Rattle.lu_graph.specs.Nodes.{AreStatesAlike, NotDead}
 use Rattle.lu_graph.specs.Rows.{KnowsDead}
@@ -115,9 +114,6 @@ module _ (c : Component) (table : DeadTable) (known : KnowsDead c table) where
 
   sound_at : (s : State) → s.component ≡ c → IsDeadTable s.component table
   sound_at s is = subst (λ x. IsDeadTable x table) (sym is) known.sound
-
-  pub states_itself : (s : State) → s.component ≡ c → AreStatesAlike s s
-  states_itself s is = from_table s s is (alike_itself table s)
 
   pub states_back : (s r : State) → s.component ≡ c → AreStatesAlike s r → AreStatesAlike r s
   states_back s r is h = from_table r s (h.component ∙ is) (alike_back table s r (by_table s r is h))

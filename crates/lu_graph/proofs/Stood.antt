@@ -22,7 +22,7 @@ use Rattle.lu_graph.proofs.Many.{some_at}
 use Rattle.lu_graph.proofs.Possible.{same_list}
 use Rattle.lu_graph.proofs.Same.{list_there, same_numbers, same_owners, thread_there}
 
-at_taken : {A : Type 0} (n : ℕ) (xs : List A) (t : ℕ) → t < n → slice_get (take n xs) t ≡ slice_get xs t
+pub at_taken : {A : Type 0} (n : ℕ) (xs : List A) (t : ℕ) → t < n → slice_get (take n xs) t ≡ slice_get xs t
 at_taken zero xs t lt = absurd (omega arith)
 at_taken (suc n) [] t lt = refl
 at_taken (suc n) (x ∷ xs) zero lt = refl

@@ -16,8 +16,9 @@ use Rattle.lu_history.specs.declared.serial.SerialOp.{SerialOp}
 use Rattle.lu_history.proofs.Following.{start_agrees}
 use Rattle.lu_graph.specs.Kept.{Kept}
 use Rattle.lu_graph.specs.declared.level.Level.{Level}
+use Rattle.lu_graph.specs.Expanding.{IsNextBetween}
 use Rattle.lu_graph.specs.Guards.{TellsGuarded}
-use Rattle.lu_graph.specs.Growing.{AddsNext, CanStandThere, HasStart, state_of}
+use Rattle.lu_graph.specs.Growing.{AddsNext, CanStandThere, GrowsBy, HasStart, state_of}
 use Rattle.lu_graph.specs.Judging.{IsOneOf, JudgesGood}
 use Rattle.lu_graph.specs.Nodes.{AreStatesAlike, EndsWellOnFewNodes, HasFewNodes, IsBadAt, IsGoodIfEnded, IsShortestBad}
 use Rattle.lu_graph.specs.Rows.{KnowsDead}
@@ -27,8 +28,8 @@ use Rattle.lu_graph.proofs.Among.{all_at}
 use Rattle.lu_graph.proofs.Closing.{component_of}
 use Rattle.lu_graph.proofs.StatesAlike.{progress_alike, states_back, states_ended, states_good}
 use Rattle.lu_graph.proofs.Aside.{first_tells_all}
-use Rattle.lu_graph.proofs.Explored.{has_all, known, visited_more, visited_none, well}
-use Rattle.lu_graph.proofs.Levels.{AreSearched, searched_level, searched_more, searched_none, shortest_bad}
+use Rattle.lu_graph.proofs.Explored.{has_all, known, visited_ahead, visited_more, visited_none, well}
+use Rattle.lu_graph.proofs.Levels.{AreSearched, searched_ahead, searched_level, searched_more, searched_none, shortest_bad}
 use Rattle.lu_graph.proofs.Many.{no_more_apart}
 use Rattle.lu_graph.proofs.Same.{AreDifferent}
 
@@ -92,6 +93,19 @@ module _ (members : List (Vec SerialOp)) (c : Component) (matrix : Matrix) (sett
       (λ few. let within = no_more_than most differ s at few in le-leb n most (omega (arith, within, many))),
     )
 
+    -- nodes were found ahead, to which moves lead from nodes from the place on
+    module _ (m : State) (component : m.component ≡ c) (matrix_is : m.matrix ≡ matrix) (end : ℕ) (new : List Kept) (grows : GrowsBy m.component m.matrix (IsNextBetween members m.component m.matrix list place end) list new) where
+      grows_at : (s : State) → IsStart c matrix s → GrowsBy s.component s.matrix (IsNextBetween members s.component s.matrix list place end) list new
+      grows_at s is =
+          let Grows : Component → Matrix → Type 0 = λ d x. GrowsBy d x (IsNextBetween members d x list place end) list new in
+          subst (λ x. Grows s.component x) (matrix_is ∙ sym (start_matrix c matrix s is)) (subst (λ d. Grows d m.matrix) (component ∙ sym (start_component c matrix s is)) grows)
+
+      pub visited_then : place ≤ length list → AreVisitedFrom members c matrix new place
+      visited_then within s is = visited_ahead s members dead (known_at s is) list new place end within (grows_at s is) (all s is)
+
+      pub searched_then : (moves : ℕ) → place < end → AreSearchedFrom members c matrix list place moves end → AreSearchedFrom members c matrix new place moves end
+      searched_then moves less searched s is = searched_ahead s members dead (known_at s is) list place moves end (searched s is) new (grows_at s is) less
+
     module _ (m : State) (component : m.component ≡ c) (matrix_is : m.matrix ≡ matrix) (kept : Kept) (at : slice_get list place ≡ Some kept) where
       -- where the machine stands then
       here : (s : State) → IsStart c matrix s → state_of m.component m.matrix kept ≡ its s kept
@@ -110,23 +124,7 @@ module _ (members : List (Vec SerialOp)) (c : Component) (matrix : Matrix) (sett
           let y = subst (λ d. CanStandThere d s.matrix kept) (start_component c matrix s there.1 ∙ sym component) x in
           subst (λ d. CanStandThere m.component d kept) (start_matrix c matrix s there.1 ∙ sym matrix_is) y
 
-      pub as_many : (alive : List Bool) → alive ≡ kept.alive → length alive ≡ length members
-      as_many alive are = let there = start_there c matrix settles in ap length are ∙ (sound there.0 there.1).1.is.told.many
-
       module _ (now : State) (alive : List Bool) (stands : now ≡ state_of m.component m.matrix kept) (are : alive ≡ kept.alive) where
-        component_there : now.component ≡ c
-        component_there = ap (λ (s : State). s.component) stands ∙ component
-
-        matrix_there : now.matrix ≡ matrix
-        matrix_there = ap (λ (s : State). s.matrix) stands ∙ matrix_is
-
-        -- what holds from each start holds from those of the machine's component and matrix
-        pub from_there : (P : State → Type 0) → FromEachStart c matrix P → FromEachStart now.component now.matrix P
-        from_there = from_same now.component c now.matrix matrix component_there matrix_there
-
-        pub from_here : (P : State → Type 0) → FromEachStart now.component now.matrix P → FromEachStart c matrix P
-        from_here = from_same c now.component matrix now.matrix (sym component_there) (sym matrix_there)
-
         -- what holds where the machine stands holds of the node
         of_node : (P : State → List Bool → Type 0) (s : State) → IsStart c matrix s → P now alive → P (its s kept) kept.alive
         of_node P s is x = subst (P (its s kept)) are (subst (λ z. P z alive) (stands ∙ here s is) x)

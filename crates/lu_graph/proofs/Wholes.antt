@@ -4,7 +4,7 @@ use Rattle.std.specs.Prelude.{◌↔◌, IsTrue, MatchOption}
 use Rattle.std.specs.Global.{Vec}
 use Rattle.std.proofs.lemmas.Bool.{cases_lt}
 use Rattle.std.proofs.lemmas.List.{get_or_past, length-map}
-use Rattle.std.proofs.lemmas.Option.{get_or_from_slice_get, same_Some}
+use Rattle.std.proofs.lemmas.Option.{get_or_from_slice_get, same_Some, slice_get-get_or}
 use Rattle.lu_machine.specs.States.{State, progress, progress_of}
 use Rattle.lu_history.specs.declared.serial.SerialOp.{SerialOp}
 use Rattle.lu_history.specs.declared.serial.SerialOutcome.TheVariants.{Stuck}
@@ -33,6 +33,16 @@ module _ (s : State) (waiting : Option ℕ) (q : List SerialOp) (few : (u : ℕ)
 
 -- ---- among the members
 
+-- one that is told to be alive stands there
+pub told_alive : (alive : List Bool) (place : ℕ) → get_or alive place false ≡ true → slice_get alive place ≡ Some true
+told_alive alive place is = elim (cases_lt place (length alive)) as (λ _. slice_get alive place ≡ Some true) [
+  | inl lt ↦ slice_get-get_or alive place false lt ∙ ap Some is
+  | inr past ↦ absurd (let none : get_or alive place false ≡ false = get_or_past alive place false past in differ (get_or alive place false) none is)
+]
+  where
+    differ : (b : Bool) → b ≡ false → b ≡ true → ⊥
+    differ b x y = cc
+
 -- none before this place is alive and whole
 abbrev pub NoneBefore : State → Option ℕ → List (Vec SerialOp) → List Bool → ℕ → Type 0
 NoneBefore s waiting members alive n =
@@ -48,11 +58,11 @@ module _ (s : State) (waiting : Option ℕ) (members : List (Vec SerialOp)) (ali
             here q (subst (λ n. slice_get members n ≡ Some q) same at) (subst (λ n. slice_get alive n ≡ Some true) same there) whole)
       ]
 
-  pub none_dead : NoneBefore s waiting members alive place → slice_get alive place ≡ Some false → NoneBefore s waiting members alive (place + 1)
-  none_dead before dead = more before (λ q at there whole. apart (slice_get alive place) dead there)
+  pub none_dead : NoneBefore s waiting members alive place → get_or alive place false ≡ false → NoneBefore s waiting members alive (place + 1)
+  none_dead before dead = more before (λ q at there whole. apart (get_or alive place false) dead (get_or_from_slice_get alive place true false there))
     where
-      apart : (o : Option Bool) → o ≡ Some false → o ≡ Some true → ⊥
-      apart o x y = cc
+      apart : (b : Bool) → b ≡ false → b ≡ true → ⊥
+      apart b x y = cc
 
   module _ (member : Vec SerialOp) (at : slice_get members place ≡ Some member) (q : List SerialOp) (is : q ≡ member.items) (b : Bool) (tells : IsTrue b ↔ IsWhole s waiting q) where
     pub none_other : NoneBefore s waiting members alive place → b ≡ false → NoneBefore s waiting members alive (place + 1)

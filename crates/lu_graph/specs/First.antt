@@ -17,11 +17,11 @@ use Rattle.lu_horizon.specs.Stands.{is_unseen}
 use Rattle.lu_tree.specs.Reordered.{AreReordered}
 use Rattle.lu_graph.specs.Guards.{IsGuarded, TellsGuarded}
 
--- The instruction stands aside: it is never blocked, and it and what other threads do before it come
--- out the same in the other order. No other thread sees it; or it is an `unlock`: while its thread
--- owns the lock, `lock` of another thread is blocked, and `unlock` traps; where its thread does not
--- own it, it traps itself; or it is an access, other than a wait, to an array that a lock guards: no
--- other thread is at one.
+-- The instruction stands aside: it is never blocked, and it and what other threads do before it
+-- come out the same in the other order. No other thread sees it; or it is an `unlock`: while its
+-- thread owns the lock, `lock` of another thread is blocked, and `unlock` traps; where its thread
+-- does not own it, it traps itself; or it is an access, other than a wait, to an array that a lock
+-- guards: no other thread is at one.
 abbrev pub StandsAside : Component → Instr → Type 0
 StandsAside c (Load to w i) = IsGuarded c w
 StandsAside c (Store w i v) = IsGuarded c w

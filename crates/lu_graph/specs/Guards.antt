@@ -22,8 +22,8 @@ array_of (Await w i v) = Some w
 array_of (AwaitNot w i v) = Some w
 array_of _ = None
 
--- whether an operation is in a critical section of lock l after the instruction, where it was in one
--- before, or was not
+-- whether an operation is in a critical section of lock l after the instruction, where it was in
+-- one before, or was not
 abbrev pub is_inside_after : ℕ → Instr → Bool → Bool
 is_inside_after l (Lock m) inside = m == l || inside
 is_inside_after l (Unlock m) inside = not (m == l) && inside

@@ -17,8 +17,8 @@ use Rattle.lu_graph.specs.Visiting.{AreVisitedFrom}
 use Rattle.lu_graph.specs.Possibilities.{AreLeft, IsNumberOf}
 use Rattle.lu_graph.specs.Rows.{Grow, IsRowOf, KnowsDead}
 
--- The nodes are those of the list, each with its row. What is remembered of returns is so, for these
--- members.
+-- The nodes are those of the list, each with its row. What is remembered of returns is so, for
+-- these members.
 pub record Hold (members : List (Vec SerialOp)) (nodes : Nodes) (list : List Kept) : Type 0 where
   pub many : length nodes.rows.keys ≡ length list
   pub rows : (i : ℕ) (row : Row) (kept : Kept) → slice_get nodes.rows.keys i ≡ Some row

@@ -17,4 +17,8 @@ pub mod Numbered
 pub mod Possibilities
 pub mod Kept
 pub mod Rows
+pub mod AllRows
+pub mod InTables
 pub mod Holding
+pub mod Putting
+pub mod Expanding

@@ -63,8 +63,8 @@ abbrev pub NumbersStay : List (Vec SerialOp) → State → OpId → Outcome → 
 NumbersStay members s a outcome = Numbers (StayTold s members a outcome) members
 
 -- so it is of a return of s, which has the calls of s
-abbrev pub NumbersBehind : List (Vec SerialOp) → State → ReturnAt → Possibilities → Possibilities → ℕ
-    → Type 0
+abbrev pub NumbersBehind : List (Vec SerialOp) → State → ReturnAt → Possibilities → Possibilities
+    → ℕ → Type 0
 NumbersBehind members s at old new n =
     HaveCalls s at.calls → NumbersStay members s at.operation at.outcome at.alive old new n
 
@@ -72,3 +72,8 @@ NumbersBehind members s at old new n =
 abbrev pub NumbersAfter : List (Vec SerialOp) → State → Option Event → ℕ → Possibilities
     → Possibilities → ℕ → Type 0
 NumbersAfter members s event = Numbers (λ alive. Follows members s alive event) members
+
+-- so it is by what is remembered alone, whatever the members are
+abbrev pub RecallsAfter : State → Option Event → ℕ → Possibilities → ℕ → Type 0
+RecallsAfter s event was known n =
+    (members : List (Vec SerialOp)) → NumbersAfter members s event was known known n

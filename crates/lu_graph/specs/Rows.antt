@@ -98,6 +98,10 @@ pub record IsRowAt (s : State) (possible : ℕ) (old new : Parts) (row : Row) : 
   pub grows : Grow old new
   pub same : new.alive ≡ old.alive
 
+-- the row of the state s by these parts, to which none comes, with this number of what is possible
+abbrev pub IsRowAmong : Parts → State → ℕ → Row → Type 0
+IsRowAmong parts s possible row = IsRowAt s possible parts parts row
+
 -- the row of what is kept, with 0 in the dead registers of its threads
 pub record IsRowOf (parts : Parts) (kept : Kept) (row : Row) : Type 0 where
   pub is : IsRow parts kept.cells kept.locks kept.threads row

@@ -1,4 +1,5 @@
--- How the places in critical sections are found: all of them are said to be at first, and then fewer.
+-- How the places in critical sections are found: all of them are said to be at first, and then
+-- fewer.
 use Rattle.std.specs.Prelude.{◌≡◌, ℕ, ◌+◌, ◌<◌, ◌≤◌, Bool, true, false, List, [], Some, get_or, length, set, slice_get}
 use Rattle.std.specs.List.{count_by}
 use Rattle.lu_component.specs.Component.{Component}

@@ -60,7 +60,7 @@ fn stays(
 }
 
 /// Whether the member at this place was possible. One that is not told of was not.
-fn was_alive(alive: &[bool], place: usize) -> bool
+pub(crate) fn was_alive(alive: &[bool], place: usize) -> bool
     ensures { result ≡ get_or alive.now place false }
 {
     match alive.get(place) {

@@ -73,15 +73,15 @@ fn is_aside_at(machine: &Machine<'_>, thread: u8, guards: &Guards) -> bool
 
 /// The threads whose moves go first: from `first` to before `end`.
 #[derive(Clone, Copy)]
-struct Turns {
-    first: u8,
-    end: u8,
+pub(crate) struct Turns {
+    pub(crate) first: u8,
+    pub(crate) end: u8,
 }
 
 /// The threads whose moves go first where the machine stands: the first thread that is at an
 /// instruction which stands aside, or else all. What the others do meanwhile is the same, and where
 /// a return comes earlier, a history only has more precedence.
-fn turns_at(machine: &Machine<'_>, guards: &Guards) -> Turns
+pub(crate) fn turns_at(machine: &Machine<'_>, guards: &Guards) -> Turns
     requires { TellsGuarded machine.now.component guards.now }
     ensures { TakeTurns machine.now result.first result.end }
 {
@@ -99,8 +99,8 @@ fn turns_at(machine: &Machine<'_>, guards: &Guards) -> Turns
     }
 }
 
-/// Adds all nodes to which those of the machine's moves lead that go first. It stands at the node of
-/// the row `from`.
+/// Adds all nodes to which those of the machine's moves lead that go first. It stands at the node
+/// of the row `from`.
 pub(crate) fn add_next(
     alloc: Global,
     machine: &mut Machine<'_>,

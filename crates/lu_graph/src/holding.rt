@@ -5,8 +5,8 @@ ghost use Rattle.lu_graph.specs.Holding.{HoldsNone, HoldsOne, HoldsOneMore};
 ghost use Rattle.lu_graph.specs.Rows.{IsSized, KnowsDead};
 
 use crate::row::{Parts, Row, row_at};
+use crate::row_table::RowTable;
 use crate::tables::number_of_list;
-use indexmap::IndexSet;
 use lu_horizon::DeadRegisters;
 use lu_machine::Machine;
 use std::alloc::{AllocError, Global};
@@ -14,7 +14,7 @@ use std::alloc::{AllocError, Global};
 /// The nodes that were found, each once, in order: those that were gone through stand first.
 #[derive(Drop)]
 pub(crate) struct Nodes {
-    pub(crate) rows: IndexSet<Row>,
+    pub(crate) rows: RowTable,
     pub(crate) parts: Parts,
 }
 
@@ -25,7 +25,7 @@ impl Nodes {
         ensures dead { result.parts.dead ≡ dead }
     {
         Nodes {
-            rows: IndexSet::new(alloc),
+            rows: RowTable::new(alloc),
             parts: Parts::new(alloc, dead),
         }
     }
@@ -34,7 +34,7 @@ impl Nodes {
     pub(crate) fn row(&self, place: usize) -> Option<Row>
         ensures { result ≡ slice_get self.now.rows.keys place }
     {
-        self.rows.get_index(place).copied()
+        self.rows.row(place)
     }
 }
 

@@ -1,10 +1,11 @@
 //! How an ended state is judged, by the members that are alive.
 
-ghost use Rattle.std.specs.Prelude.{◌≡◌, ◌↔◌, Some, IsTrue, length};
+ghost use Rattle.std.specs.Prelude.{◌≡◌, ◌↔◌, Some, IsTrue};
 ghost use Rattle.lu_history.specs.declared.serial.SerialOutcome.TheVariants.{Stuck};
 ghost use Rattle.lu_machine.specs.Ends.{IsEnded};
 ghost use Rattle.lu_graph.specs.Judging.{AllHaveWhole, HasWhole, IsStuckIn, IsWhole, JudgesGood, ended, room};
 
+use crate::alive::was_alive;
 use crate::members::{count, place_of};
 use crate::standing::{called, ended, is_waiting};
 use lu_history::{SerialOp, SerialOutcome};
@@ -78,11 +79,10 @@ fn has_whole(
     alive: &[bool],
     waiting: Option<u8>,
 ) -> bool
-    requires { length alive.now ≡ length members.now }
     ensures { IsTrue result ↔ HasWhole machine.now waiting members.now alive.now }
 {
     for place in 0..members.len() {
-        if alive[place] {
+        if was_alive(alive, place) {
             if is_whole(machine, &members[place], waiting) {
                 return true;
             }
@@ -93,7 +93,6 @@ fn has_whole(
 
 /// Whether for each thread that waits some member that is alive is whole.
 fn all_have_whole(machine: &Machine<'_>, members: &[Vec<SerialOp>], alive: &[bool]) -> bool
-    requires { length alive.now ≡ length members.now }
     ensures { IsTrue result ↔ AllHaveWhole machine.now members.now alive.now }
 {
     for thread in 0..machine.threads() {
@@ -109,7 +108,6 @@ fn all_have_whole(machine: &Machine<'_>, members: &[Vec<SerialOp>], alive: &[boo
 /// Whether a schedule that ends where the machine stands is good, where these members are alive;
 /// true where the machine has not ended.
 pub(crate) fn is_good(machine: &Machine<'_>, members: &[Vec<SerialOp>], alive: &[bool]) -> bool
-    requires { length alive.now ≡ length members.now }
     ensures { JudgesGood members.now machine.now alive.now result }
 {
     match machine.status() {

@@ -10,7 +10,8 @@
 //! reached that has ended, no schedule ends.
 //!
 //! A search can take long. [`ends_well_watched`] and [`first_lost_watched`] ask a watch before each
-//! node or state that is gone through, and can be stopped by it.
+//! node or state that is gone through, and can be stopped by it; and several threads can find where
+//! nodes lead before these are gone through ([`ByThreads`]).
 //!
 //! ```text
 //! match ends_well(alloc, &component, &matrix, &set, 256, DEFAULT_NODES)? {
@@ -32,6 +33,8 @@ mod alive;
 mod discovering;
 mod edge;
 mod ending;
+mod expanders;
+mod expanding;
 mod exploring;
 mod exploring_states;
 mod growing;
@@ -47,10 +50,13 @@ mod marking;
 mod members;
 mod possibilities;
 mod row;
+mod row_table;
 mod standing;
 mod tables;
+mod traversal;
 
 pub use ending::Ending;
+pub use expanders::{Alone, ByThreads, Expanders, Helpers};
 pub use exploring::{ends_well, ends_well_watched};
 pub use halted::Halted;
 pub use laws::{alike_laws, alive_laws, first_law, guard_law, hopeless_law};

@@ -1,7 +1,7 @@
 //! Which members are possible: each different list once, with what returns leave of it.
 
-ghost use Rattle.std.specs.Prelude.{◌≡◌, [], IfOk};
-ghost use Rattle.lu_graph.specs.Possibilities.{Gives, HaveCalls, NumbersAfter, NumbersBehind};
+ghost use Rattle.std.specs.Prelude.{◌≡◌, [], IfOk, IfSome};
+ghost use Rattle.lu_graph.specs.Possibilities.{Gives, HaveCalls, NumbersAfter, NumbersBehind, RecallsAfter};
 
 use crate::alive::still_alive;
 use crate::standing::called;
@@ -104,6 +104,35 @@ pub(crate) fn number_after(
                     outcome,
                 };
                 number_behind(alloc, machine, members, at, known)
+            }
+        },
+    }
+}
+
+/// The number of what is possible after the event, as [`number_after`] gives it, if that was met.
+pub(crate) fn known_after(
+    machine: &Machine<'_>,
+    was: u32,
+    event: Option<Event>,
+    known: &Possibilities,
+) -> Option<u32>
+    ensures { IfSome result (RecallsAfter machine.now event was known.now) }
+{
+    match event {
+        None => Some(was),
+        Some(event) => match event {
+            Event::Call { .. } => Some(was),
+            Event::Return { t, k, outcome } => {
+                let at = ReturnAt {
+                    alive: was,
+                    calls: calls_of(machine),
+                    operation: OpId { t, k },
+                    outcome,
+                };
+                match known.returns.get(&at) {
+                    None => None,
+                    Some(number) => Some(*number),
+                }
             }
         },
     }

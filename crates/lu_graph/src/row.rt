@@ -1,10 +1,10 @@
 //! Nodes as rows of numbers.
 
-ghost use Rattle.std.specs.Prelude.{◌≡◌, [], IfOk};
-ghost use Rattle.lu_graph.specs.Rows.{CanStandAtRow, HaveNumbers, IsRowAt, IsSized, NumbersThreads, StandsAtRow};
+ghost use Rattle.std.specs.Prelude.{◌≡◌, [], IfOk, IfSome};
+ghost use Rattle.lu_graph.specs.Rows.{CanStandAtRow, HaveNumbers, IsRowAmong, IsRowAt, IsSized, NumbersThreads, StandsAtRow};
 
 use crate::possibilities::Possibilities;
-use crate::tables::{list_with, number_of, number_of_list, value_with};
+use crate::tables::{known_number, list_with, number_of, number_of_list, value_with};
 use indexmap::IndexSet;
 use lu_horizon::DeadRegisters;
 use lu_machine::{Activity, Machine, Thread};
@@ -12,7 +12,7 @@ use std::alloc::{AllocError, Global};
 
 /// A node: the number of each of its parts, from 1. 0 stands for none.
 #[derive(Clone, Copy, PartialEq, Eq, Hash)]
-pub(crate) struct Row {
+pub struct Row {
     pub(crate) cells: u32,
     pub(crate) locks: u32,
 
@@ -102,6 +102,40 @@ pub(crate) fn row_at(
         cells: number_of_list(alloc, &mut parts.cells, machine.cells(), likely.cells)?,
         locks: number_of_list(alloc, &mut parts.locks, machine.locks(), likely.locks)?,
         threads: number_threads(machine, &parts.dead, &mut parts.threads, &likely.threads)?,
+        alive: likely.alive,
+    })
+}
+
+/// The number of where each thread stands, with 0 in its dead registers, and 0 for each that is not
+/// there, if all these are known. The likely ones are looked at first.
+fn known_threads(
+    machine: &Machine<'_>,
+    dead: &DeadRegisters,
+    table: &IndexSet<Thread>,
+    likely: &[u32; 8],
+) -> Option<[u32; 8]>
+    ensures { IfSome result (NumbersThreads dead.now machine.now table.now.keys table.now.keys) }
+{
+    let mut numbers = [0; 8];
+    for thread in 0..machine.threads() {
+        if let Some(standing) = machine.standing(thread) {
+            let place = usize::from(thread);
+            numbers[place] = known_number(table, &dead.live(standing), likely[place])?;
+        }
+    }
+    Some(numbers)
+}
+
+/// The row of the node at which the machine stands, if all its parts are there. What is possible
+/// has the number that is in `likely`, and so have the other parts, if they are the same as there.
+pub(crate) fn known_row(machine: &Machine<'_>, likely: &Row, parts: &Parts) -> Option<Row>
+    requires { IsSized machine.now }
+    ensures { IfSome result (IsRowAmong parts.now machine.now likely.now.alive) }
+{
+    Some(Row {
+        cells: known_number(&parts.cells, machine.cells(), likely.cells)?,
+        locks: known_number(&parts.locks, machine.locks(), likely.locks)?,
+        threads: known_threads(machine, &parts.dead, &parts.threads, &likely.threads)?,
         alive: likely.alive,
     })
 }

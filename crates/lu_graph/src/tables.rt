@@ -49,6 +49,21 @@ fn has_number<T: Eq + Hash, Q: Equivalent<T>>(table: &IndexSet<T>, query: Q, num
     }
 }
 
+/// The number of what the query stands for, if it is there. `likely` is looked at first.
+pub(crate) fn known_number<T: Eq + Hash, Q: Equivalent<T> + Copy>(
+    table: &IndexSet<T>,
+    query: Q,
+    likely: u32,
+) -> Option<u32>
+    ensures { IfSome result (IsNumber (Q.equivalent query) table.now.keys) }
+{
+    if has_number(table, query, likely) {
+        return Some(likely);
+    }
+    let place = table.get_index_of(query)?;
+    number_at(place).ok()
+}
+
 /// The number of the value in the table, which it joins if it is not there.
 fn join<T: Eq + Hash + Drop>(table: &mut IndexSet<T>, value: T) -> Result<u32, AllocError>
     ensures { IfOk result (IsNumbered (T.eq value) table.old.keys table.new.keys) }
@@ -82,11 +97,8 @@ pub(crate) fn number_of_list<T: Eq + Hash + Copy>(
 ) -> Result<u32, AllocError>
     ensures { IfOk result (IsNumbered (is_list T.eq list.now) table.old.keys table.new.keys) }
 {
-    if has_number(table, list, likely) {
-        return Ok(likely);
-    }
-    match table.get_index_of(list) {
-        Some(place) => number_at(place),
+    match known_number(table, list, likely) {
+        Some(number) => Ok(number),
         None => join(table, Vec::from_slice(alloc, list)?),
     }
 }

@@ -7,7 +7,7 @@ ghost use Rattle.lu_tree.specs.Tables.{AreRunTables};
 use crate::serial_runs::set_of;
 use crate::trees::{assert_bad, assert_clean, beginning};
 use lu_fixtures::{Fixture, ROWS, fixture_of};
-use lu_graph::{Ending, Halted, ends_well_watched, first_lost_watched};
+use lu_graph::{Alone, Ending, Halted, ends_well_watched, first_lost_watched};
 use lu_machine::Test;
 use lu_test::Schedule;
 use lu_tree::{Found, SearchSpace, Tables, Unwatched, Watch, search_watched, search_with};
@@ -145,7 +145,16 @@ fn ending_watched(
     let packed = packed(rt, matrix)?;
     let case = fixture_of(rt, ROWS.as_bytes(), matrix)?;
     let (component, matrix) = (&case.component, &case.matrix);
-    Ok(ends_well_watched(rt.alloc(), component, matrix, &&packed, 256, 1000, watch))
+    Ok(ends_well_watched(
+        rt.alloc(),
+        component,
+        matrix,
+        &&packed,
+        256,
+        1000,
+        watch,
+        &Alone,
+    ))
 }
 
 /// The first schedule of the matrix to a state from which none ends.

@@ -1,4 +1,4 @@
 use Rattle.lu_certify.proofs.certifying.conclude.Goals as goal
 
-pub own_spec-requires-clause-none : goal.own_spec-requires-clause-none
-own_spec-requires-clause-none c = c.requires.none c.in-Clear.is
+pub own_spec-requires : goal.own_spec-requires
+own_spec-requires c = c.requires c.in-Clear.is

@@ -6,6 +6,6 @@ pub returns-in_ok-report-in-BadAfter-clause-judged : goal.returns-in_ok-report-i
 returns-in_ok-report-in-BadAfter-clause-judged g c =
     inr (
       c.in-BadAfter.moves,
-      subst (IsTold c.args.component.now c.args.limits c.args.cut.now) c.in-BadAfter.is c.in_ok-tell_by_nodes.ensures.told,
+      subst (IsTold c.args.cut.component.now c.args.cut.limits c.args.cut.matrix.now) c.in-BadAfter.is c.in_ok-tell_by_nodes.ensures.told,
       c.in_ok-report-in-BadAfter.ensures,
     )

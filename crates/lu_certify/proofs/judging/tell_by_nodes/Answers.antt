@@ -4,22 +4,22 @@ use Rattle.lu_certify.proofs.Proved.{none_told, told_by}
 use Rattle.lu_certify.proofs.judging.tell_by_nodes.Goals as goal
 
 pub ends_well_watched-requires-clause-runs : goal.ends_well_watched-requires-clause-runs
-ends_well_watched-requires-clause-runs g c = c.requires.of
+ends_well_watched-requires-clause-runs g c = c.args.cut.can_run
 
 pub ends_well_watched-requires-clause-running : goal.ends_well_watched-requires-clause-running
 ends_well_watched-requires-clause-running g c = c.requires.running
 
 pub returns-in-Set-clause-told : goal.returns-in-Set-clause-told
 returns-in-Set-clause-told g c =
-    told_by c.args.component.now c.args.cut.now c.args.limits c.requires.of.settles c.in-Set.set
-    (λ s at. subst (IsLearnt s c.args.limits.serial) c.in-Set.is (c.in_ok-set.ensures.learnt s at)) c.in_ok-ending-in-Set.ending c.by.result c.in_ok-ending-in-Set.ensures.endings c.by.ensures
+    told_by c.args.cut.component.now c.args.cut.matrix.now c.args.cut.limits c.args.cut.can_run.settles c.in-Set.set
+    (λ s at. subst (IsLearnt s c.args.cut.limits.serial) c.in-Set.is (c.in_ok-set.ensures.learnt s at)) c.in_ok-ending-in-Set.ending c.by.result c.in_ok-ending-in-Set.ensures.endings c.by.ensures
 
 pub returns-in-Cut-clause-told : goal.returns-in-Cut-clause-told
 returns-in-Cut-clause-told g c =
-    none_told c.args.component.now c.args.cut.now c.args.limits c.requires.of.settles
-    (λ s at. let offence = subst (IsLearnt s c.args.limits.serial) c.in-Cut.is (c.in_ok-set.ensures.learnt s at) in (_, offence.0.kind))
+    none_told c.args.cut.component.now c.args.cut.matrix.now c.args.cut.limits c.args.cut.can_run.settles
+    (λ s at. let offence = subst (IsLearnt s c.args.cut.limits.serial) c.in-Cut.is (c.in_ok-set.ensures.learnt s at) in (_, offence.0.kind))
 
 pub returns-clause-told : goal.returns-clause-told
 returns-clause-told g c =
-    none_told c.args.component.now c.args.cut.now c.args.limits c.requires.of.settles
-    (λ s at. let offence = subst (IsLearnt s c.args.limits.serial) c.in-Conflict.is (c.in_ok-set.ensures.learnt s at) in (_, offence.0.kind))
+    none_told c.args.cut.component.now c.args.cut.matrix.now c.args.cut.limits c.args.cut.can_run.settles
+    (λ s at. let offence = subst (IsLearnt s c.args.cut.limits.serial) c.in-Conflict.is (c.in_ok-set.ensures.learnt s at) in (_, offence.0.kind))

@@ -4,6 +4,6 @@ use Rattle.lu_certify.proofs.workers.certify_cuts.Given as goal
 
 abbrev pub invariant-loop-place : goal.invariant-loop-place
 invariant-loop-place g l = record {
-  none : NoneFailsBefore l.component l.matrix (limits_of l.options l.nodes) l.place;
-  known : IsKnown l.component l.matrix (limits_of l.options l.nodes) l.place l.so_far;
+  none : NoneFailsBefore l.test.component.now l.test.matrix.now (limits_of l.options l.nodes) l.place;
+  known : IsKnown l.test.component.now l.test.matrix.now (limits_of l.options l.nodes) l.place l.so_far;
 }

@@ -1,4 +1,5 @@
 use Rattle.std.proofs.Common.{◌≡◌, false}
+use Rattle.lu_graph.specs.Expanding.{AreFound}
 use Rattle.lu_graph.specs.Holding.{AreVisitedBy}
 use Rattle.lu_graph.proofs.exploring.are_few.Given as goal
 
@@ -9,4 +10,5 @@ invariant-loop-at g l = record {
   base : g.W.Watch.base l.watch ≡ g.W.Watch.base l.fn.watch;
   running : g.W.Watch.is_stopped l.watch ≡ false;
   visited : AreVisitedBy l.members l.fn.machine l.nodes l.at;
+  ahead : AreFound l.fn.machine.component l.fn.machine.matrix l.members l.nodes l.ahead;
 }

@@ -1,5 +1,6 @@
 use Rattle.std.proofs.Common.{◌≡◌, ◌<◌, false, List}
 use Rattle.lu_graph.specs.Kept.{Kept}
+use Rattle.lu_graph.specs.Expanding.{AreFound}
 use Rattle.lu_graph.specs.Holding.{Hold}
 use Rattle.lu_graph.specs.Visiting.{AreVisitedFrom}
 use Rattle.lu_graph.proofs.Visiting.{AreSearchedFrom}
@@ -15,5 +16,6 @@ invariant-loop-at g l = record {
   known : (list : List Kept) × Hold l.members l.nodes list
       × AreVisitedFrom l.members l.fn.machine.component l.fn.machine.matrix list l.at
       × AreSearchedFrom l.members l.fn.machine.component l.fn.machine.matrix list l.at l.level.moves l.level.end;
+  ahead : AreFound l.fn.machine.component l.fn.machine.matrix l.members l.nodes l.ahead;
   moves : l.level.moves < l.level.end;
 }

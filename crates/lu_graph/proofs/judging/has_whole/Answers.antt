@@ -1,7 +1,7 @@
-use Rattle.std.proofs.Common.{arith, Some, false, refl, sym, ap, ◌∙◌}
+use Rattle.std.proofs.Common.{arith, Some, refl, sym, ap, ◌∙◌}
 use Rattle.std.proofs.lemmas.Option.{slice_get-get_or, slice_get_within}
-use Rattle.lu_graph.proofs.Wholes.{has_one, none_dead, none_other}
-use Rattle.lu_graph.proofs.judging.has_whole.Goals.{then-alive-place+else-is_whole, else-alive-place}
+use Rattle.lu_graph.proofs.Wholes.{has_one, none_dead, none_other, told_alive}
+use Rattle.lu_graph.proofs.judging.has_whole.Goals.{then-was_alive+else-is_whole, else-was_alive}
 use Rattle.lu_graph.proofs.judging.has_whole.Goals as goal
 
 pub returns-then-is_whole : goal.returns-then-is_whole
@@ -9,19 +9,19 @@ returns-then-is_whole c = (
   (λ x. has_one c.args.machine.now c.args.waiting c.args.members.now c.args.alive.now c.loop-place.place c.index-members-place.result
       (slice_get-get_or c.args.members.now c.loop-place.place c.index-members-place.result (omega arith) ∙ ap Some (sym c.index-members-place.is))
       c.deref.result.now c.deref.ensures.value c.is_whole.result c.is_whole.ensures
-      (slice_get-get_or c.args.alive.now c.loop-place.place false (omega arith) ∙ ap Some c.if-alive-place.true) c.if-is_whole.true),
+      (told_alive c.args.alive.now c.loop-place.place (sym c.was_alive.ensures ∙ c.if-was_alive.true)) c.if-is_whole.true),
   (λ x. refl),
 )
 
 pub loop-place-preserved : goal.loop-place-preserved
-loop-place-preserved c = elim c.if-alive-place.branch [
-  | then-alive-place+else-is_whole w ↦
+loop-place-preserved c = elim c.if-was_alive.branch [
+  | then-was_alive+else-is_whole w ↦
       none_other c.args.machine.now c.args.waiting c.args.members.now c.args.alive.now c.loop-place.place w.index-members-place.result
       (slice_get-get_or c.args.members.now c.loop-place.place w.index-members-place.result (omega arith) ∙ ap Some (sym w.index-members-place.is))
       w.deref.result.now w.deref.ensures.value w.is_whole.result w.is_whole.ensures c.loop-place.invariant w.if-is_whole.false
-  | else-alive-place w ↦
+  | else-was_alive w ↦
       none_dead c.args.machine.now c.args.waiting c.args.members.now c.args.alive.now c.loop-place.place c.loop-place.invariant
-      (slice_get-get_or c.args.alive.now c.loop-place.place false (omega arith) ∙ ap Some w.if-alive-place.false)
+      (sym c.was_alive.ensures ∙ w.if-was_alive.false)
 ]
 
 pub returns : goal.returns
