@@ -1,5 +1,5 @@
 -- What is found ahead of the search.
-use Rattle.std.proofs.Common.{arith, ◌≡◌, ℕ, zero, suc, List, [], ◌∷◌, ◌++◌, length, take, drop, Some, slice_get, refl, sym, ◌∙◌, ap, subst, inl}
+use Rattle.std.proofs.Common.{arith, ◌≡◌, ◌≤◌, ℕ, zero, suc, List, [], ◌∷◌, ◌++◌, length, take, drop, Some, slice_get, refl, sym, ◌∙◌, ap, subst, inl}
 use Rattle.std.specs.Prelude.{All}
 use Rattle.std.specs.Global.{Vec}
 use Rattle.std.proofs.Math.Seq.{drop-nil, take-nil}
@@ -16,7 +16,7 @@ use Rattle.lu_graph.specs.declared.expanding.Expansions.{Expansions}
 use Rattle.lu_graph.specs.declared.holding.Nodes.{Nodes}
 use Rattle.lu_graph.specs.declared.row.Row.{Row}
 use Rattle.lu_graph.specs.Expanding.{AllCanStand, AreExpandedIn, AreFound, AreFoundBetween, AreAhead, IsBetween, IsExpandedIn, IsNextBetween, IsNextThere, IsRowOfSuch, PutsAhead, count_all}
-use Rattle.lu_graph.specs.Growing.{CanStandThere, IsNextBy, Keeps, state_of}
+use Rattle.lu_graph.specs.Growing.{CanStandThere, GrowsBy, IsNextBy, Keeps, state_of}
 use Rattle.lu_graph.specs.Holding.{Hold}
 use Rattle.lu_graph.specs.Kept.{Kept}
 use Rattle.lu_graph.specs.Rows.{CanStandAtRow, IsRowOf, KnowsDead}
@@ -133,3 +133,12 @@ puts_nothing ahead nodes members c matrix from end list hold known found = (ahea
 pub puts_ahead : (before ahead : Expansions) (old new : Nodes) → PutsIn before.rows.items old new → ahead.nodes.items ≡ before.nodes.items → ahead.rows.items ≡ [] → PutsAhead before ahead old new
 puts_ahead before ahead old new puts same none members c matrix from end list hold known found =
     put_in_then members c matrix from end list old new before ahead puts same none hold known found
+
+-- what came from nodes before one end came from nodes before a later one
+pub grows_within : (members : List (Vec SerialOp)) (c : Component) (matrix : Matrix) (list : List Kept) (from end limit : ℕ) → end ≤ limit → (now : List Kept) → GrowsBy c matrix (IsNextBetween members c matrix list from end) list now → GrowsBy c matrix (IsNextBetween members c matrix list from limit) list now
+grows_within members c matrix list from end limit le now grows = (
+  grows.0,
+  grows.1,
+  All-weaker (λ (kept : Kept). CanStandThere c matrix kept × IsNextBetween members c matrix list from end kept) (λ (kept : Kept). CanStandThere c matrix kept × IsNextBetween members c matrix list from limit kept)
+      (λ kept is. (is.0, (is.1.0, is.1.1, is.1.2, (let lt = is.1.3 in omega (arith, lt, le)), is.1.4, is.1.5))) grows.0 grows.2,
+)

@@ -25,7 +25,7 @@ use Rattle.lu_graph.specs.Nodes.{IsEnding, TellsEnding}
 use Rattle.lu_graph.specs.Alive.{AreTold, IsPossible}
 use Rattle.lu_graph.specs.Judging.{Follows, IsOneOf}
 use Rattle.lu_graph.specs.Listing.{histories}
-use Rattle.lu_graph.proofs.Followed.{follows_none}
+use Rattle.lu_graph.proofs.Followed.{follows_quiet}
 use Rattle.lu_graph.proofs.OtherSet.{ending_too}
 
 -- after a path
@@ -127,7 +127,7 @@ true_more alive new grown all i b at = elim (at_push alive true b i (subst (λ x
 -- the start alone
 pub holds_start : (s : State) (members : List (Vec SerialOp)) (alive bits : List Bool) (nodes : Nodes) → bits ≡ alive → AreTold members [] alive → HoldsOne s bits nodes → HoldsStart members s nodes
 holds_start s members alive bits nodes same told (kept, hold, can, is, known) =
-    let comes : ComesBy s.component s.matrix members s bits None kept = record { state = is.0; follows = subst (Follows members s bits None) (sym is.1) (follows_none members s bits bits refl) } in
+    let comes : ComesBy s.component s.matrix members s bits None kept = record { state = is.0; follows = subst (Follows members s bits None) (sym is.1) (follows_quiet members s bits None (λ a outcome e. absurd (cc))) } in
     let Such : Kept → Type 0 = λ k. CanStandThere s.component s.matrix k × ComesBy s.component s.matrix members s bits None k in (
       kept ∷ [],
       hold members,

@@ -1,6 +1,6 @@
 -- What is remembered of returns.
-use Rattle.std.proofs.Common.{◌≡◌, ℕ, Bool, true, ◌&&◌, List, [], ◌∷◌, ◌++◌, Option, Some, refl, sym, ◌∙◌, ap, subst}
-use Rattle.std.specs.Prelude.{nat_eq}
+use Rattle.std.proofs.Common.{◌≡◌, ℕ, Bool, true, ◌&&◌, List, [], ◌∷◌, ◌++◌, Option, None, Some, refl, sym, ◌∙◌, ap, subst}
+use Rattle.std.specs.Prelude.{IfSome, nat_eq}
 use Rattle.std.specs.Bool.{Decides, beq}
 use lib.Pointwise.{pointwise}
 use Rattle.std.specs.Global.{Vec}
@@ -21,9 +21,10 @@ use Rattle.lu_graph.specs.declared.possibilities.Possibilities.{Possibilities}
 use Rattle.lu_graph.specs.declared.possibilities.ReturnAt.{ReturnAt}
 use Rattle.lu_graph.specs.contracts.possibilities.ReturnAtPartialEq as return_at
 use Rattle.lu_graph.specs.Discovering.{Extends}
-use Rattle.lu_graph.specs.Judging.{Follows, StayTold, called}
+use Rattle.lu_graph.specs.Judging.{Follows, StayTold}
 use Rattle.lu_graph.specs.Numbered.{IsNumbered, is_list}
-use Rattle.lu_graph.specs.Possibilities.{AreLeft, Gives, HaveCalls, IsLeft, NumbersAfter, NumbersStay}
+use Rattle.lu_graph.specs.Possibilities.{AreLeft, Gives, IsLeft, IsNoReturn, IsNumberOf, NumbersAfter, NumbersStay, RecallsAfter, TellsReturn}
+use Rattle.lu_graph.proofs.Followed.{follows_quiet, follows_return}
 use Rattle.lu_graph.proofs.Numbers.{extends_none, number_stays, numbered}
 use Rattle.lu_graph.proofs.Same.{one_alive, same_numbers}
 
@@ -87,42 +88,33 @@ module _ (members : List (Vec SerialOp)) where
     stays = is.stays;
   }
 
-  module _ (s : State) (a : OpId) (outcome : Outcome) (was : ℕ) where
-    stays_alike : (r : State) (old new : List Bool) → ((u : ℕ) → called s u ≡ called r u) → StayTold s members a outcome old new → StayTold r members a outcome old new
-    stays_alike r old new same told = record {
-      many = told.many;
-      stay = λ i q b c at before is h made. told.stay i q b c at before is h (λ u. made u ∙ sym (same u));
-    }
-
-    abbrev pub at_calls : List ℕ → ReturnAt
-    at_calls calls = record { alive = was; calls = calls; operation = a; outcome = outcome }
-
+  module _ (at : ReturnAt) where
     -- it was met
-    pub numbers_met : (possible : Possibilities) (calls : List ℕ) (n : ℕ) → HaveCalls s calls → lookup (return_eq (at_calls calls)) possible.returns.entries ≡ Some n → NumbersStay members s a outcome was possible possible n
-    numbers_met possible calls n have at alive knows left =
+    pub numbers_met : (possible : Possibilities) (n : ℕ) → lookup (return_eq at) possible.returns.entries ≡ Some n → NumbersStay members at possible possible n
+    numbers_met possible n met alive knows left =
         let entries = possible.returns.entries in
-        let it : IsLeft members possible (at_calls calls) n = All-contains (IsLeftIn possible) entries (at_calls calls, n) left (Contains-from_lookup same_return (at_calls calls) n entries at) in
-        let same : it.old ≡ alive = one_alive possible was it.old alive it.was knows in
+        let it : IsLeft members possible at n = All-contains (IsLeftIn possible) entries (at, n) left (Contains-from_lookup same_return at n entries met) in
+        let same : it.old ≡ alive = one_alive possible at.alive it.old alive it.was knows in
         record {
           list = it.new;
-          such = subst (λ x. StayTold s members a outcome x it.new) same (it.stays s have);
+          such = subst (λ x. StayTold members at x it.new) same it.stays;
           number = it.is;
           grows = extends_none possible.lists.keys;
           left = left;
         }
 
     -- it is new
-    pub numbers_new : (old new : Possibilities) (calls : List ℕ) (listed now : List Bool) (n : ℕ) → HaveCalls s calls → Gives old was listed → StayTold s members a outcome listed now
-        → IsNumbered (is_list beq now) old.lists.keys new.lists.keys n → new.returns.entries ≡ old.returns.entries ++ (at_calls calls, n) ∷ [] → NumbersStay members s a outcome was old new n
-    numbers_new old new calls listed now n have gives told numbered more alive knows left =
+    pub numbers_new : (old new : Possibilities) (listed now : List Bool) (n : ℕ) → Gives old at.alive listed → StayTold members at listed now
+        → IsNumbered (is_list beq now) old.lists.keys new.lists.keys n → new.returns.entries ≡ old.returns.entries ++ (at, n) ∷ [] → NumbersStay members at old new n
+    numbers_new old new listed now n gives told numbered more alive knows left =
         let same : listed ≡ alive = gives alive knows in
-        let here = subst (λ x. StayTold s members a outcome x now) same told in
-        let it : IsLeft members new (at_calls calls) n = record {
+        let here = subst (λ x. StayTold members at x now) same told in
+        let it : IsLeft members new at n = record {
           old = alive;
           new = now;
-          was = number_stays (is_list beq alive) old.lists.keys new.lists.keys was numbered.grows knows;
+          was = number_stays (is_list beq alive) old.lists.keys new.lists.keys at.alive numbered.grows knows;
           is = numbered.number;
-          stays = λ r their. stays_alike r alive now (λ u. sym (have u) ∙ their u) here;
+          stays = here;
         } in
         record {
           list = now;
@@ -130,17 +122,22 @@ module _ (members : List (Vec SerialOp)) where
           number = numbered.number;
           grows = numbered.grows;
           left = subst (All (IsLeftIn new)) (sym more)
-              (All-push (IsLeftIn new) old.returns.entries (at_calls calls, n) (All-weaker (IsLeftIn old) (IsLeftIn new) (left_grown old new numbered.grows) old.returns.entries left) it);
+              (All-push (IsLeftIn new) old.returns.entries (at, n) (All-weaker (IsLeftIn old) (IsLeftIn new) (left_grown old new numbered.grows) old.returns.entries left) it);
         }
 
   -- ---- after events
 
-  pub numbers_same : (s : State) (event : Option Event) (possible : Possibilities) (n : ℕ) → ((alive : List Bool) → Follows members s alive event alive) → NumbersAfter members s event n possible possible n
-  numbers_same s event possible n follows alive knows left =
-      record { list = alive; such = follows alive; number = knows; grows = extends_none possible.lists.keys; left = left }
+  pub numbers_same : (s : State) (event : Option Event) (possible : Possibilities) (n : ℕ) → IsNoReturn event → NumbersAfter members s event n possible possible n
+  numbers_same s event possible n quiet alive knows left =
+      record { list = alive; such = follows_quiet members s alive event quiet; number = knows; grows = extends_none possible.lists.keys; left = left }
 
-  pub numbers_return : (s : State) (event : Option Event) (a : OpId) (outcome : Outcome) (was : ℕ) (old new : Possibilities) (n : ℕ) → ((alive now : List Bool) → StayTold s members a outcome alive now → Follows members s alive event now)
-      → NumbersStay members s a outcome was old new n → NumbersAfter members s event was old new n
-  numbers_return s event a outcome was old new n follows stay alive knows left =
-      let one = stay alive knows left in
-      record { list = one.list; such = follows alive one.list one.such; number = one.number; grows = one.grows; left = one.left }
+  pub numbers_return : (s : State) (event : Option Event) (at : ReturnAt) (was : ℕ) (old new : Possibilities) (n : ℕ) → TellsReturn s was event (Some at)
+      → NumbersStay members at old new n → NumbersAfter members s event was old new n
+  numbers_return s event at was old new n (is, have, from) stay alive knows left =
+      let one = stay alive (subst (IsNumberOf old alive) (sym from) knows) left in
+      record { list = one.list; such = subst (λ e. Follows members s alive e one.list) (sym is) (follows_return members s alive at one.list have one.such); number = one.number; grows = one.grows; left = one.left }
+
+-- what is looked up
+pub recalled : (s : State) (event : Option Event) (at : ReturnAt) (was : ℕ) (known : Possibilities) (o : Option ℕ) → TellsReturn s was event (Some at) → o ≡ lookup (return_eq at) known.returns.entries → IfSome o (RecallsAfter s event was known)
+recalled s event at was known None told met = tt
+recalled s event at was known (Some n) told met = λ members. numbers_return members s event at was known known n told (numbers_met members at known n (sym met))

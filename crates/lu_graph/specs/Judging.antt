@@ -1,15 +1,15 @@
 -- How an ended state is judged, by the members that are alive.
 use Rattle.std.specs.Prelude.{◌≡◌, ◌↔◌, ℕ, ◌+◌, ◌≤◌, ◌==◌, if◌then◌else◌, Bool, true, IsTrue, List, length, Option, Some, None, MatchOption, slice_get}
 use Rattle.std.specs.Global.{Vec}
+use Rattle.std.specs.List.{slice_index}
 use Rattle.lu_machine.specs.declared.event.Event.{Event}
-use Rattle.lu_machine.specs.declared.event.Outcome.{Outcome}
 use Rattle.lu_machine.specs.States.{State, progress}
-use Rattle.lu_history.specs.declared.operation.OpId.{OpId}
 use Rattle.lu_history.specs.declared.serial.SerialOp.{SerialOp}
 use Rattle.lu_history.specs.declared.serial.SerialOutcome.TheVariants.{Stuck}
 use Rattle.lu_history.specs.Histories.{IsWellFormed, calls}
 use Rattle.lu_history.specs.Standing.{Agree, standing_of}
 use Rattle.lu_witness.specs.Witnesses.{IsEntryAt, entries}
+use Rattle.lu_graph.specs.declared.possibilities.ReturnAt.{ReturnAt}
 use Rattle.lu_graph.specs.Alive.{Admits, AreTold}
 use Rattle.lu_graph.specs.Nodes.{TellsGood, longer}
 
@@ -57,41 +57,44 @@ abbrev pub FindsEntry : List SerialOp → ℕ → ℕ → Option ℕ → Type 0
 FindsEntry q t number None = length (entries t q) ≤ number
 FindsEntry q t number (Some place) = IsEntryAt q place (record { t = t; k = number })
 
--- of each thread there are no more than are called
-abbrev pub AreCalled : State → List SerialOp → Type 0
-AreCalled s front = (u : ℕ) → length (entries u front) ≤ called s u
+-- of each thread there are no more than so many
+abbrev pub AreCalled : List ℕ → List SerialOp → Type 0
+AreCalled called front = (u : ℕ) → length (entries u front) ≤ slice_index called u
 
--- whether q stays possible, of each history with the calls of s
-abbrev pub TellsAdmits : State → List SerialOp → OpId → Outcome → Bool → Type 0
-TellsAdmits s q a outcome answer =
-    (h : List Event) → ((u : ℕ) → calls u h ≡ called s u) → IsTrue answer ↔ Admits q h a outcome
+-- so many operations of each thread are called in the history
+abbrev pub HasCalls : List ℕ → List Event → Type 0
+HasCalls called h = (u : ℕ) → calls u h ≡ slice_index called u
+
+-- whether q stays possible after the return, of each history with its calls
+abbrev pub TellsAdmits : List SerialOp → ReturnAt → Bool → Type 0
+TellsAdmits q at answer =
+    (h : List Event) → HasCalls at.calls h → IsTrue answer ↔ Admits q h at.operation at.outcome
 
 -- whether it stays possible, if it was
-abbrev pub TellsStays : State → List SerialOp → OpId → Outcome → Bool → Bool → Type 0
-TellsStays s q a outcome was answer =
-    (h : List Event) → ((u : ℕ) → calls u h ≡ called s u)
-    → IsTrue answer ↔ (IsTrue was × Admits q h a outcome)
+abbrev pub TellsStays : List SerialOp → ReturnAt → Bool → Bool → Type 0
+TellsStays q at was answer =
+    (h : List Event) → HasCalls at.calls h
+    → IsTrue answer ↔ (IsTrue was × Admits q h at.operation at.outcome)
 
 -- the thread's operation after those that ended in s is stuck in q
 abbrev pub IsStuckIn : State → List SerialOp → ℕ → Type 0
 IsStuckIn s q thread = slice_get (entries thread q) (ended s thread) ≡ Some Stuck
 
--- which members stay possible where a returns next with this outcome, in each history with the
--- calls of s
-abbrev pub Stay : State → List (Vec SerialOp) → OpId → Outcome → List Bool → List Bool → Type 0
-Stay s members a outcome old new =
+-- which members stay possible after the return
+abbrev pub Stay : List (Vec SerialOp) → ReturnAt → List Bool → List Bool → Type 0
+Stay members at old new =
     (i : ℕ) (q : Vec SerialOp) (b c : Bool) → slice_get members i ≡ Some q
     → slice_get old i ≡ Some b → slice_get new i ≡ Some c
-    → TellsStays s q.items a outcome b c
+    → TellsStays q.items at b c
 
-pub record StayTold (s : State) (members : List (Vec SerialOp)) (a : OpId) (outcome : Outcome)
-    (old new : List Bool) : Type 0 where
+pub record StayTold (members : List (Vec SerialOp)) (at : ReturnAt) (old new : List Bool)
+    : Type 0 where
   pub many : length new ≡ length members
-  pub stay : Stay s members a outcome old new
+  pub stay : Stay members at old new
 
 -- so it is of what stands in the vector
-abbrev pub StayToldIn : State → List (Vec SerialOp) → OpId → Outcome → List Bool → Vec Bool → Type 0
-StayToldIn s members a outcome old new = StayTold s members a outcome old new.items
+abbrev pub StayToldIn : List (Vec SerialOp) → ReturnAt → List Bool → Vec Bool → Type 0
+StayToldIn members at old new = StayTold members at old new.items
 
 -- what is told after one event more, or none, of each history that leads to s with it
 abbrev pub Follows : List (Vec SerialOp) → State → List Bool → Option Event → List Bool → Type 0

@@ -1,9 +1,10 @@
 -- Which members are possible, as numbered lists; and what returns leave of them.
-use Rattle.std.specs.Prelude.{◌≡◌, ℕ, Bool, List, All, Option}
+use Rattle.std.specs.Prelude.{◌≡◌, ℕ, Bool, List, All, Option, Some, None}
 use Rattle.std.specs.Bool.{beq}
 use Rattle.std.specs.Global.{Vec}
 use Rattle.std.specs.List.{slice_index}
 use Rattle.lu_machine.specs.declared.event.Event.{Event}
+use Rattle.lu_machine.specs.declared.event.Event.TheVariants.{Return}
 use Rattle.lu_machine.specs.declared.event.Outcome.{Outcome}
 use Rattle.lu_machine.specs.States.{State}
 use Rattle.lu_history.specs.declared.operation.OpId.{OpId}
@@ -26,15 +27,26 @@ Gives possible n result = (alive : List Bool) → IsNumberOf possible alive n �
 abbrev pub HaveCalls : State → List ℕ → Type 0
 HaveCalls s calls = (u : ℕ) → slice_index calls u ≡ called s u
 
--- this is the number of what stays possible after the return, wherever as many are called
+-- the event is no return
+abbrev pub IsNoReturn : Option Event → Type 0
+IsNoReturn event = (a : OpId) (outcome : Outcome) → event ≡ Some (Return a.t a.k outcome) → ⊥
+
+-- the event that led to s is this return, with the calls of s, where before it what has this number
+-- was possible; or it is none
+abbrev pub TellsReturn : State → ℕ → Option Event → Option ReturnAt → Type 0
+TellsReturn s alive event None = IsNoReturn event
+TellsReturn s alive event (Some at) =
+    (event ≡ Some (Return at.operation.t at.operation.k at.outcome)) × HaveCalls s at.calls
+    × (at.alive ≡ alive)
+
+-- this is the number of what stays possible after the return
 pub record IsLeft (members : List (Vec SerialOp)) (possible : Possibilities) (at : ReturnAt)
     (n : ℕ) : Type 0 where
   pub old : List Bool
   pub new : List Bool
   pub was : IsNumberOf possible old at.alive
   pub is : IsNumberOf possible new n
-  pub stays : (s : State) → HaveCalls s at.calls
-      → StayTold s members at.operation at.outcome old new
+  pub stays : StayTold members at old new
 
 -- so it is of each return that is remembered
 abbrev pub AreLeft : List (Vec SerialOp) → Possibilities → Type 0
@@ -57,16 +69,9 @@ Numbers Such members was old new n =
     (alive : List Bool) → IsNumberOf old alive was → AreLeft members old
     → NumbersOne (Such alive) members old new n
 
--- the number of what stays possible where a returns with this outcome
-abbrev pub NumbersStay : List (Vec SerialOp) → State → OpId → Outcome → ℕ → Possibilities
-    → Possibilities → ℕ → Type 0
-NumbersStay members s a outcome = Numbers (StayTold s members a outcome) members
-
--- so it is of a return of s, which has the calls of s
-abbrev pub NumbersBehind : List (Vec SerialOp) → State → ReturnAt → Possibilities → Possibilities
-    → ℕ → Type 0
-NumbersBehind members s at old new n =
-    HaveCalls s at.calls → NumbersStay members s at.operation at.outcome at.alive old new n
+-- the number of what stays possible after the return
+abbrev pub NumbersStay : List (Vec SerialOp) → ReturnAt → Possibilities → Possibilities → ℕ → Type 0
+NumbersStay members at = Numbers (StayTold members at) members at.alive
 
 -- the number of what is possible after the event, if there is one, that led to s
 abbrev pub NumbersAfter : List (Vec SerialOp) → State → Option Event → ℕ → Possibilities

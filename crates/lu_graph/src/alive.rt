@@ -4,20 +4,23 @@ ghost use Rattle.std.specs.Prelude.{◌≡◌, ◌↔◌, IfOk, IsTrue, false, g
 ghost use Rattle.lu_history.specs.Parts.{as_serial};
 ghost use Rattle.lu_graph.specs.Judging.{AreCalled, StayToldIn, TellsAdmits, TellsStays};
 
-use crate::members::{count, place_of};
-use crate::standing::called;
-use lu_history::{OpId, SerialOp, SerialOutcome};
-use lu_machine::{Machine, Outcome};
+use crate::members::place_of;
+use crate::possibilities::ReturnAt;
+use lu_history::{SerialOp, SerialOutcome};
+use lu_machine::Outcome;
 use std::alloc::{AllocError, Global};
 
-/// Whether all these operations are called, where the machine stands.
-fn are_called(machine: &Machine<'_>, front: &[SerialOp]) -> bool
-    ensures { IsTrue result ↔ AreCalled machine.now front.now }
+/// Whether there are no more operations of any thread than are called.
+fn are_called(front: &[SerialOp], called: &[u16; 8]) -> bool
+    ensures { IsTrue result ↔ AreCalled called.now front.now }
 {
+    let mut left = *called;
     for op in front {
-        if count(front, op.thread) > called(machine, op.thread) {
+        let thread = usize::from(op.thread);
+        if thread >= left.len() || left[thread] == 0 {
             return false;
         }
+        left[thread] -= 1;
     }
     true
 }
@@ -29,32 +32,26 @@ fn is_ended_so(ended: SerialOutcome, outcome: Outcome) -> bool
     ended == SerialOutcome::from(outcome)
 }
 
-/// Whether a member that was possible stays so, where the operation returns with this outcome.
-fn admits(machine: &Machine<'_>, member: &[SerialOp], operation: OpId, outcome: Outcome) -> bool
-    ensures { TellsAdmits machine.now member.now operation outcome result }
+/// Whether a member that was possible stays so after the return.
+fn admits(member: &[SerialOp], at: &ReturnAt) -> bool
+    ensures { TellsAdmits member.now at.now result }
 {
-    let place = match place_of(member, operation.t, usize::from(operation.k)) {
+    let place = match place_of(member, at.operation.t, usize::from(at.operation.k)) {
         None => return false,
         Some(place) => place,
     };
-    if !is_ended_so(member[place].outcome, outcome) {
+    if !is_ended_so(member[place].outcome, at.outcome) {
         return false;
     }
-    are_called(machine, &member[..place])
+    are_called(&member[..place], &at.calls)
 }
 
-/// Whether a member stays possible, if it was, where the operation returns with this outcome.
-fn stays(
-    machine: &Machine<'_>,
-    member: &[SerialOp],
-    was: bool,
-    operation: OpId,
-    outcome: Outcome,
-) -> bool
-    ensures { TellsStays machine.now member.now operation outcome was result }
+/// Whether a member stays possible after the return, if it was.
+fn stays(member: &[SerialOp], was: bool, at: &ReturnAt) -> bool
+    ensures { TellsStays member.now at.now was result }
 {
     if was {
-        return admits(machine, member, operation, outcome);
+        return admits(member, at);
     }
     false
 }
@@ -69,22 +66,19 @@ pub(crate) fn was_alive(alive: &[bool], place: usize) -> bool
     }
 }
 
-/// Which of the members stay possible, where the operation returns with this outcome.
+/// Which of the members stay possible after the return, where these were before.
 pub(crate) fn still_alive(
     alloc: Global,
-    machine: &Machine<'_>,
     members: &[Vec<SerialOp>],
     alive: &[bool],
-    operation: OpId,
-    outcome: Outcome,
+    at: &ReturnAt,
 ) -> Result<Vec<bool>, AllocError>
-    ensures { IfOk result (StayToldIn machine.now members.now operation outcome alive.now) }
+    ensures { IfOk result (StayToldIn members.now at.now alive.now) }
 {
-    let mut now = Vec::new(alloc);
+    let mut now = Vec::with_capacity(alloc, members.len())?;
     for place in 0..members.len() {
-        let was = was_alive(alive, place);
-        let stays = stays(machine, &members[place], was, operation, outcome);
-        now.push(stays)?;
+        let stays = stays(&members[place], was_alive(alive, place), at);
+        now.push_reserved(stays);
     }
     Ok(now)
 }

@@ -157,6 +157,7 @@ fn search<W: Watch, E: Expanders>(
 {
     let mut level = Level {
         moves: 0,
+        first: 0,
         end: nodes.rows.len(),
     };
     let mut ahead = Expansions::new(alloc);
@@ -173,7 +174,7 @@ fn search<W: Watch, E: Expanders>(
             Some(row) => row,
         };
         level = level.at(at, known);
-        let end = level.end;
+        let end = level.batch_end(at);
         look_ahead(
             alloc, machine, members, guards, nodes, at, end, most, &mut ahead, expanders,
         )?;

@@ -1,12 +1,16 @@
 //! Levels of a breadth-first search.
 
-ghost use Rattle.std.specs.Prelude.{◌<◌};
+ghost use Rattle.std.specs.Prelude.{◌<◌, ◌≤◌};
 
-/// The nodes to which schedules of so many moves lead, and none of fewer. They stand before this
-/// place, and those to which longer schedules lead do not.
+/// The least nodes of a batch, where its level has so many.
+const LEAST_IN_BATCH: usize = 512;
+
+/// The nodes to which schedules of so many moves lead, and none of fewer. They stand from place
+/// `first` on, before place `end`, and those to which longer schedules lead do not.
 #[derive(Clone, Copy)]
 pub(crate) struct Level {
     pub(crate) moves: usize,
+    pub(crate) first: usize,
     pub(crate) end: usize,
 }
 
@@ -24,7 +28,18 @@ impl Level {
         }
         Level {
             moves: self.moves + 1,
+            first: place,
             end: known,
         }
+    }
+
+    /// Where a batch of the level's nodes ends that begins at this place. It has no more of them
+    /// than stand before it, for what nodes are made of is mostly met as a level begins.
+    pub(crate) fn batch_end(self, place: usize) -> usize
+        ensures { result ≤ self.end }
+    {
+        let before = place.saturating_sub(self.first);
+        self.end
+            .min(place.saturating_add(before.max(LEAST_IN_BATCH)))
     }
 }

@@ -1,7 +1,7 @@
 //! Which members are possible: each different list once, with what returns leave of it.
 
 ghost use Rattle.std.specs.Prelude.{◌≡◌, [], IfOk, IfSome};
-ghost use Rattle.lu_graph.specs.Possibilities.{Gives, HaveCalls, NumbersAfter, NumbersBehind, RecallsAfter};
+ghost use Rattle.lu_graph.specs.Possibilities.{Gives, HaveCalls, NumbersAfter, NumbersStay, RecallsAfter, TellsReturn};
 
 use crate::alive::still_alive;
 use crate::standing::called;
@@ -59,25 +59,39 @@ fn calls_of(machine: &Machine<'_>) -> [u16; 8]
     calls
 }
 
-/// The number of what stays possible after the return, which has the calls of the machine. It is
-/// looked up, and remembered where it was not there.
-fn number_behind(
+/// The number of what stays possible after the return. It is looked up, and remembered where it was
+/// not there.
+fn number_of_return(
     alloc: Global,
-    machine: &Machine<'_>,
     members: &[Vec<SerialOp>],
     at: ReturnAt,
     known: &mut Possibilities,
 ) -> Result<u32, AllocError>
-    ensures { IfOk result (NumbersBehind members.now machine.now at known.old known.new) }
+    ensures { IfOk result (NumbersStay members.now at known.old known.new) }
 {
     if let Some(number) = known.returns.get(&at) {
         return Ok(*number);
     }
-    let old = known.list(at.alive);
-    let now = still_alive(alloc, machine, members, old, at.operation, at.outcome)?;
+    let now = still_alive(alloc, members, known.list(at.alive), &at)?;
     let number = number_of_list(alloc, &mut known.lists, &now, at.alive)?;
     known.returns.insert(at, number)?;
     Ok(number)
+}
+
+/// The return that this event is, if it is one, by which the machine came where it stands, where
+/// before it what has the number `alive` was possible.
+fn return_at(machine: &Machine<'_>, alive: u32, event: Option<Event>) -> Option<ReturnAt>
+    ensures { TellsReturn machine.now alive event result }
+{
+    match event? {
+        Event::Call { .. } => None,
+        Event::Return { t, k, outcome } => Some(ReturnAt {
+            alive,
+            calls: calls_of(machine),
+            operation: OpId { t, k },
+            outcome,
+        }),
+    }
 }
 
 /// The number of what is possible after the event, if there is one, by which the machine came
@@ -92,20 +106,9 @@ pub(crate) fn number_after(
 ) -> Result<u32, AllocError>
     ensures { IfOk result (NumbersAfter members.now machine.now event was known.old known.new) }
 {
-    match event {
+    match return_at(machine, was, event) {
         None => Ok(was),
-        Some(event) => match event {
-            Event::Call { .. } => Ok(was),
-            Event::Return { t, k, outcome } => {
-                let at = ReturnAt {
-                    alive: was,
-                    calls: calls_of(machine),
-                    operation: OpId { t, k },
-                    outcome,
-                };
-                number_behind(alloc, machine, members, at, known)
-            }
-        },
+        Some(at) => number_of_return(alloc, members, at, known),
     }
 }
 
@@ -118,22 +121,8 @@ pub(crate) fn known_after(
 ) -> Option<u32>
     ensures { IfSome result (RecallsAfter machine.now event was known.now) }
 {
-    match event {
+    match return_at(machine, was, event) {
         None => Some(was),
-        Some(event) => match event {
-            Event::Call { .. } => Some(was),
-            Event::Return { t, k, outcome } => {
-                let at = ReturnAt {
-                    alive: was,
-                    calls: calls_of(machine),
-                    operation: OpId { t, k },
-                    outcome,
-                };
-                match known.returns.get(&at) {
-                    None => None,
-                    Some(number) => Some(*number),
-                }
-            }
-        },
+        Some(at) => known.returns.get(&at).copied(),
     }
 }

@@ -6,16 +6,22 @@ use Rattle.lu_graph.proofs.alive.admits.Goals as goal
 
 pub returns-then-not-is_ended_so : goal.returns-then-not-is_ended_so
 returns-then-not-is_ended_so c =
-    let at = entry_found c.args.member.now c.args.operation.t c.args.operation.k c.from.result c.in-Some.place c.place_of.result c.place_of.ensures c.in-Some.is c.from.ensures in
-    admits_other c.args.machine.now c.args.member.now c.args.operation c.args.outcome c.in-Some.place at _ c.is_ended_so.result c.is_ended_so.ensures (search rules)
+    let q = c.args.member.now in
+    let at = c.args.at.now in
+    let there = entry_found q at.operation.t at.operation.k c.from.result c.in-Some.place c.place_of.result c.place_of.ensures c.in-Some.is c.from.ensures in
+    admits_other q at c.in-Some.place there _ c.is_ended_so.result c.is_ended_so.ensures (search rules)
 
 pub slice_bounds-are_called-end : goal.slice_bounds-are_called-end
 slice_bounds-are_called-end c =
-    let at = entry_found c.args.member.now c.args.operation.t c.args.operation.k c.from.result c.in-Some.place c.place_of.result c.place_of.ensures c.in-Some.is c.from.ensures in
-    let within = slice_get_within c.args.member.now c.in-Some.place at.0 at.1 in
-    sym (length-take-le c.in-Some.place c.args.member.now (omega (arith, within)))
+    let q = c.args.member.now in
+    let at = c.args.at.now in
+    let there = entry_found q at.operation.t at.operation.k c.from.result c.in-Some.place c.place_of.result c.place_of.ensures c.in-Some.is c.from.ensures in
+    let within = slice_get_within q c.in-Some.place there.0 there.1 in
+    sym (length-take-le c.in-Some.place q (omega (arith, within)))
 
 pub returns : goal.returns
 returns c =
-    let at = entry_found c.args.member.now c.args.operation.t c.args.operation.k c.from.result c.in-Some.place c.place_of.result c.place_of.ensures c.in-Some.is c.from.ensures in
-    admits_so c.args.machine.now c.args.member.now c.args.operation c.args.outcome c.in-Some.place at _ c.is_ended_so.result c.is_ended_so.ensures (search rules) c.are_called.result c.are_called.ensures
+    let q = c.args.member.now in
+    let at = c.args.at.now in
+    let there = entry_found q at.operation.t at.operation.k c.from.result c.in-Some.place c.place_of.result c.place_of.ensures c.in-Some.is c.from.ensures in
+    admits_so q at c.in-Some.place there _ c.is_ended_so.result c.is_ended_so.ensures (search rules) c.are_called.result c.are_called.ensures

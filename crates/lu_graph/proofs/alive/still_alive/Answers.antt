@@ -8,14 +8,15 @@ use Rattle.lu_graph.proofs.alive.still_alive.Goals as goal
 pub loop-place-preserved : goal.loop-place-preserved
 loop-place-preserved c =
     let member = c.index-members-place.result in
+    let at = c.args.at.now in
     let was = get_or c.args.alive.now c.loop-place.place false in
-    let tells : TellsStays c.args.machine.now member.items c.args.operation c.args.outcome was c.stays-stays.result =
-    subst (λ q. TellsStays c.args.machine.now q c.args.operation c.args.outcome was c.stays-stays.result) c.deref.ensures.value
-    (subst (λ b. TellsStays c.args.machine.now c.deref.result.now c.args.operation c.args.outcome b c.stays-stays.result) c.was_alive-was.ensures c.stays-stays.ensures) in
-    let grown = c.in_ok-push.ensures.items in
-    let many : length c.push.new.self.items ≡ c.loop-place.place + 1 = ap length grown ∙ (length_push c.loop-place.now.items c.stays-stays.result ∙ ap (λ n. n + 1) c.loop-place.invariant.many) in
+    let tells : TellsStays member.items at was c.stays-stays.result =
+    subst (λ q. TellsStays q at was c.stays-stays.result) c.deref.ensures.value
+    (subst (λ b. TellsStays c.deref.result.now at b c.stays-stays.result) c.was_alive.ensures c.stays-stays.ensures) in
+    let grown = c.push_reserved.ensures.items in
+    let many : length c.push_reserved.new.self.items ≡ c.loop-place.place + 1 = ap length grown ∙ (length_push c.loop-place.now.items c.stays-stays.result ∙ ap (λ n. n + 1) c.loop-place.invariant.many) in
     record {
       many = many;
-      stay = stay_more c.args.machine.now c.args.members.now c.args.operation c.args.outcome c.args.alive.now c.loop-place.now.items c.push.new.self.items c.loop-place.place member
+      stay = stay_more c.args.members.now at c.args.alive.now c.loop-place.now.items c.push_reserved.new.self.items c.loop-place.place member
           was c.stays-stays.result (slice_get-get_or c.args.members.now c.loop-place.place member (omega arith) ∙ ap Some (sym c.index-members-place.is)) refl tells grown c.loop-place.invariant.many c.loop-place.invariant.stay;
     }

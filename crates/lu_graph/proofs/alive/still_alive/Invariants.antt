@@ -5,5 +5,5 @@ use Rattle.lu_graph.proofs.alive.still_alive.Given as goal
 abbrev pub invariant-loop-place : goal.invariant-loop-place
 invariant-loop-place l = record {
   many : length l.now.items ≡ l.place;
-  stay : Stay l.machine l.members l.operation l.outcome l.alive l.now.items;
+  stay : Stay l.members l.at l.alive l.now.items;
 }

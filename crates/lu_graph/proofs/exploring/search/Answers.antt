@@ -12,7 +12,7 @@ use Rattle.lu_graph.specs.Judging.{IsOneOf}
 use Rattle.lu_graph.specs.Nodes.{HasFewNodes}
 use Rattle.lu_graph.specs.Rows.{CanStandAtRow, IsRowOf, KnowsDead}
 use Rattle.lu_graph.specs.Visiting.{AreVisited}
-use Rattle.lu_graph.proofs.Ahead.{there_then}
+use Rattle.lu_graph.proofs.Ahead.{grows_within, there_then}
 use Rattle.lu_graph.proofs.Expanded.{found_nothing, found_same}
 use Rattle.lu_graph.proofs.Same.{AreDifferent}
 use Rattle.lu_graph.proofs.Visiting.{badly, can_stand, ends_well_there, from_same, one_there, searched_at, searched_first, searched_next, searched_then, too_many, visited_first, visited_next, visited_then}
@@ -176,7 +176,7 @@ are_few-requires-clause-ahead g c =
     let then = c.look_ahead.new.nodes in
     let now_there = there_then list looked.grows.0 looked.now looked.grows.1 place kept here in
     let within : place ≤ length list = before_end list place kept here in
-    let end = c.at-level.result.end in
+    let end = c.batch_end-end.result in
     let visited_now = visited_then members decl matrix settles dead dead_known list place visited m was.component was.matrix_is end looked.now looked.grows within in
     let known_now : KnowsDead m.component then.parts.dead = known_parts m.component c.loop-at.nodes.parts then.parts looked.parts known in
     let through = c.in_ok-is_good.ensures.done looked.now kept looked.hold now_there (row_then kept c.in-Some.row c.loop-at.nodes.parts then.parts looked.parts one.2) known_now in
@@ -211,7 +211,7 @@ are_few-requires-clause-visited g c =
     let then = c.look_ahead.new.nodes in
     let now_there = there_then list looked.grows.0 looked.now looked.grows.1 place kept here in
     let within : place ≤ length list = before_end list place kept here in
-    let end = c.at-level.result.end in
+    let end = c.batch_end-end.result in
     let visited_now = visited_then members decl matrix settles dead dead_known list place visited m was.component was.matrix_is end looked.now looked.grows within in
     let known_now : KnowsDead m.component then.parts.dead = known_parts m.component c.loop-at.nodes.parts then.parts looked.parts known in
     let through = c.in_ok-is_good.ensures.done looked.now kept looked.hold now_there (row_then kept c.in-Some.row c.loop-at.nodes.parts then.parts looked.parts one.2) known_now in
@@ -251,7 +251,7 @@ returns-then-not-branch-clause-ends g c =
     let then = c.look_ahead.new.nodes in
     let now_there = there_then list looked.grows.0 looked.now looked.grows.1 place kept here in
     let within : place ≤ length list = before_end list place kept here in
-    let end = c.at-level.result.end in
+    let end = c.batch_end-end.result in
     let visited_now = visited_then members decl matrix settles dead dead_known list place visited m was.component was.matrix_is end looked.now looked.grows within in
     let known_now : KnowsDead m.component then.parts.dead = known_parts m.component c.loop-at.nodes.parts then.parts looked.parts known in
     let through = c.in_ok-is_good.ensures.done looked.now kept looked.hold now_there (row_then kept c.in-Some.row c.loop-at.nodes.parts then.parts looked.parts one.2) known_now in
@@ -289,7 +289,7 @@ returns-then-not-is_good-clause-ends g c =
     let then = c.look_ahead.new.nodes in
     let now_there = there_then list looked.grows.0 looked.now looked.grows.1 place kept here in
     let within : place ≤ length list = before_end list place kept here in
-    let end = c.at-level.result.end in
+    let end = c.batch_end-end.result in
     let visited_now = visited_then members decl matrix settles dead dead_known list place visited m was.component was.matrix_is end looked.now looked.grows within in
     let known_now : KnowsDead m.component then.parts.dead = known_parts m.component c.loop-at.nodes.parts then.parts looked.parts known in
     let through = c.in_ok-is_good.ensures.done looked.now kept looked.hold now_there (row_then kept c.in-Some.row c.loop-at.nodes.parts then.parts looked.parts one.2) known_now in
@@ -336,7 +336,7 @@ loop-at-preserved g c =
     let then = c.look_ahead.new.nodes in
     let now_there = there_then list looked.grows.0 looked.now looked.grows.1 place kept here in
     let within : place ≤ length list = before_end list place kept here in
-    let end = c.at-level.result.end in
+    let end = c.batch_end-end.result in
     let visited_now = visited_then members decl matrix settles dead dead_known list place visited m was.component was.matrix_is end looked.now looked.grows within in
     let known_now : KnowsDead m.component then.parts.dead = known_parts m.component c.loop-at.nodes.parts then.parts looked.parts known in
     let through = c.in_ok-is_good.ensures.done looked.now kept looked.hold now_there (row_then kept c.in-Some.row c.loop-at.nodes.parts then.parts looked.parts one.2) known_now in
@@ -359,7 +359,7 @@ loop-at-preserved g c =
         visited_next members decl matrix settles dead dead_known looked.now place visited_now m was.component was.matrix_is kept now_there now kept.alive refl refl more.list more.grown,
         searched_next members decl matrix settles dead dead_known looked.now place visited_now m was.component was.matrix_is kept now_there now kept.alive refl refl more.list more.grown
             c.at-level.result.moves c.at-level.result.end
-            (searched_then members decl matrix settles dead dead_known list place visited m was.component was.matrix_is end looked.now looked.grows c.at-level.result.moves level.0 level.2) level.0 c.in_ok-is_good.is_good (search rules) through.good_is,
+            (searched_then members decl matrix settles dead dead_known list place visited m was.component was.matrix_is c.at-level.result.end looked.now (grows_within members m.component m.matrix list place end c.at-level.result.end c.batch_end-end.ensures looked.now looked.grows) c.at-level.result.moves level.0 level.2) level.0 c.in_ok-is_good.is_good (search rules) through.good_is,
       );
       ahead = found_same m.component decl m.matrix matrix members c.go_through.new.nodes c.go_through.new.ahead was.component was.matrix_is (c.in_ok-is_good.ensures.left looked.now looked.hold known_now);
       moves = level.1;

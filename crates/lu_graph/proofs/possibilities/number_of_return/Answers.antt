@@ -4,19 +4,16 @@ use Rattle.indexmap.proofs.CallerLemmas.{insert_entry-new}
 use Rattle.lu_graph.specs.declared.possibilities.Possibilities.{Possibilities}
 use Rattle.lu_graph.specs.Numbered.{IsNumbered, is_list}
 use Rattle.lu_graph.proofs.Recalled.{numbers_met, numbers_new, return_eq}
-use Rattle.lu_graph.proofs.possibilities.number_behind.Goals as goal
+use Rattle.lu_graph.proofs.possibilities.number_of_return.Goals as goal
 
 pub returns-in-Some : goal.returns-in-Some
-returns-in-Some c = λ have.
-    (let at = c.args.at in
-    numbers_met c.args.members.now c.args.machine.now at.operation at.outcome at.alive c.args.known.now at.calls c.in-Some.number.now have (sym c.in-Some.ensures.value))
+returns-in-Some c = numbers_met c.args.members.now c.args.at c.args.known.now c.in-Some.number.now (sym c.in-Some.ensures.value)
 
 pub returns : goal.returns
-returns c = λ have.
-    (let old = c.args.known.now in
+returns c =
+    let old = c.args.known.now in
     let new : Possibilities = record { lists = c.number_of_list.new.table; returns = c.insert.new.self } in
-    let at = c.args.at in
     let number = c.in_ok-number.number in
-    numbers_new c.args.members.now c.args.machine.now at.operation at.outcome at.alive old new at.calls c.list-old.result.now c.in_ok-now.now.items number have c.list-old.ensures c.in_ok-now.ensures
+    numbers_new c.args.members.now c.args.at old new c.list.result.now c.in_ok-now.now.items number c.list.ensures c.in_ok-now.ensures
     (subst (λ xs. IsNumbered (is_list beq xs) old.lists.keys new.lists.keys number) c.deref.ensures.value c.in_ok-number.ensures)
-    (c.in_ok-insert.ensures.entries ∙ insert_entry-new return_eq old.returns at number (sym c.in_default.ensures.value)))
+    (c.in_ok-insert.ensures.entries ∙ insert_entry-new return_eq old.returns c.args.at number (sym c.in_default.ensures.value))
