@@ -10,3 +10,4 @@ pub mod Steps
 pub mod Worded
 pub mod Entries
 pub mod Complete
+pub mod Parts

@@ -5,3 +5,4 @@ pub mod Drafts
 pub mod Reads
 pub mod Readers
 pub mod Origins
+pub mod Parts

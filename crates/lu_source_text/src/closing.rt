@@ -6,6 +6,7 @@ ghost use Rattle.lu_source.specs.Code.{operation_code};
 ghost use Rattle.lu_source.specs.Shapes.{tree_of};
 ghost use Rattle.lu_source_text.specs.Drafts.{begun_of, block_of, drafted_of, opening_of};
 ghost use Rattle.lu_source_text.specs.Grammar as spec;
+ghost use Rattle.lu_source_text.specs.Parts.{else_of};
 ghost use Rattle.lu_source_text.specs.Reads.{Becomes, ReadsDraft, ReadsLine, ReadsOperation, in_begun, within};
 
 use crate::blocks::{close_into, closed_by, pop_block, push_block};
@@ -124,6 +125,25 @@ fn else_line(
     }
 }
 
+/// `else {` and `else if EXPR {`, where this is the block that was closed.
+fn else_of(
+    alloc: Global,
+    draft: &Draft,
+    begun: &mut Begun,
+    block: Block,
+    word: &[u8],
+    words: &[&[u8]],
+) -> Result<(), Refusal>
+    ensures { ReadsLine result
+        (else_of (block_of block) word.now) draft.now words.now begun.old begun.new }
+{
+    if word != b"else".as_slice() {
+        return Err(Refusal::Kind(SourceFaultKind::Form));
+    }
+    other_side(begun, block)?;
+    else_line(alloc, draft, begun, words)
+}
+
 /// A line that begins with `}`, where this is the innermost block, and these words come after.
 fn closes(
     alloc: Global,
@@ -137,13 +157,8 @@ fn closes(
     let Some((word, rest)) = words.split_first() else {
         return end_line(alloc, draft, begun, block);
     };
-    if *word == b"else".as_slice() {
-        other_side(&mut begun, block)?;
-        else_line(alloc, &draft, &mut begun, rest)?;
-        Ok(going(draft, begun))
-    } else {
-        Err(Refusal::Kind(SourceFaultKind::Form))
-    }
+    else_of(alloc, &draft, &mut begun, block, word, rest)?;
+    Ok(going(draft, begun))
 }
 
 /// A line that begins with `}`, and the words after it.

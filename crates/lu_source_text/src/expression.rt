@@ -7,6 +7,7 @@ ghost use Rattle.lu_source.specs.declared.expr.TheConstants.{REGISTERS};
 ghost use Rattle.lu_source.specs.Evaluations.{expr_of};
 ghost use Rattle.lu_source.specs.Expressions.Expr.{Not};
 ghost use Rattle.lu_source_text.specs.Grammar as spec;
+ghost use Rattle.lu_source_text.specs.Parts.{operated};
 ghost use Rattle.lu_source_text.specs.Reads.{ReadsCell, ReadsExchange, ReadsExpr, ReadsLast, ReadsNoMore, ReadsNumber, ReadsWords, by_steps, infix_after, meanings, swap_of};
 
 use crate::draft::Constant;
@@ -327,7 +328,23 @@ fn infix_from<'a>(
     if most < binds {
         return Err(Refusal::Kind(SourceFaultKind::Form));
     }
-    let (right, more) = expr_from(alloc, steps - 1, scope, binds + 1, rest)?;
+    operated_from(alloc, steps - 1, scope, least, by, left, rest)
+}
+
+/// The right side of an operator after this left side, and the operators after it.
+#[cycle(expression)]
+fn operated_from<'a>(
+    alloc: Global,
+    steps: usize,
+    scope: Scope<'_>,
+    least: u8,
+    by: Infix,
+    left: Expr,
+    words: &'a [&'a [u8]],
+) -> Result<Parsed<'a>, Refusal>
+    ensures { ReadsExpr result (operated by left least steps scope.entry words.now) }
+{
+    let (right, more) = expr_from(alloc, steps, scope, binding(by) + 1, words)?;
     let both = joined(alloc, by, left, right)?;
-    infix_from(alloc, steps - 1, scope, least, most_after(by), both, more)
+    infix_from(alloc, steps, scope, least, most_after(by), both, more)
 }

@@ -3,12 +3,14 @@
 ghost use Rattle.std.specs.Prelude.{◌≡◌, ◌<◌, ◌≤◌, IfOk};
 ghost use Rattle.std.specs.List.{list_any};
 ghost use Rattle.lu_text.specs.Lines.{texts};
+ghost use Rattle.lu_source.specs.declared.tree.Action.TheVariants.{Lock, Unlock};
 ghost use Rattle.lu_source.specs.Evaluations.{coded_of, expr_of};
 ghost use Rattle.lu_source.specs.Expressions as expressions;
 ghost use Rattle.lu_source.specs.Shapes.{tree_of};
 ghost use Rattle.lu_source_text.specs.Drafts.{begun_of, blocks_of, drafted_of, opening_of};
 ghost use Rattle.lu_source_text.specs.Grammar as spec;
-ghost use Rattle.lu_source_text.specs.Reads.{Reads, ReadsAwaited, ReadsBoth, ReadsCell, ReadsCode, ReadsCompared, ReadsTree, ReadsWhole, in_begun, meanings, within};
+ghost use Rattle.lu_source_text.specs.Parts.{assigned, named_cell, stored, when_still};
+ghost use Rattle.lu_source_text.specs.Reads.{Reads, ReadsAwaited, ReadsBoth, ReadsCell, ReadsCode, ReadsCompared, ReadsTree, ReadsWhole, awaited_of, cell_of, in_begun, meanings, within};
 
 use crate::draft::{Begun, Block, Draft, Opening};
 use crate::expression::{
@@ -135,6 +137,19 @@ fn both_then(alloc: Global, first: Stmt, second: Stmt, last: Action) -> Result<S
     then(alloc, first, behind)
 }
 
+/// `= EXPR`, which all the words are.
+fn assigned_in(
+    alloc: Global,
+    draft: &Draft,
+    begun: &Begun,
+    words: &[&[u8]],
+) -> Result<Expr, Refusal>
+    ensures { ReadsWhole result (in_begun assigned draft.now begun.now words.now) }
+{
+    let more = after_word(b"=".as_slice(), words)?;
+    expr_in(alloc, draft, begun, more)
+}
+
 /// `NAME = EXPR` of a local.
 fn set_tree(
     alloc: Global,
@@ -145,10 +160,23 @@ fn set_tree(
 ) -> Result<Stmt, Refusal>
     ensures { ReadsTree result (in_begun (spec.set_tree register) draft.now begun.now words.now) }
 {
-    let more = after_word(b"=".as_slice(), words)?;
-    let expr = expr_in(alloc, draft, begun, more)?;
+    let expr = assigned_in(alloc, draft, begun, words)?;
     let value = code_for(alloc, &expr, register, begun.locals.len() as u8)?;
     Ok(put_value(alloc, value, register)?)
+}
+
+/// The cell becomes the value of the expression.
+fn stored(alloc: Global, begun: &Begun, cell: &Cell, expr: &Expr) -> Result<Stmt, Refusal>
+    ensures { ReadsTree result
+        (stored (begun_of begun.now) (cell_of cell.now) (expr_of expr.now)) }
+{
+    let (index, value) = both_of(alloc, begun, &cell.index, expr)?;
+    let action = Action::Store {
+        array: cell.array,
+        index: index.at,
+        value: value.at,
+    };
+    Ok(both_then(alloc, index.code, value.code, action)?)
 }
 
 /// `NAME = EXPR` and `NAME[EXPR] = EXPR` of a shared word.
@@ -162,15 +190,8 @@ fn store_tree(
     ensures { ReadsTree result (in_begun (spec.store_tree word.now) draft.now begun.now words.now) }
 {
     let (cell, rest) = cell_in(alloc, draft, begun, word, words)?;
-    let more = after_word(b"=".as_slice(), rest)?;
-    let expr = expr_in(alloc, draft, begun, more)?;
-    let (index, value) = both_of(alloc, begun, &cell.index, &expr)?;
-    let action = Action::Store {
-        array: cell.array,
-        index: index.at,
-        value: value.at,
-    };
-    Ok(both_then(alloc, index.code, value.code, action)?)
+    let expr = assigned_in(alloc, draft, begun, rest)?;
+    stored(alloc, begun, &cell, &expr)
 }
 
 /// Neither reads what is shared nor changes it.
@@ -237,9 +258,14 @@ fn compared(
     Ok((equal, expr_in(alloc, draft, begun, rest)?))
 }
 
-/// What is awaited of a cell.
-fn awaited(alloc: Global, draft: &Draft, begun: &Begun, words: &[&[u8]]) -> Result<Awaited, Refusal>
-    ensures { ReadsAwaited result (in_begun spec.awaited draft.now begun.now words.now) }
+/// A cell of a shared word, which the first word names, and the words after it.
+fn named_cell<'a>(
+    alloc: Global,
+    draft: &Draft,
+    begun: &Begun,
+    words: &'a [&'a [u8]],
+) -> Result<(Cell, &'a [&'a [u8]]), Refusal>
+    ensures { ReadsCell result (in_begun named_cell draft.now begun.now words.now) }
 {
     let Some((word, rest)) = words.split_first() else {
         return Err(Refusal::Kind(SourceFaultKind::Form));
@@ -247,13 +273,27 @@ fn awaited(alloc: Global, draft: &Draft, begun: &Begun, words: &[&[u8]]) -> Resu
     if !is_free_name(word) {
         return Err(Refusal::Kind(SourceFaultKind::Form));
     }
-    let (cell, more) = cell_in(alloc, draft, begun, word, rest)?;
-    let (equal, value) = compared(alloc, draft, begun, more)?;
-    if is_still(&cell.index) && is_still(&value) {
-        Ok(Awaited { cell, equal, value })
+    cell_in(alloc, draft, begun, word, rest)
+}
+
+/// What is awaited, where neither the index nor the value reads or changes what is shared.
+fn when_still(awaited: Awaited) -> Result<Awaited, Refusal>
+    ensures { ReadsAwaited result (when_still (awaited_of awaited)) }
+{
+    if is_still(&awaited.cell.index) && is_still(&awaited.value) {
+        Ok(awaited)
     } else {
         Err(Refusal::Kind(SourceFaultKind::Flow))
     }
+}
+
+/// What is awaited of a cell.
+fn awaited(alloc: Global, draft: &Draft, begun: &Begun, words: &[&[u8]]) -> Result<Awaited, Refusal>
+    ensures { ReadsAwaited result (in_begun spec.awaited draft.now begun.now words.now) }
+{
+    let (cell, rest) = named_cell(alloc, draft, begun, words)?;
+    let (equal, value) = compared(alloc, draft, begun, rest)?;
+    when_still(Awaited { cell, equal, value })
 }
 
 /// `await CELL == EXPR` and `await CELL != EXPR`.
@@ -331,6 +371,22 @@ fn lock_number(draft: &Draft, words: &[&[u8]]) -> Result<u8, Refusal>
     }
 }
 
+/// `lock NAME`
+fn lock_tree(draft: &Draft, words: &[&[u8]]) -> Result<Stmt, Refusal>
+    ensures { ReadsTree result (spec.owner_tree (drafted_of draft.now) Lock (texts words.now)) }
+{
+    let lock = lock_number(draft, words)?;
+    Ok(Stmt::Plain(Action::Lock(lock)))
+}
+
+/// `unlock NAME`
+fn unlock_tree(draft: &Draft, words: &[&[u8]]) -> Result<Stmt, Refusal>
+    ensures { ReadsTree result (spec.owner_tree (drafted_of draft.now) Unlock (texts words.now)) }
+{
+    let lock = lock_number(draft, words)?;
+    Ok(Stmt::Plain(Action::Unlock(lock)))
+}
+
 /// `cas(CELL, OLD, NEW)`, whose answer nobody asks for.
 fn cas_tree(alloc: Global, draft: &Draft, begun: &Begun, words: &[&[u8]]) -> Result<Stmt, Refusal>
     ensures { ReadsTree result (in_begun spec.cas_tree draft.now begun.now words.now) }
@@ -373,9 +429,9 @@ pub(crate) fn simple(
     } else if word == b"return".as_slice() {
         return_tree(alloc, draft, begun, words)
     } else if word == b"lock".as_slice() {
-        Ok(Stmt::Plain(Action::Lock(lock_number(draft, words)?)))
+        lock_tree(draft, words)
     } else if word == b"unlock".as_slice() {
-        Ok(Stmt::Plain(Action::Unlock(lock_number(draft, words)?)))
+        unlock_tree(draft, words)
     } else if word == b"await".as_slice() {
         await_tree(alloc, draft, begun, words)
     } else if word == b"cas".as_slice() {

@@ -8,6 +8,7 @@ ghost use Rattle.lu_source.specs.Expressions as expressions;
 ghost use Rattle.lu_source.specs.Shapes.{tree_of};
 ghost use Rattle.lu_source_text.specs.Drafts.{opening_of};
 ghost use Rattle.lu_source_text.specs.Grammar as spec;
+ghost use Rattle.lu_source_text.specs.Parts.{simple_line, started_loop, started_while};
 ghost use Rattle.lu_source_text.specs.Reads.{Becomes, ReadsLet, ReadsLine, ReadsTest, in_begun};
 
 use crate::blocks::{add_to, are_deep, push_block};
@@ -139,6 +140,42 @@ fn loop_line(begun: &mut Begun, words: &[&[u8]]) -> Result<(), Refusal>
     deeper(begun, Opening::Turns, false)
 }
 
+/// `while EXPR {`, after what a jump back leads to.
+fn start_while(
+    alloc: Global,
+    draft: &Draft,
+    begun: &mut Begun,
+    words: &[&[u8]],
+) -> Result<(), Refusal>
+    ensures { ReadsLine result started_while draft.now words.now begun.old begun.new }
+{
+    add(alloc, begun, Stmt::Nothing)?;
+    while_line(alloc, draft, begun, words)
+}
+
+/// `loop {`, after what a jump back leads to.
+fn start_loop(alloc: Global, begun: &mut Begun, words: &[&[u8]]) -> Result<(), Refusal>
+    ensures { Becomes result begun.old begun.new (λ b. started_loop b (texts words.now)) }
+{
+    add(alloc, begun, Stmt::Nothing)?;
+    loop_line(begun, words)
+}
+
+/// The innermost block does what a line says that opens no block and declares no local.
+fn simple_line(
+    alloc: Global,
+    draft: &Draft,
+    begun: &mut Begun,
+    word: &[u8],
+    words: &[&[u8]],
+) -> Result<(), Refusal>
+    ensures { ReadsLine result
+        (simple_line word.now) draft.now words.now begun.old begun.new }
+{
+    let stmt = simple(alloc, draft, begun, word, words)?;
+    add(alloc, begun, stmt)
+}
+
 /// A line of an operation that closes no block.
 pub(crate) fn statement(
     alloc: Global,
@@ -155,13 +192,10 @@ pub(crate) fn statement(
     } else if word == b"if".as_slice() {
         if_line(alloc, draft, begun, false, words)
     } else if word == b"while".as_slice() {
-        add(alloc, begun, Stmt::Nothing)?;
-        while_line(alloc, draft, begun, words)
+        start_while(alloc, draft, begun, words)
     } else if word == b"loop".as_slice() {
-        add(alloc, begun, Stmt::Nothing)?;
-        loop_line(begun, words)
+        start_loop(alloc, begun, words)
     } else {
-        let stmt = simple(alloc, draft, begun, word, words)?;
-        add(alloc, begun, stmt)
+        simple_line(alloc, draft, begun, word, words)
     }
 }

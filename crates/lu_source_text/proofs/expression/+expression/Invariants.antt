@@ -7,6 +7,9 @@ decreases-expr_from l = 6 * l.steps
 abbrev pub decreases-infix_from : goal.decreases-infix_from
 decreases-infix_from l = 6 * l.steps
 
+abbrev pub decreases-operated_from : goal.decreases-operated_from
+decreases-operated_from l = 6 * l.steps + 1
+
 abbrev pub decreases-closed_with : goal.decreases-closed_with
 decreases-closed_with l = 6 * l.steps + 1
 
