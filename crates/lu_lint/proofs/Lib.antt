@@ -16,3 +16,4 @@ pub mod FurtherParts
 pub mod LeastLines
 pub mod KeptOrder
 pub mod PartsLeast
+pub mod ReadingOn

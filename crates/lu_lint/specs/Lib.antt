@@ -11,5 +11,6 @@ pub mod Further
 pub mod Warnings
 pub mod Runs
 pub mod Bundle
+pub mod Reading
 pub mod Least
 pub mod Laws

@@ -6,8 +6,10 @@ ghost use Rattle.lu_lint.specs.Bundle.{LintsComponentLines, component_read, comp
 ghost use Rattle.lu_lint.specs.Component as spec;
 ghost use Rattle.lu_text.specs.Results.{HasItems};
 ghost use Rattle.lu_lint.specs.Lint.{told_there};
-ghost use Rattle.lu_lint.specs.Said.{SaysAlso, SaysAndReads, said_told};
-ghost use Rattle.lu_lint.specs.Warnings.{without_words};
+ghost use Rattle.lu_lint.specs.Reading.{LeavesDraft, ReadsOn, all_end_said, line_and_beside_said};
+ghost use Rattle.lu_lint.specs.Said.{SaysAlso, SaysAndReads, said_of, said_told};
+ghost use Rattle.lu_lint.specs.Warnings.{FindsAlso, found_at, without_words};
+ghost use Rattle.lu_lint.specs.Warnings.{hints_while as hints_meant};
 ghost use Rattle.lu_lint.specs.declared.remark.FaultKind.TheVariants as part;
 ghost use Rattle.lu_text.specs.Lines.{texts};
 
@@ -220,55 +222,177 @@ fn with_held(
     }
 }
 
+/// What the lines of a component leave that are read so far.
+#[derive(Drop)]
+struct Reading {
+    /// The remarks on them, after those before.
+    all: Vec<Remark>,
+
+    /// What they declare.
+    draft: FaultyDraft,
+
+    /// Whether none of them has a fault.
+    sound: bool,
+
+    /// The warnings that are found, while that is so.
+    warnings: Vec<PossibleWarning>,
+
+    /// The lines with words.
+    seen: Vec<usize>,
+}
+
+/// The warnings with those found at a line of these words, where no line before it has a fault.
+fn with_line_hints<W: Wording>(
+    alloc: Global,
+    wording: &W,
+    warnings: Vec<PossibleWarning>,
+    at: &Position,
+    sound: bool,
+    draft: &FaultyDraft,
+    text: &[u8],
+    words: &[&[u8]],
+) -> Result<Vec<PossibleWarning>, AllocError>
+    ensures { FindsAlso result warnings
+        (map (found_at at.now) (hints_meant sound draft.now.draft (texts words.now))) }
+{
+    let hints = hints_while(alloc, sound, &draft.draft, words)?;
+    // For the proof: what this returns is looked at before it is returned.
+    let warnings = with_found(alloc, wording, warnings, at, &draft.draft, text, &hints)?;
+    Ok(warnings)
+}
+
+/// The remarks with those on this line, where it has a fault, and on the jumps that are told beside
+/// it; `lines` are those after it.
+fn with_line_faults<W: Wording>(
+    alloc: Global,
+    wording: &W,
+    all: Vec<Remark>,
+    at: &Position,
+    draft: &FaultyDraft,
+    fault: Option<LangFaultKind>,
+    text: &[u8],
+    lines: &[&[u8]],
+) -> Result<Vec<Remark>, AllocError>
+    ensures { SaysAlso result all
+        (line_and_beside_said at.now draft.now text.now (texts lines.now) fault) }
+{
+    let all = with_line(alloc, wording, all, at, draft, fault, text)?;
+    let backs = backs_beside(alloc, draft, fault, text, lines)?;
+    // For the proof: what this returns is looked at before it is returned.
+    let all = with_jumps(
+        alloc,
+        wording,
+        all,
+        at,
+        &draft.draft,
+        LangFaultKind::Name,
+        &backs,
+    )?;
+    Ok(all)
+}
+
+/// The remarks with those on this line after this draft, the draft from which the lines after it
+/// are read, and the line's fault.
+fn read_draft<W: Wording>(
+    alloc: Global,
+    wording: &W,
+    all: Vec<Remark>,
+    at: &Position,
+    draft: FaultyDraft,
+    text: &[u8],
+    lines: &[&[u8]],
+) -> Result<(Vec<Remark>, FaultyDraft, Option<LangFaultKind>), AllocError>
+    ensures { IfOk result (λ (next, left, fault). LeavesDraft at.now draft text.now
+        (texts lines.now) (said_of all.items) (said_of next.items) left fault) }
+{
+    let (draft, fault) = read_or_fault(alloc, draft, text)?;
+    let all = with_line_faults(alloc, wording, all, at, &draft, fault, text, lines)?;
+    let draft = left_by(alloc, draft, fault, text, lines)?;
+    Ok((all, draft, fault))
+}
+
+/// What is left after one line more, of this number; `lines` are those after it.
+fn read_line<W: Wording>(
+    alloc: Global,
+    wording: &W,
+    reading: Reading,
+    line: usize,
+    text: &[u8],
+    lines: &[&[u8]],
+) -> Result<Reading, AllocError>
+    ensures { IfOk result (λ next. ReadsOn reading line text.now (texts lines.now) next) }
+{
+    let Reading {
+        all,
+        draft,
+        mut sound,
+        warnings,
+        seen,
+    } = reading;
+    let at = Position {
+        above: 0,
+        line,
+        seen,
+    };
+    let words = words_of(alloc, text)?;
+    let warnings = with_line_hints(alloc, wording, warnings, &at, sound, &draft, text, &words)?;
+    let (all, draft, fault) = read_draft(alloc, wording, all, &at, draft, text, lines)?;
+    sound &= fault.is_none();
+    let seen = with_words(at.seen, line, &words)?;
+    Ok(Reading {
+        all,
+        draft,
+        sound,
+        warnings,
+        seen,
+    })
+}
+
+/// The remarks with those on the end of the lines, which is after all of them, and what the lines
+/// are read as.
+fn read_end<W: Wording>(
+    alloc: Global,
+    wording: &W,
+    reading: Reading,
+    end: usize,
+) -> Result<(Vec<Remark>, ReadComponent), AllocError>
+    requires { reading.sound ≡ true → IsSoundDraft reading.draft.draft }
+    ensures { SaysAndReads result reading.all (all_end_said reading end)
+        (spec.read_as reading.draft reading.sound) }
+{
+    let at = Position {
+        above: 0,
+        line: end,
+        seen: reading.seen,
+    };
+    let all = with_end(alloc, wording, reading.all, &at, &reading.draft)?;
+    let component = read_as(reading.draft, reading.sound);
+    let all = with_held(alloc, all, &component, reading.warnings)?;
+    Ok((all, component))
+}
+
 /// The remarks with those on these lines of a component, each of which is read once, and what the
 /// lines are read as.
 fn read_lines<W: Wording>(
     alloc: Global,
     wording: &W,
-    mut all: Vec<Remark>,
+    all: Vec<Remark>,
     lines: &[&[u8]],
 ) -> Result<(Vec<Remark>, ReadComponent), AllocError>
     ensures { LintsComponentLines result all (texts lines.now) }
 {
-    let mut draft = FaultyDraft::new(alloc);
-    let mut sound = true;
-    let mut warnings = Vec::new(alloc);
-    let mut seen = Vec::new(alloc);
-    for (before, text) in lines.iter().enumerate() {
-        let at = Position {
-            above: 0,
-            line: before + 1,
-            seen,
-        };
-        let words = words_of(alloc, text)?;
-        let hints = hints_while(alloc, sound, &draft.draft, &words)?;
-        warnings = with_found(alloc, wording, warnings, &at, &draft.draft, text, &hints)?;
-        let (next, fault) = read_or_fault(alloc, draft, text)?;
-        sound &= fault.is_none();
-        let (_, after) = lines.split_at(before + 1);
-        all = with_line(alloc, wording, all, &at, &next, fault, text)?;
-        let backs = backs_beside(alloc, &next, fault, text, after)?;
-        all = with_jumps(
-            alloc,
-            wording,
-            all,
-            &at,
-            &next.draft,
-            LangFaultKind::Name,
-            &backs,
-        )?;
-        draft = left_by(alloc, next, fault, text, after)?;
-        seen = with_words(at.seen, before + 1, &words)?;
-    }
-    let at = Position {
-        above: 0,
-        line: lines.len() + 1,
-        seen,
+    let mut reading = Reading {
+        all,
+        draft: FaultyDraft::new(alloc),
+        sound: true,
+        warnings: Vec::new(alloc),
+        seen: Vec::new(alloc),
     };
-    let all = with_end(alloc, wording, all, &at, &draft)?;
-    let component = read_as(draft, sound);
-    let all = with_held(alloc, all, &component, warnings)?;
-    Ok((all, component))
+    for (before, text) in lines.iter().enumerate() {
+        let (_, after) = lines.split_at(before + 1);
+        reading = read_line(alloc, wording, reading, before + 1, text, after)?;
+    }
+    read_end(alloc, wording, reading, lines.len() + 1)
 }
 
 /// The remarks with those on the text of a component, which begins the bundle, and what the text is

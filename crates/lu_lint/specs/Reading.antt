@@ -1,0 +1,59 @@
+-- What lint reads of a component, line by line.
+use Rattle.std.specs.Prelude.{◌≡◌, ℕ, List, ◌++◌, map, Option, is_none, ◌&&◌}
+use Rattle.lu_text.specs.Faults.{going_on}
+use Rattle.lu_text.specs.Lines.{words_of}
+use Rattle.lu_lang.specs.declared.fault.LangFaultKind.{LangFaultKind}
+use Rattle.lu_lang.specs.declared.fault.LangFaultKind.TheVariants.{Name}
+use Rattle.lu_lang.specs.Faulty.{FaultyDraft}
+use Rattle.lu_lang.specs.Meant.{faulty_grammar}
+use Rattle.lu_lint.specs.declared.component.Reading.{Reading}
+use Rattle.lu_lint.specs.declared.remark.Position.{Position}
+use Rattle.lu_lint.specs.declared.remark.Said.{Said}
+use Rattle.lu_lint.specs.Bundle.{held_of}
+use Rattle.lu_lint.specs.Component.{backs_beside, end_said, jumps_said, left_by, line_said, read_as}
+use Rattle.lu_lint.specs.Lint.{with_words}
+use Rattle.lu_lint.specs.Said.{said_of}
+use Rattle.lu_lint.specs.Warnings.{found_at, hints_while, without_words}
+
+-- a line after this draft: the draft after it, or the one before it and the line's fault
+abbrev pub line_read : FaultyDraft → List ℕ → FaultyDraft × Option LangFaultKind
+line_read f line = going_on f (faulty_grammar.line f line)
+
+-- what is said of a line that stands here, where it has a fault, and of the jumps that are told
+-- beside it; `lines` are those after it
+abbrev pub line_and_beside_said : Position → FaultyDraft → List ℕ → List (List ℕ)
+    → Option LangFaultKind
+    → List Said
+line_and_beside_said at f line lines fault =
+    line_said at f line fault ++ jumps_said at Name (backs_beside f line lines fault)
+
+-- A line at which what was said before is said, and these, and which leaves this draft and has this
+-- fault or none; `lines` are those after it.
+pub record LeavesDraft (at : Position) (f : FaultyDraft) (line : List ℕ) (lines : List (List ℕ))
+    (before next : List Said) (left : FaultyDraft) (fault : Option LangFaultKind) : Type 0 where
+  pub told : next ≡ before
+      ++ line_and_beside_said at (line_read f line).0 line lines (line_read f line).1
+  pub left_is : left ≡ left_by (line_read f line).0 line lines (line_read f line).1
+  pub fault_is : fault ≡ (line_read f line).1
+
+-- where line n stands, after what is read
+abbrev pub line_at : Reading → ℕ → Position
+line_at r n = record { above = 0; line = n; seen = r.seen }
+
+-- What is left after one line more, which is line n; `lines` are those after it.
+pub record ReadsOn (r : Reading) (n : ℕ) (line : List ℕ) (lines : List (List ℕ)) (next : Reading)
+    : Type 0 where
+  pub told : said_of next.all.items ≡ said_of r.all.items
+      ++ line_and_beside_said (line_at r n) (line_read r.draft line).0 line lines
+      (line_read r.draft line).1
+  pub left : next.draft ≡ left_by (line_read r.draft line).0 line lines (line_read r.draft line).1
+  pub sound : next.sound ≡ (r.sound && is_none (line_read r.draft line).1)
+  pub found : map without_words next.warnings.items ≡ map without_words r.warnings.items
+      ++ map (found_at (line_at r n)) (hints_while r.sound r.draft.draft (words_of line))
+  pub seen : next.seen.items ≡ with_words r.seen.items n line
+
+-- what is said at the end, on line n, after what is read
+abbrev pub all_end_said : Reading → ℕ → List Said
+all_end_said r n =
+    end_said (line_at r n) r.draft
+    ++ held_of (read_as r.draft r.sound) (map without_words r.warnings.items)
