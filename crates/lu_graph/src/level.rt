@@ -34,7 +34,8 @@ impl Level {
     }
 
     /// Where a batch of the level's nodes ends that begins at this place. It has no more of them
-    /// than stand before it, for what nodes are made of is mostly met as a level begins.
+    /// than stand before it, or than 512 where fewer do, for what nodes are made of is mostly met
+    /// as a level begins.
     pub(crate) fn batch_end(self, place: usize) -> usize
         ensures { result ≤ self.end }
     {

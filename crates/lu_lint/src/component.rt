@@ -6,10 +6,9 @@ ghost use Rattle.lu_lint.specs.Bundle.{LintsComponentLines, component_read, comp
 ghost use Rattle.lu_lint.specs.Component as spec;
 ghost use Rattle.lu_text.specs.Results.{HasItems};
 ghost use Rattle.lu_lint.specs.Lint.{told_there};
-ghost use Rattle.lu_lint.specs.Reading.{LeavesDraft, ReadsOn, all_end_said, line_and_beside_said};
-ghost use Rattle.lu_lint.specs.Said.{SaysAlso, SaysAndReads, said_of, said_told};
-ghost use Rattle.lu_lint.specs.Warnings.{FindsAlso, found_at, without_words};
-ghost use Rattle.lu_lint.specs.Warnings.{hints_while as hints_meant};
+ghost use Rattle.lu_lint.specs.Reading.{ReadsDraft, ReadsEnd, ReadsOn, all_on_line, hints_at};
+ghost use Rattle.lu_lint.specs.Said.{SaysAlso, SaysAndReads, said_told};
+ghost use Rattle.lu_lint.specs.Warnings.{FindsAlso, without_words};
 ghost use Rattle.lu_lint.specs.declared.remark.FaultKind.TheVariants as part;
 ghost use Rattle.lu_text.specs.Lines.{texts};
 
@@ -252,8 +251,7 @@ fn with_line_hints<W: Wording>(
     text: &[u8],
     words: &[&[u8]],
 ) -> Result<Vec<PossibleWarning>, AllocError>
-    ensures { FindsAlso result warnings
-        (map (found_at at.now) (hints_meant sound draft.now.draft (texts words.now))) }
+    ensures { FindsAlso result warnings (hints_at at.now sound draft.now (texts words.now)) }
 {
     let hints = hints_while(alloc, sound, &draft.draft, words)?;
     // For the proof: what this returns is looked at before it is returned.
@@ -273,8 +271,7 @@ fn with_line_faults<W: Wording>(
     text: &[u8],
     lines: &[&[u8]],
 ) -> Result<Vec<Remark>, AllocError>
-    ensures { SaysAlso result all
-        (line_and_beside_said at.now draft.now text.now (texts lines.now) fault) }
+    ensures { SaysAlso result all (all_on_line at.now draft.now text.now (texts lines.now) fault) }
 {
     let all = with_line(alloc, wording, all, at, draft, fault, text)?;
     let backs = backs_beside(alloc, draft, fault, text, lines)?;
@@ -302,8 +299,7 @@ fn read_draft<W: Wording>(
     text: &[u8],
     lines: &[&[u8]],
 ) -> Result<(Vec<Remark>, FaultyDraft, Option<LangFaultKind>), AllocError>
-    ensures { IfOk result (λ (next, left, fault). LeavesDraft at.now draft text.now
-        (texts lines.now) (said_of all.items) (said_of next.items) left fault) }
+    ensures { ReadsDraft result all at.now draft text.now (texts lines.now) }
 {
     let (draft, fault) = read_or_fault(alloc, draft, text)?;
     let all = with_line_faults(alloc, wording, all, at, &draft, fault, text, lines)?;
@@ -357,8 +353,7 @@ fn read_end<W: Wording>(
     end: usize,
 ) -> Result<(Vec<Remark>, ReadComponent), AllocError>
     requires { reading.sound ≡ true → IsSoundDraft reading.draft.draft }
-    ensures { SaysAndReads result reading.all (all_end_said reading end)
-        (spec.read_as reading.draft reading.sound) }
+    ensures { ReadsEnd result reading end (spec.read_as reading.draft reading.sound) }
 {
     let at = Position {
         above: 0,

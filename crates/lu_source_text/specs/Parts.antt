@@ -13,6 +13,8 @@ use Rattle.lu_source_text.specs.declared.fault.SourceFaultKind.TheVariants.{Form
 use Rattle.lu_source_text.specs.declared.infix.Infix.{Infix}
 use Rattle.lu_source_text.specs.declared.scope.Scope.{Scope as Lent}
 use Rattle.lu_source_text.specs.Grammar.{Begun, Block, Drafted, Kind, Read', added, after_word, binding, both_of, both_then, cell_in, else_line, expr_from, expr_in, infix_from, is_free_name, is_still, is_word, joined, loop_line, most_after, on_first, on_ok, other_side, simple, unless, while_line}
+use Rattle.lu_source_text.specs.declared.draft.Block.{Block as Kept}
+use Rattle.lu_source_text.specs.Drafts.{block_of}
 use Rattle.lu_source_text.specs.Reads.{meanings}
 
 -- the right side of an operator after this left side, and the operators after it
@@ -58,3 +60,7 @@ else_of block w d b ws =
     if is_word w (codes "else")
     then on_ok (other_side b block) (λ other. else_line d other ws)
     else Err Form
+
+-- so it is of a block of the code
+abbrev pub else_after : Kept → Word → Drafted → Begun → List Word → Result Begun Kind
+else_after block = else_of (block_of block)

@@ -6,7 +6,7 @@ ghost use Rattle.lu_source.specs.Code.{operation_code};
 ghost use Rattle.lu_source.specs.Shapes.{tree_of};
 ghost use Rattle.lu_source_text.specs.Drafts.{begun_of, block_of, drafted_of, opening_of};
 ghost use Rattle.lu_source_text.specs.Grammar as spec;
-ghost use Rattle.lu_source_text.specs.Parts.{else_of};
+ghost use Rattle.lu_source_text.specs.Parts.{else_after};
 ghost use Rattle.lu_source_text.specs.Reads.{Becomes, ReadsDraft, ReadsLine, ReadsOperation, in_begun, within};
 
 use crate::blocks::{close_into, closed_by, pop_block, push_block};
@@ -134,8 +134,7 @@ fn else_of(
     word: &[u8],
     words: &[&[u8]],
 ) -> Result<(), Refusal>
-    ensures { ReadsLine result
-        (else_of (block_of block) word.now) draft.now words.now begun.old begun.new }
+    ensures { ReadsLine result (else_after block word.now) draft.now words.now begun.old begun.new }
 {
     if word != b"else".as_slice() {
         return Err(Refusal::Kind(SourceFaultKind::Form));
