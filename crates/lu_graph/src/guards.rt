@@ -2,13 +2,13 @@
 
 ghost use Rattle.std.specs.Prelude.{◌≡◌, ◌↔◌, ◌<◌, ◌≤◌, true, false, IfOk, IsTrue, get_or, length};
 ghost use Rattle.lu_component.specs.declared.component.TheConstants.{MOST_INSTRS};
-ghost use Rattle.lu_horizon.specs.Tables.{IsCodeOf};
 ghost use Rattle.lu_graph.specs.Guards as spec;
 ghost use Rattle.lu_graph.specs.Guards.{IsGuarded, TellsGuarded};
 ghost use Rattle.lu_graph.specs.Sections as sections;
 ghost use Rattle.lu_graph.specs.Sections.{AreAccessed, AreAccessedIn, AreSections, AreSettled, HasCritical, IsRound, IsSettled, IsSound};
 
 use lu_component::{Component, Instr};
+use lu_horizon::code_of;
 use std::alloc::{AllocError, Global};
 use std::marker::Model;
 
@@ -158,18 +158,6 @@ impl Inside {
             }
         }
         true
-    }
-}
-
-/// The code of an operation: none where there is no such operation.
-#[tactic(auto, unfolding(lu_machine::specs::States::instr_at))]
-fn code_of(component: &Component, op: u8) -> &[Instr]
-    ensures code { IsCodeOf component.now op result.now }
-    ensures few { length result.now ≤ MOST_INSTRS }
-{
-    match component.operations().get(usize::from(op)) {
-        None => &[],
-        Some(op) => op.code.instrs(),
     }
 }
 

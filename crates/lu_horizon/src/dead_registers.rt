@@ -9,7 +9,7 @@ ghost use Rattle.lu_horizon.specs.Dead as spec;
 ghost use Rattle.lu_horizon.specs.Dead.{AreDead, AreDeadAt, IsDeadTable, TellsDead, is_dead};
 ghost use Rattle.lu_horizon.specs.Rounds.{AreLiveIn, AreWithin, IsRound, IsSettledAt, with_live};
 
-use crate::horizon::code_of;
+use crate::code::code_of;
 use lu_component::{Component, Instr, Operand};
 use std::alloc::{AllocError, Global};
 use std::marker::Model;

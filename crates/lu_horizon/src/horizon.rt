@@ -4,9 +4,10 @@ ghost use Rattle.std.specs.Prelude.{◌≡◌, ◌<◌, ◌≤◌, IfOk, IfSome,
 ghost use Rattle.lu_component.specs.declared.component.TheConstants.{MOST_INSTRS};
 ghost use Rattle.lu_horizon.specs.Outlooks.{no_move};
 ghost use Rattle.lu_horizon.specs.Sure.{HasCaps, HasOutlook};
-ghost use Rattle.lu_horizon.specs.Tables.{AreOutlooks, IsCodeOf, IsThread, Serves, ServesRuns, StayOutlooks, outlook_before, outlook_of, outlook_within};
+ghost use Rattle.lu_horizon.specs.Tables.{AreOutlooks, IsThread, Serves, ServesRuns, StayOutlooks, outlook_before, outlook_of, outlook_within};
 
 use crate::certain::{before_call, certain, outlook_of};
+use crate::code::code_of;
 use crate::outlook::Outlook;
 use crate::sharers::{Quiet, Reach, Sharers, SharersSeen, reach_at, reaches};
 use crate::stand::{jumps_to, stand_at};
@@ -192,18 +193,6 @@ fn of_code(
         outlooks,
         reaches: reaches(alloc, code)?,
     })
-}
-
-/// The code of an operation: none where there is no such operation.
-#[tactic(auto, unfolding(lu_machine::specs::States::instr_at))]
-pub(crate) fn code_of(component: &Component, op: u8) -> &[Instr]
-    ensures code { IsCodeOf component.now op result.now }
-    ensures few { length result.now ≤ MOST_INSTRS }
-{
-    match component.operations().get(usize::from(op)) {
-        None => &[],
-        Some(op) => op.code.instrs(),
-    }
 }
 
 /// The outlooks of the calls of thread `t`, from the last to the first.

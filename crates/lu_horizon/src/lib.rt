@@ -10,6 +10,7 @@
 #![tactic(auto)]
 
 mod certain;
+mod code;
 mod dead_registers;
 mod horizon;
 mod live_thread;
@@ -17,6 +18,7 @@ mod outlook;
 mod sharers;
 mod stand;
 
+pub use code::code_of;
 pub use dead_registers::DeadRegisters;
 pub use horizon::Horizon;
 pub use sharers::Sharers;

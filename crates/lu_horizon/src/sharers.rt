@@ -2,7 +2,7 @@
 //!
 //! No clause says what the numbers here are: they tell where a look at all that is left may serve.
 
-use crate::horizon::code_of;
+use crate::code::code_of;
 use crate::stand::{is_unseen, only_reads};
 use lu_component::{Component, Instr};
 use lu_test::Matrix;

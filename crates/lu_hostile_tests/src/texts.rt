@@ -1,10 +1,12 @@
 //! Each kind of text, bent in every way.
 
+ghost use Rattle.lu_test.specs.Matrix.{IsOf};
+
 use crate::bent::{ReadCounts, TextOutcome, Texts, try_all, try_beginnings};
 use lu_component::Component;
 use lu_fixtures::ROWS;
 use lu_lang::{read_component, write_component};
-use lu_recorded::{read_recorded, write_recorded};
+use lu_recorded::{Recorded, read_recorded, write_recorded};
 use lu_report::{read_report, write_report};
 use lu_source_text::compile_text;
 use lu_spec::{read_spec, write_spec};
@@ -12,6 +14,36 @@ use lu_test::{Matrix, ScheduleFault, read_matrix, read_schedule, write_matrix, w
 use lu_text::Fault;
 use std::process::Abort;
 use std::test::Fail;
+
+/// The text was refused on the fault's line.
+fn refused_on<K: Drop>(rt: &impl Abort, fault: Fault<K>) -> TextOutcome {
+    match fault {
+        Fault::At(_, line) => TextOutcome::Refused(line),
+        Fault::Memory => panic!(rt; "memory"),
+    }
+}
+
+/// What was read is written as the text of which it was read.
+fn has_one_spelling<X: AllocGlobal + Abort>(rt: &X, written: &str, text: &[u8]) -> TextOutcome {
+    assert!(rt; written.as_bytes() == text);
+    TextOutcome::Read
+}
+
+/// What is written of what was read is written of what is read of that.
+fn comes_back<X: AllocGlobal + Abort>(rt: &X, written: &str, again: &str) -> TextOutcome {
+    assert!(rt; again == written);
+    TextOutcome::Read
+}
+
+/// The component that was read is read again from what is written of it.
+fn component_comes_back<X: AllocGlobal + Abort>(
+    rt: &X,
+    component: &Component,
+) -> Result<TextOutcome, Fail> {
+    let written = write_component(rt.alloc(), component)?;
+    let again = component_again(rt, written.as_bytes())?;
+    Ok(comes_back(rt, written.as_str(), again.as_str()))
+}
 
 /// The text of the component that is read from this one.
 fn component_again(rt: &impl AllocGlobal, text: &[u8]) -> Result<String, Fail> {
@@ -25,14 +57,8 @@ struct Components;
 impl Texts for Components {
     fn outcome<X: AllocGlobal + Abort>(&self, rt: &X, text: &[u8]) -> Result<TextOutcome, Fail> {
         match read_component(rt.alloc(), text) {
-            Ok(component) => {
-                let written = write_component(rt.alloc(), &component)?;
-                let again = component_again(rt, written.as_bytes())?;
-                assert!(rt; again.as_str() == written.as_str());
-                Ok(TextOutcome::Read)
-            }
-            Err(Fault::At(_, line)) => Ok(TextOutcome::Refused(line)),
-            Err(Fault::Memory) => panic!(rt; "memory"),
+            Ok(component) => component_comes_back(rt, &component),
+            Err(fault) => Ok(refused_on(rt, fault)),
         }
     }
 }
@@ -49,17 +75,26 @@ struct Matrices {
     component: Component,
 }
 
+impl Matrices {
+    /// The matrix that was read is read again from what is written of it.
+    fn comes_back<X: AllocGlobal + Abort>(
+        &self,
+        rt: &X,
+        matrix: &Matrix,
+    ) -> Result<TextOutcome, Fail>
+        requires { IsOf matrix.now self.now.component }
+    {
+        let written = write_matrix(rt.alloc(), &self.component, matrix)?;
+        let again = matrix_again(rt, &self.component, written.as_bytes())?;
+        Ok(comes_back(rt, written.as_str(), again.as_str()))
+    }
+}
+
 impl Texts for Matrices {
     fn outcome<X: AllocGlobal + Abort>(&self, rt: &X, text: &[u8]) -> Result<TextOutcome, Fail> {
         match read_matrix(rt.alloc(), &self.component, text) {
-            Ok(matrix) => {
-                let written = write_matrix(rt.alloc(), &self.component, &matrix)?;
-                let again = matrix_again(rt, &self.component, written.as_bytes())?;
-                assert!(rt; again.as_str() == written.as_str());
-                Ok(TextOutcome::Read)
-            }
-            Err(Fault::At(_, line)) => Ok(TextOutcome::Refused(line)),
-            Err(Fault::Memory) => panic!(rt; "memory"),
+            Ok(matrix) => self.comes_back(rt, &matrix),
+            Err(fault) => Ok(refused_on(rt, fault)),
         }
     }
 }
@@ -72,8 +107,7 @@ impl Texts for Schedules {
         match read_schedule(rt.alloc(), text) {
             Ok(schedule) => {
                 let written = write_schedule(rt.alloc(), &schedule)?;
-                assert!(rt; written.as_bytes() == text);
-                Ok(TextOutcome::Read)
+                Ok(has_one_spelling(rt, written.as_str(), text))
             }
             Err(ScheduleFault::Memory) => panic!(rt; "memory"),
             Err(_) => Ok(TextOutcome::Refused(1)),
@@ -89,11 +123,9 @@ impl Texts for Reports {
         match read_report(rt.alloc(), text) {
             Ok(report) => {
                 let written = write_report(rt.alloc(), &report)?;
-                assert!(rt; written.as_bytes() == text);
-                Ok(TextOutcome::Read)
+                Ok(has_one_spelling(rt, written.as_str(), text))
             }
-            Err(Fault::At(_, line)) => Ok(TextOutcome::Refused(line)),
-            Err(Fault::Memory) => panic!(rt; "memory"),
+            Err(fault) => Ok(refused_on(rt, fault)),
         }
     }
 }
@@ -109,11 +141,9 @@ impl Texts for Specs {
         match read_spec(rt.alloc(), &self.matrix, text) {
             Ok(spec) => {
                 let written = write_spec(rt.alloc(), &spec)?;
-                assert!(rt; written.as_bytes() == text);
-                Ok(TextOutcome::Read)
+                Ok(has_one_spelling(rt, written.as_str(), text))
             }
-            Err(Fault::At(_, line)) => Ok(TextOutcome::Refused(line)),
-            Err(Fault::Memory) => panic!(rt; "memory"),
+            Err(fault) => Ok(refused_on(rt, fault)),
         }
     }
 }
@@ -130,17 +160,24 @@ struct Histories {
     matrix: Matrix,
 }
 
+impl Histories {
+    /// The history that was read is read again from what is written of it.
+    fn comes_back<X: AllocGlobal + Abort>(
+        &self,
+        rt: &X,
+        recorded: &Recorded,
+    ) -> Result<TextOutcome, Fail> {
+        let written = write_recorded(rt.alloc(), recorded)?;
+        let again = recorded_again(rt, &self.matrix, written.as_bytes())?;
+        Ok(comes_back(rt, written.as_str(), again.as_str()))
+    }
+}
+
 impl Texts for Histories {
     fn outcome<X: AllocGlobal + Abort>(&self, rt: &X, text: &[u8]) -> Result<TextOutcome, Fail> {
         match read_recorded(rt.alloc(), &self.matrix, text) {
-            Ok(recorded) => {
-                let written = write_recorded(rt.alloc(), &recorded)?;
-                let again = recorded_again(rt, &self.matrix, written.as_bytes())?;
-                assert!(rt; again.as_str() == written.as_str());
-                Ok(TextOutcome::Read)
-            }
-            Err(Fault::At(_, line)) => Ok(TextOutcome::Refused(line)),
-            Err(Fault::Memory) => panic!(rt; "memory"),
+            Ok(recorded) => self.comes_back(rt, &recorded),
+            Err(fault) => Ok(refused_on(rt, fault)),
         }
     }
 }
@@ -151,14 +188,8 @@ struct Sources;
 impl Texts for Sources {
     fn outcome<X: AllocGlobal + Abort>(&self, rt: &X, text: &[u8]) -> Result<TextOutcome, Fail> {
         match compile_text(rt.alloc(), text) {
-            Ok(component) => {
-                let written = write_component(rt.alloc(), &component)?;
-                let again = component_again(rt, written.as_bytes())?;
-                assert!(rt; again.as_str() == written.as_str());
-                Ok(TextOutcome::Read)
-            }
-            Err(Fault::At(_, line)) => Ok(TextOutcome::Refused(line)),
-            Err(Fault::Memory) => panic!(rt; "memory"),
+            Ok(component) => component_comes_back(rt, &component),
+            Err(fault) => Ok(refused_on(rt, fault)),
         }
     }
 }

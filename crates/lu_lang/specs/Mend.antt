@@ -1,8 +1,9 @@
 -- What a line with a fault leaves, so that the lines after it are told for their own faults alone.
-use Rattle.std.specs.Prelude.{ℕ, ◌-◌, Bool, false, List, [], ◌∷◌, ◌++◌, length, take, slice_index, Option, Some, None, is_some, codes, ◌==◌, ◌&&◌, ◌||◌, not, nat_le, if◌then◌else◌}
+use denote.Ref.{Bor}
+use Rattle.std.specs.Prelude.{◌≡◌, ℕ, ◌-◌, Bool, false, List, [], ◌∷◌, ◌++◌, length, take, slice_index, Option, Some, None, is_some, codes, ◌==◌, ◌&&◌, ◌||◌, not, nat_le, if◌then◌else◌}
 use Rattle.std.specs.Str.{bytes_eq}
 use Rattle.lu_text.specs.Names.{has_name_form, is_long}
-use Rattle.lu_text.specs.Lines.{words_of}
+use Rattle.lu_text.specs.Lines.{texts, words_of}
 use Rattle.lu_text.specs.Words.{Word}
 use Rattle.lu_component.specs.declared.instr.Operand.TheVariants.{Num}
 use Rattle.lu_component.specs.declared.instr.Instr.TheVariants.{Return}
@@ -128,19 +129,37 @@ mend_inside d b (word ∷ words) next =
     else (if bytes_eq (bare word) (codes "word") then with_return (with_array d words) b
     else with_return d b)
 
--- by the component's name and the open operation, where they are there: where there is no
--- `component` line yet, the component is called `_`
+-- where an operation is open, with the label of the line
+abbrev pub mend_open : ComponentDraft → OpenOp → List Word → List Word → ComponentDraft
+mend_open d b words next =
+    mend_inside d (op_labelled b (line_label words)) (after_label words) next
+
+-- where there is no `component` line yet, the component is called `_`, and no operation is open
+abbrev pub mend_nameless : ComponentDraft → List Word → List Word → ComponentDraft
+mend_nameless d words next =
+    mend_outside (record (closed d) { name = Some (codes "_") }) words next
+
+-- by the component's name and the open operation, where they are there
 abbrev pub mend_by_name : ComponentDraft → Option Word → Option OpenOp → List Word → List Word
     → ComponentDraft
-mend_by_name d None b words next = mend_outside (record d { name = Some (codes "_") }) words next
+mend_by_name d None b words next = mend_nameless d words next
 mend_by_name d (Some name) None words next = mend_outside d words next
-mend_by_name d (Some name) (Some b) words next =
-    mend_inside d (op_labelled b (line_label words)) (after_label words) next
+mend_by_name d (Some name) (Some b) words next = mend_open d b words next
 
 -- a line of these words
 abbrev pub mend_words : ComponentDraft → List Word → List Word → ComponentDraft
 mend_words d [] next = d
 mend_words d (word ∷ words) next = mend_by_name (closed d) d.name d.begun (word ∷ words) next
+
+-- the draft becomes so, by the words of a line and those of the next line
+abbrev pub Mends : (ComponentDraft → List Word → List Word → ComponentDraft) → ComponentDraft
+    → ComponentDraft → List (Bor Word) → List (Bor Word) → Type 0
+Mends mended old new words next = new ≡ mended old (texts words) (texts next)
+
+-- so it is where this operation was open
+abbrev pub MendsOpen : (ComponentDraft → OpenOp → List Word → List Word → ComponentDraft)
+    → OpenOp → ComponentDraft → ComponentDraft → List (Bor Word) → List (Bor Word) → Type 0
+MendsOpen mended op = Mends (λ d. mended d op)
 
 -- what a line with a fault leaves, before these lines
 abbrev pub mend : ComponentDraft → List ℕ → List (List ℕ) → ComponentDraft

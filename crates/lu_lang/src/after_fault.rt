@@ -1,10 +1,10 @@
 //! What a line with a fault leaves, so that the lines after it are told for their own faults
 //! alone.
 
-ghost use Rattle.std.specs.Prelude.{◌≡◌, IfOk};
+ghost use Rattle.std.specs.Prelude.{◌≡◌, IfOk, OnOk};
 ghost use Rattle.lu_text.specs.Lines.{text_if, texts};
 ghost use Rattle.lu_lang.specs.Mend as spec;
-ghost use Rattle.lu_lang.specs.Mend.{mend};
+ghost use Rattle.lu_lang.specs.Mend.{Mends, MendsOpen, mend};
 ghost use Rattle.lu_text.specs.Results.{Builds};
 
 use crate::draft::{ComponentDraft, Label, OpenOp, Statement};
@@ -49,74 +49,63 @@ fn first_name(alloc: Global, words: &[&[u8]]) -> Result<Name, AllocError>
     }
 }
 
-/// The draft with the array that these words declare, where there is room.
-fn with_array(
-    alloc: Global,
-    mut draft: ComponentDraft,
-    words: &[&[u8]],
-) -> Result<ComponentDraft, AllocError>
-    ensures { Builds result (spec.with_array draft (texts words.now)) }
+/// Adds the array that these words declare, where there is room.
+fn add_array(alloc: Global, draft: &mut ComponentDraft, words: &[&[u8]]) -> Result<(), AllocError>
+    ensures { OnOk result (draft.new ≡ spec.with_array draft.old (texts words.now)) }
 {
-    if has_most_arrays(&draft) {
-        return Ok(draft);
+    if has_most_arrays(draft) {
+        return Ok(());
     }
+    let name = first_name(alloc, words)?;
     draft.arrays.push(Array {
-        name: first_name(alloc, words)?,
+        name,
         len: 64,
         init: 0,
     })?;
-    Ok(draft)
+    Ok(())
 }
 
-/// The draft with the lock that these words declare, where there is room.
-fn with_lock(
-    alloc: Global,
-    mut draft: ComponentDraft,
-    words: &[&[u8]],
-) -> Result<ComponentDraft, AllocError>
-    ensures { Builds result (spec.with_lock draft (texts words.now)) }
+/// Adds the lock that these words declare, where there is room.
+fn add_lock(alloc: Global, draft: &mut ComponentDraft, words: &[&[u8]]) -> Result<(), AllocError>
+    ensures { OnOk result (draft.new ≡ spec.with_lock draft.old (texts words.now)) }
 {
-    if has_most_locks(&draft) {
-        return Ok(draft);
+    if has_most_locks(draft) {
+        return Ok(());
     }
     draft.locks.push(first_name(alloc, words)?)?;
-    Ok(draft)
+    Ok(())
 }
 
-/// The draft with the operation that these words begin.
-fn with_op(
-    alloc: Global,
-    mut draft: ComponentDraft,
-    words: &[&[u8]],
-) -> Result<ComponentDraft, AllocError>
-    ensures { Builds result (spec.with_op draft (texts words.now)) }
+/// Begins the operation that these words begin.
+fn begin_op(alloc: Global, draft: &mut ComponentDraft, words: &[&[u8]]) -> Result<(), AllocError>
+    ensures { OnOk result (draft.new ≡ spec.with_op draft.old (texts words.now)) }
 {
     draft.begun = Some(OpenOp::new(alloc, first_name(alloc, words)?, 0));
-    Ok(draft)
+    Ok(())
 }
 
-/// The operation with a line's label, where it has one.
-fn op_labelled(alloc: Global, mut op: OpenOp, label: Option<&[u8]>) -> Result<OpenOp, AllocError>
-    ensures { Builds result (spec.op_labelled op (text_if label.entry)) }
+/// Adds a line's label, where it has one, to the operation.
+fn add_label(alloc: Global, op: &mut OpenOp, label: Option<&[u8]>) -> Result<(), AllocError>
+    ensures { OnOk result (op.new ≡ spec.op_labelled op.old (text_if label.entry)) }
 {
     match label {
         Some(label) if op.labels.len() < MOST_LABELS => {
             let name = name_or_blank(alloc, label)?;
             op.labels.push(Label { name, place: 0 })?;
-            Ok(op)
+            Ok(())
         }
-        _ => Ok(op),
+        _ => Ok(()),
     }
 }
 
-/// The draft with one more instruction of this operation.
-fn with_return(mut draft: ComponentDraft, mut op: OpenOp) -> Result<ComponentDraft, AllocError>
-    ensures { Builds result (spec.with_return draft op) }
+/// Goes on with this operation, which has one more instruction.
+fn add_return(draft: &mut ComponentDraft, mut op: OpenOp) -> Result<(), AllocError>
+    ensures { OnOk result (draft.new ≡ spec.with_return draft.old op) }
 {
     op.statements
         .push(Statement::Plain(Instr::Return(Operand::Num(0))))?;
     draft.begun = Some(op);
-    Ok(draft)
+    Ok(())
 }
 
 /// The label of a line of these words, where it has one, and its words after it.
@@ -191,84 +180,123 @@ pub(crate) fn closes(words: &[&[u8]], next: &[&[u8]]) -> bool
 /// What a line of these words leaves outside an operation.
 fn mend_outside(
     alloc: Global,
-    draft: ComponentDraft,
+    draft: &mut ComponentDraft,
     words: &[&[u8]],
     next: &[&[u8]],
-) -> Result<ComponentDraft, AllocError>
-    ensures { Builds result (spec.mend_outside draft (texts words.now) (texts next.now)) }
+) -> Result<(), AllocError>
+    ensures { OnOk result (Mends spec.mend_outside draft.old draft.new words.now next.now) }
 {
     let Some((word, rest)) = words.split_first() else {
-        return Ok(draft);
+        return Ok(());
     };
     let word = bare(word);
     if word == b"word".as_slice() {
-        with_array(alloc, draft, rest)
+        add_array(alloc, draft, rest)
     } else if word == b"lock".as_slice() {
-        with_lock(alloc, draft, rest)
+        add_lock(alloc, draft, rest)
     } else if word == b"op".as_slice() {
-        with_op(alloc, draft, rest)
+        begin_op(alloc, draft, rest)
     } else if !begins_code(next) || word == b"end".as_slice() {
-        Ok(draft)
+        Ok(())
     } else if is_code(word) {
-        let op = OpenOp::new(alloc, Name::new(alloc, b"_")?, 0);
-        with_return(draft, op_labelled(alloc, op, label_in(word))?)
+        let mut op = OpenOp::new(alloc, Name::new(alloc, b"_")?, 0);
+        add_label(alloc, &mut op, label_in(word))?;
+        add_return(draft, op)
     } else {
-        with_op(alloc, draft, rest)
+        begin_op(alloc, draft, rest)
     }
 }
 
 /// What a line of these words, after its label, leaves in this operation.
 fn mend_inside(
     alloc: Global,
-    mut draft: ComponentDraft,
+    draft: &mut ComponentDraft,
     op: OpenOp,
     words: &[&[u8]],
     next: &[&[u8]],
-) -> Result<ComponentDraft, AllocError>
-    ensures { Builds result (spec.mend_inside draft op (texts words.now) (texts next.now)) }
+) -> Result<(), AllocError>
+    ensures { OnOk result
+        (MendsOpen spec.mend_inside op draft.old draft.new words.now next.now) }
 {
     let Some((word, rest)) = words.split_first() else {
-        return with_return(draft, op);
+        return add_return(draft, op);
     };
     if closes(words, next) {
         draft.operations.push(op_of(alloc, op)?)?;
-        mend_outside(alloc, draft, words, next)
-    } else if bare(word) == b"word".as_slice() {
-        with_return(with_array(alloc, draft, rest)?, op)
-    } else {
-        with_return(draft, op)
+        return mend_outside(alloc, draft, words, next);
+    }
+    if bare(word) == b"word".as_slice() {
+        add_array(alloc, draft, rest)?;
+    }
+    add_return(draft, op)
+}
+
+/// What a line of these words leaves in this operation.
+fn mend_open(
+    alloc: Global,
+    draft: &mut ComponentDraft,
+    mut op: OpenOp,
+    words: &[&[u8]],
+    next: &[&[u8]],
+) -> Result<(), AllocError>
+    ensures { OnOk result
+        (MendsOpen spec.mend_open op draft.old draft.new words.now next.now) }
+{
+    let (label, rest) = split_label(words);
+    add_label(alloc, &mut op, label)?;
+    mend_inside(alloc, draft, op, rest, next)
+}
+
+/// What a line of these words leaves before the component has a name: it is called `_`.
+fn mend_nameless(
+    alloc: Global,
+    draft: &mut ComponentDraft,
+    words: &[&[u8]],
+    next: &[&[u8]],
+) -> Result<(), AllocError>
+    ensures { OnOk result (Mends spec.mend_nameless draft.old draft.new words.now next.now) }
+{
+    draft.begun = None;
+    draft.name = Some(Name::new(alloc, b"_")?);
+    mend_outside(alloc, draft, words, next)
+}
+
+/// What a line of these words leaves.
+fn mend_by_words(
+    alloc: Global,
+    draft: &mut ComponentDraft,
+    words: &[&[u8]],
+    next: &[&[u8]],
+) -> Result<(), AllocError>
+    ensures { OnOk result (Mends spec.mend_words draft.old draft.new words.now next.now) }
+{
+    let Some(_) = words.split_first() else {
+        return Ok(());
+    };
+    if draft.name.is_none() {
+        return mend_nameless(alloc, draft, words, next);
+    }
+    match draft.begun.take() {
+        None => mend_outside(alloc, draft, words, next),
+        Some(op) => mend_open(alloc, draft, op, words, next),
     }
 }
 
-/// The draft from which the lines after a line with a fault are read; `lines` are these.
+/// Makes the draft the one from which the lines after a line with a fault are read; `lines` are
+/// these.
 ///
 /// # Errors
 ///
 /// There is no memory for what the line leaves.
-pub(crate) fn mended_draft(
+pub(crate) fn mend_draft(
     alloc: Global,
-    mut draft: ComponentDraft,
+    draft: &mut ComponentDraft,
     text: &[u8],
     lines: &[&[u8]],
-) -> Result<ComponentDraft, AllocError>
-    ensures { Builds result (mend draft text.now (texts lines.now)) }
+) -> Result<(), AllocError>
+    ensures { OnOk result (draft.new ≡ mend draft.old text.now (texts lines.now)) }
 {
     let words = words_of(alloc, text)?;
-    let Some(_) = words.split_first() else {
-        return Ok(draft);
-    };
     let next = next_words(alloc, lines)?;
-    let begun = draft.begun.take();
-    if draft.name.is_none() {
-        draft.name = Some(Name::new(alloc, b"_")?);
-        return mend_outside(alloc, draft, &words, &next);
-    }
-    match begun {
-        None => mend_outside(alloc, draft, &words, &next),
-        Some(op) => {
-            let (label, rest) = split_label(&words);
-            let op = op_labelled(alloc, op, label)?;
-            mend_inside(alloc, draft, op, rest, &next)
-        }
-    }
+    mend_by_words(alloc, draft, &words, &next)
 }

@@ -11,7 +11,7 @@ ghost use Rattle.lu_text.specs.Results.{Builds, HasItems};
 ghost use Rattle.lu_lang.specs.Results.{BuildsLine};
 ghost use Rattle.lu_lang.specs.declared.recovery.Family.TheVariants.{Operation};
 
-use crate::after_fault::{bare, mended_draft, split_label};
+use crate::after_fault::{bare, mend_draft, split_label};
 use crate::draft::{ComponentDraft, Label, OpenOp};
 use crate::fault::LangFaultKind;
 use crate::instructions::{array_number, lock_number};
@@ -425,9 +425,9 @@ pub fn mended(
 ) -> Result<FaultyDraft, AllocError>
     ensures { Builds result (mend_faulty draft text.now (texts lines.now)) }
 {
-    let FaultyDraft { draft, meant } = draft;
+    let FaultyDraft { mut draft, meant } = draft;
     let before = operations_begun(&draft);
-    let draft = mended_draft(alloc, draft, text, lines)?;
+    mend_draft(alloc, &mut draft, text, lines)?;
     let words = words_of(alloc, text)?;
     let meant = with_names(alloc, &draft, meant, &words)?;
     let meant = with_operation(alloc, &draft, meant, before)?;

@@ -14,7 +14,7 @@ use Rattle.lu_lint.specs.declared.remark.Position.{Position}
 use Rattle.lu_lint.specs.Lint as lint
 use Rattle.lu_lint.specs.Lint.{end_told, told_on, told_beside, faults_after, with_words}
 use Rattle.lu_lint.proofs.Going as lines
-use Rattle.lu_lint.specs.Matrix.{FitsBy, fault_said, left_by, matrix_lint, matrix_mend}
+use Rattle.lu_lint.specs.Matrix.{FitsBy, LeavesDraft, fault_said, left_by, line_read, matrix_lint, matrix_mend}
 
 -- there is room still after a line
 pub room_kept : (all : List Signature) (d d1 next : MatrixDraft) (fault : Option MatrixFaultKind) (line : List ℕ) → HasRoom d → (d1, fault) ≡ going_on d (line_of all d line) → next ≡ left_by d1 line fault → HasRoom next
@@ -50,6 +50,17 @@ fits_kept all d d1 next fault line fits e left c is same =
     let before = fits c is same in
     let kept = step_kept c is d d1 next fault line (record { limits = before.0; fits = before.1 }) (subst (λ (xs : List Signature). (d1, fault) ≡ going_on d (line_of xs d line)) same e) left in
     (kept.limits, kept.fits)
+
+both : (p : MatrixDraft × Option MatrixFaultKind) → (p.0, p.1) ≡ p
+both (d, fault) = refl
+
+-- a line that was read went on to a draft, and left one by its fault
+pub as_read : (all : List Signature) (at : Position) (d : MatrixDraft) (line : List ℕ) (before now : List Said) (next : MatrixDraft) (fault : Option MatrixFaultKind) → LeavesDraft all at d line before now next fault
+    → (d1 : MatrixDraft) × ((d1, fault) ≡ going_on d (line_of all d line)) × (next ≡ left_by d1 line fault) × (now ≡ before ++ fault_said at fault)
+as_read all at d line before now next fault h =
+    let r = line_read all d line in
+    let same = sym h.fault_is in
+    (r.0, ap (λ (k : Option MatrixFaultKind). (r.0, k)) h.fault_is ∙ both r, h.left_is ∙ ap (λ (k : Option MatrixFaultKind). left_by r.0 line k) same, h.told ∙ ap (λ (k : Option MatrixFaultKind). before ++ fault_said at k) same)
 
 -- no line is read yet
 pub nothing_by : (all : List Signature) → FitsBy all nothing

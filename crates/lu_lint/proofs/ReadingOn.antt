@@ -1,9 +1,10 @@
 -- What lint reads of a component, line by line, is what it is to read of all of its lines.
 use Rattle.std.proofs.Common.{◌≡◌, ℕ, ◌+◌, Bool, true, false, List, [], ◌∷◌, ◌++◌, map, Result, Ok, Err, refl, sym, ap, subst, ◌∙◌}
-use Rattle.std.specs.Prelude.{Vec, is_none, is_some, not}
+use Rattle.std.specs.Prelude.{IfOk, Vec, is_none, is_some, not}
 use Rattle.std.proofs.lemmas.List.{append_assoc}
 use Rattle.lu_text.specs.Faults.{fault_in, meaning_of_lines}
 use Rattle.lu_text.specs.Lines.{words_of}
+use Rattle.lu_text.specs.Words.{Word}
 use Rattle.lu_lang.specs.declared.fault.LangFaultKind.TheVariants.{Name}
 use Rattle.lu_lang.specs.Meant.{faulty_grammar}
 use Rattle.lu_lang.proofs.Drafts.{nothing_draft}
@@ -15,9 +16,9 @@ use Rattle.lu_lint.specs.declared.remark.FaultKind.TheVariants as part
 use Rattle.lu_lint.specs.Bundle.{LintsComponentLines, component_lines_said, held_of, warnings_said}
 use Rattle.lu_lint.specs.Component.{backs_beside, component_lint, end_said, faulty_end_others, faulty_of_lines, jumps_said, line_said, read_as, read_of_lines}
 use Rattle.lu_lint.specs.Lint.{draft_after, faults_after}
-use Rattle.lu_lint.specs.Reading.{ReadsOn, all_end_said, line_at, line_read}
+use Rattle.lu_lint.specs.Reading.{FindsAt, ReadsFound, ReadsOn, all_end_said, line_at, line_read}
 use Rattle.lu_lint.specs.Said.{SaysAndReads, said_faults, said_of, said_of_lines}
-use Rattle.lu_lint.specs.Warnings.{hints_while, possible_of_lines, without_words}
+use Rattle.lu_lint.specs.Warnings.{found_at, hints_while, possible_of_lines, without_words}
 use Rattle.lu_lint.proofs.Going.{component_goes_on, is_done, component_end, draft_done, draft_goes_on, two_more}
 use Rattle.lu_lint.proofs.Warned.{Finds, finds_on, found_said}
 use Rattle.lu_lint.proofs.WhileSound.{KeepsRules, Reads, component_done, reads_on, rules_on}
@@ -35,6 +36,9 @@ none_or_some : (some : Bool) → some ≡ not (not some)
 none_or_some true = refl
 none_or_some false = refl
 
+pub none_is : (none some : Bool) → some ≡ not none → none ≡ not some
+none_is none some is = none_or_some none ∙ sym (ap not is)
+
 both : {A B : Type 0} (p : A × B) → (p.0, p.1) ≡ p
 both (a, b) = refl
 
@@ -51,7 +55,10 @@ so_far_none r lines draft sound seen warnings = record {
 -- one line more
 pub so_far_on : (r next : Reading) (n : ℕ) (line : List ℕ) (rest behind lines : List (List ℕ)) (before : List Said)
     → behind ≡ rest → ReadsOn r n line behind next → SoFar r n (line ∷ rest) lines before → SoFar next (n + 1) rest lines before
-so_far_on r next n line rest behind lines before is on h =
+so_far_on r next n line rest behind lines before is (mid, finds, reads) h =
+    let P : Reading → Type 0 = λ x. ReadsFound x n line (words_of line) behind next in
+    let on : ReadsFound (record r { warnings = mid.warnings }) n line (words_of line) behind next = subst P finds.others reads in
+    let found : map without_words next.warnings.items ≡ map without_words r.warnings.items ++ map (found_at (line_at r n)) (hints_while r.sound r.draft.draft (words_of line)) = ap (map without_words) on.found ∙ finds.found in
     let f1 = (line_read r.draft line).0 in
     let fault = (line_read r.draft line).1 in
     let at = line_at r n in
@@ -62,11 +69,31 @@ so_far_on r next n line rest behind lines before is on h =
     let two : said_of next.all.items ≡ one ++ jumps_said at Name backs = on.told ∙ sym (append_assoc (said_of r.all.items) (line_said at f1 line fault) (jumps_said at Name backs)) in
     record {
       told = rw on.seen (component_goes_on 0 r.seen.items n r.draft f1 next.draft fault line rest behind backs (said_of r.all.items) one (said_of next.all.items) (before ++ said_of_lines component_lint 0 lines) read on.left is refl two refl h.told);
-      found = rw (on.seen, on.sound) (finds_on r.sound (is_none fault) (map without_words r.warnings.items) (map without_words next.warnings.items) (hints_while r.sound r.draft.draft (words_of line)) r.seen.items n r.draft.draft r.draft f1 next.draft fault line behind rest (possible_of_lines lines) refl free read on.left on.found refl h.found);
+      found = rw (on.seen, on.sound) (finds_on r.sound (is_none fault) (map without_words r.warnings.items) (map without_words next.warnings.items) (hints_while r.sound r.draft.draft (words_of line)) r.seen.items n r.draft.draft r.draft f1 next.draft fault line behind rest (possible_of_lines lines) refl free read on.left found refl h.found);
       left = draft_goes_on component_lint r.draft f1 next.draft (faulty_of_lines lines) fault line rest behind read on.left is h.left;
       rules = rw on.sound (rules_on r.sound (is_none fault) r.draft f1 next.draft fault line behind (line ∷ rest) rest refl is free read on.left h.rules);
       read = rw on.sound (reads_on component_lint.grammar component_lint.mend r.sound (is_none fault) n r.draft f1 next.draft fault line behind rest (meaning_of_lines component_lint.grammar lines) free read on.left h.read);
     }
+
+-- the words of a line are looked at, and then the line is read
+pub both_read : {E : Type 0} (r found : Reading) (n : ℕ) (line : List ℕ) (words : List Word) (lines : List (List ℕ)) (result : Result Reading E)
+    → words ≡ words_of line → FindsAt r n words found → IfOk result (λ next. ReadsFound found n line words lines next) → IfOk result (λ next. ReadsOn r n line lines next)
+both_read r found n line words lines (Ok next) are finds reads =
+    let P : List Word → Type 0 = λ x. FindsAt r n x found × ReadsFound found n line x lines next in
+    let (look, rest) = subst P are (finds, reads) in
+    (found, look, rest)
+both_read r found n line words lines (Err error) are finds reads = tt
+
+-- the warnings that hold are said after the end
+pub ends_held : {E Y Z : Type 0} (r : Reading) (n : ℕ) (ended : Vec Remark Y) (c : ReadComponent) (result : Result (Vec Remark Z × ReadComponent) E)
+    → said_of ended.items ≡ said_of r.all.items ++ end_said (line_at r n) r.draft → c ≡ read_as r.draft r.sound
+    → SaysAndReads result ended (held_of c (map without_words r.warnings.items)) c → SaysAndReads result r.all (all_end_said r n) (read_as r.draft r.sound)
+ends_held r n ended c (Ok (next, read)) is same (told, kept) =
+    let all = said_of r.all.items in
+    let end = end_said (line_at r n) r.draft in
+    let holds = λ (x : ReadComponent). held_of x (map without_words r.warnings.items) in
+    (told ∙ (ap (λ (x : List Said). x ++ holds c) is ∙ (append_assoc all end (holds c) ∙ ap (λ (x : ReadComponent). all ++ (end ++ holds x)) same)), kept ∙ same)
+ends_held r n ended c (Err error) is same e = tt
 
 -- no line is left
 so_far_done : (r : Reading) (n : ℕ) (lines : List (List ℕ)) (before next : List Said) (c : ReadComponent)

@@ -20,7 +20,7 @@ use Rattle.lu_machine.specs.Starts.{CanRun, IsStart, MakesAll, SetsUp, Settles, 
 use Rattle.lu_machine.proofs.Paths.{goes_on_feasible, leads_on, leads_same}
 use Rattle.lu_machine.proofs.Starting.{after, none_settles, start_there}
 use Rattle.lu_lint.specs.declared.remark.RunHint.{RunHint}
-use Rattle.lu_lint.specs.Runs.{SetupRuns, event_hints, setup_hints}
+use Rattle.lu_lint.specs.Runs.{SetupRuns, ShownByRun, ShownBySetup, event_hints, setup_hints}
 
 -- the setup as a matrix of its own can run
 pub can_start : (c : Component) (matrix m : Matrix) → m ≡ alone matrix.setup → IsOf matrix c → CanRun c m
@@ -103,19 +103,23 @@ is_run c matrix m i now h is limits settles leads stops =
       ]
     ]
 
+-- a run from where the setup starts is the setup's
+pub shown_by_setup : (c : Component) (matrix m : Matrix) (s : State) (hints : List RunHint) → m ≡ alone matrix.setup → IsMatrix m → Settles c matrix → IsStart c m s → ShownByRun s hints → ShownBySetup c matrix hints
+shown_by_setup c matrix m s hints is limits settles start (moves, end, history, leads, stops, are) =
+    let from = subst (λ (x : State). Leads x (replicate moves first_move) end history) (starts_empty c matrix.setup m s is start) leads in
+    (moves, history, is_run c matrix m moves end history is limits settles from stops, are)
+
 -- ---- the loop
 
 -- after so many moves
-abbrev pub IsSettingUp : Component → List Call → ℕ → State → List RunHint → Type 0
-IsSettingUp c calls moves now hints =
-    (h : List Event) × Leads (empty_state c (alone calls)) (replicate moves first_move) now h × (hints ≡ setup_hints h)
+abbrev pub IsSettingUp : State → ℕ → State → List RunHint → Type 0
+IsSettingUp s moves now hints = (h : List Event) × Leads s (replicate moves first_move) now h × (hints ≡ setup_hints h)
 
-pub at_first : (c : Component) (calls : List Call) (now : State) (hints : List RunHint) → now ≡ empty_state c (alone calls) → hints ≡ [] → IsSettingUp c calls 0 now hints
-at_first c calls now hints is none = ([], (is, refl), none)
+pub at_first : (s : State) (hints : List RunHint) → hints ≡ [] → IsSettingUp s 0 s hints
+at_first s hints none = ([], (refl, refl), none)
 
-pub one_further : (c : Component) (calls : List Call) (i : ℕ) (now new : State) (event : Option Event) (hints next : List RunHint) → IsSettingUp c calls i now hints → Step now first_move new event → next ≡ hints ++ flat_map event_hints (with_event event []) → IsSettingUp c calls (i + 1) new next
-one_further c calls i now new event hints next (h, leads, is) step more =
-    let s = empty_state c (alone calls) in
+pub one_further : (s : State) (i : ℕ) (now new : State) (event : Option Event) (hints next : List RunHint) → IsSettingUp s i now hints → Step now first_move new event → next ≡ hints ++ flat_map event_hints (with_event event []) → IsSettingUp s (i + 1) new next
+one_further s i now new event hints next (h, leads, is) step more =
     let on = leads_on s (replicate i first_move) (replicate 1 first_move) now new h (with_event event []) leads (new, event, [], step, (refl, refl), refl) in
     let longer = subst (λ (u : List Move). Leads s u new (h ++ with_event event [])) (replicate-append-replicate i 1 first_move) on in
     (h ++ with_event event [], longer, more ∙ (ap (λ (x : List RunHint). x ++ flat_map event_hints (with_event event [])) is ∙ sym (flat_map-append event_hints h (with_event event []))))

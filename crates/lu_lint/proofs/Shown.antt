@@ -74,6 +74,13 @@ after-append told path xs ys =
 pub no_kid : (told : List SerialHint) (path : List SerialOp) (hs : List (List SerialOp)) → with_set told path (empty_if (contains hs [])) ≡ of_kids told path hs 0
 no_kid told path hs = ap (with_set told path) (sym (append-nil (empty_if (contains hs []))))
 
+pub first_kid : (told so_far : List SerialHint) (path now : List SerialOp) (hs : List (List SerialOp)) (ends : Bool) → now ≡ path → ends ≡ contains hs [] → so_far ≡ with_set told now (empty_if ends) → so_far ≡ of_kids told path hs 0
+first_kid told so_far path now hs ends same is more =
+    more
+    ∙ (ap (λ (x : List SerialOp). with_set told x (empty_if ends)) same
+    ∙ (ap (λ (b : Bool). with_set told path (empty_if b)) is
+    ∙ no_kid told path hs))
+
 pub kid_more : (told so_far next : List SerialHint) (path : List SerialOp) (hs : List (List SerialOp)) (i : ℕ) (op : SerialOp) (kid : List (List SerialOp)) → slice_get (branches_of hs) i ≡ Some (op, kid) → so_far ≡ of_kids told path hs i → next ≡ with_set so_far (path ++ op ∷ []) kid → next ≡ of_kids told path hs (i + 1)
 kid_more told so_far next path hs i op kid at is more =
     let ends = empty_if (contains hs []) in

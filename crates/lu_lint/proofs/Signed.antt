@@ -1,11 +1,23 @@
 -- The operations that are named last under each name.
-use Rattle.std.proofs.Common.{◌≡◌, ℕ, ◌+◌, ◌≤◌, ◌<◌, List, ◌++◌, get_or, length, take, drop, append_assoc, sym, ap, ◌∙◌}
+use Rattle.std.proofs.Common.{◌≡◌, ℕ, ◌+◌, ◌≤◌, ◌<◌, List, ◌++◌, get_or, length, take, drop, append_assoc, sym, ap, subst, ◌∙◌}
 use Rattle.std.proofs.Math.ListN.{drop_of_length-le}
+use Rattle.std.proofs.lemmas.Bool.{le-leb}
 use Rattle.std.proofs.lemmas.List.{drop_more, take_all}
 use Rattle.lu_component.specs.declared.component.Op.{Op}
 use Rattle.lu_lang.specs.Faulty.{FaultyDraft}
 use Rattle.lu_test.specs.Signatures.{Signature}
-use Rattle.lu_lint.specs.Signatures.{open_signature, signature_once, signatures_from}
+use Rattle.lu_lint.specs.declared.remark.Said.{Said}
+use Rattle.lu_lint.specs.Bundle.{said_after_faulty}
+use Rattle.lu_lint.specs.Matrix.{matrix_lint}
+use Rattle.lu_lint.specs.Said.{said_of_text}
+use Rattle.lu_lint.specs.Signatures.{open_signature, signature_once, signatures_from, signatures_meant}
+
+-- what is said by no more signatures than a component may have
+pub said_by : (f : FaultyDraft) (above : ℕ) (text : List ℕ) (signatures : List Signature) (all next : List Said) → signatures ≡ signatures_meant f → length signatures ≤ 16 → next ≡ all ++ said_of_text (matrix_lint signatures) above text → next ≡ all ++ said_after_faulty f above text
+said_by f above text signatures all next is few told =
+    let few_meant : length (signatures_meant f) ≤ 16 = subst (λ (x : List Signature). length x ≤ 16) is few in
+    let meant : next ≡ all ++ said_of_text (matrix_lint (signatures_meant f)) above text = subst (λ (x : List Signature). next ≡ all ++ said_of_text (matrix_lint x) above text) is told in
+    rw (le-leb (length (signatures_meant f)) 16 few_meant) meant
 
 -- of few operations all
 pub few_taken : (ops : List Op) → length ops ≤ 16 → ops ≡ take 16 ops

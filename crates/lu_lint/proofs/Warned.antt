@@ -1,9 +1,9 @@
 -- Warnings, line by line.
-use Rattle.std.proofs.Common.{◌≡◌, ℕ, ◌+◌, Bool, true, false, cond, add-one, List, [], ◌∷◌, ◌++◌, map, filter, Option, Some, None, Result, Ok, Err, refl, sym, ap, ◌∙◌}
+use Rattle.std.proofs.Common.{◌≡◌, ℕ, ◌+◌, ◌<◌, Bool, true, false, cond, add-one, List, [], ◌∷◌, ◌++◌, get_or, length, take, map, filter, Option, Some, None, Result, Ok, Err, refl, sym, ap, ◌∙◌}
 use Rattle.std.specs.Prelude.{◌&&◌, is_none, is_some, not}
 use Rattle.std.specs.List.{cons_option}
 use Rattle.std.specs.Option.{unwrap_or}
-use Rattle.std.proofs.lemmas.List.{append_assoc, append-nil, map-append}
+use Rattle.std.proofs.lemmas.List.{append_assoc, append-nil, map-append, take_more}
 use Rattle.lu_text.specs.Faults.{going_on}
 use Rattle.lu_component.specs.Component.{Component}
 use Rattle.lu_lang.specs.declared.fault.LangFaultKind.{LangFaultKind}
@@ -14,20 +14,33 @@ use Rattle.lu_lang.specs.Meant.{faulty_grammar, meant_line, mend_faulty, read_as
 use Rattle.lu_lang.proofs.Understood.{same_line}
 use Rattle.lu_lint.specs.declared.component.ReadComponent.{ReadComponent}
 use Rattle.lu_lint.specs.declared.component.ReadComponent.TheVariants as read
+use Rattle.lu_lint.specs.declared.remark.Position.{Position}
 use Rattle.lu_lint.specs.declared.remark.Remark.{Remark}
 use Rattle.lu_lint.specs.declared.remark.Said.{Said}
 use Rattle.lu_lint.specs.declared.warning.FoundHint.{FoundHint}
 use Rattle.lu_lint.specs.declared.warning.PossibleWarning.{PossibleWarning}
 use Rattle.lu_lint.specs.Bundle.{held_of, warnings_said}
 use Rattle.lu_lint.specs.Component.{read_as, read_of_lines}
-use Rattle.lu_lint.specs.Lint.{left_by, with_words}
+use Rattle.lu_lint.specs.Lint.{left_by, line_before, with_words}
 use Rattle.lu_lint.specs.Said.{said_of}
-use Rattle.lu_lint.specs.Warnings.{Possible, held, holds, line_hints, next_draft, next_returns, possible, possible_after, possible_of_lines, remarks_held, returns_within, warned, without_words}
+use Rattle.lu_lint.specs.Warnings.{Possible, found_at, held, holds, line_hints, next_draft, next_returns, possible, possible_after, possible_of_lines, remarks_held, returns_within, warned, without_words}
 use Rattle.lu_lint.proofs.WhileSound.{free}
 
 -- one warning more
 pub one_more : (all : List PossibleWarning) (w : PossibleWarning) → map without_words (all ++ w ∷ []) ≡ map without_words all ++ without_words w ∷ []
 one_more all w = map-append without_words all (w ∷ [])
+
+-- one hint more is found at a line
+pub found_more : (at : Position) (hints : List FoundHint) (i : ℕ) (d : FoundHint) (place : ℕ) (before now next : List Possible) → i < length hints → place ≡ line_before at.seen.items at.line (get_or hints i d).back → now ≡ before ++ map (found_at at) (take i hints)
+    → next ≡ now ++ record { place = place; hint = (get_or hints i d).hint; unless_named = (get_or hints i d).unless_named } ∷ [] → next ≡ before ++ map (found_at at) (take (i + 1) hints)
+found_more at hints i d place before now next within is so_far more =
+    let here = map (found_at at) (take i hints) in
+    let one : ℕ → Possible = λ n. record { place = n; hint = (get_or hints i d).hint; unless_named = (get_or hints i d).unless_named } in
+    rw (take_more hints i d within) (more
+    ∙ (ap (λ (x : List Possible). x ++ one place ∷ []) so_far
+    ∙ (append_assoc before here (one place ∷ [])
+    ∙ (ap (λ (n : ℕ). before ++ (here ++ one n ∷ [])) is
+    ∙ ap (λ (x : List Possible). before ++ x) (sym (map-append (found_at at) (take i hints) (get_or hints i d ∷ [])))))))
 
 -- while no line has had a fault, the warnings found, and those of the lines to come, are these
 abbrev pub Finds : Bool → List Possible → List ℕ → ℕ → FaultyDraft → List (List ℕ) → List Possible → Type 0

@@ -20,7 +20,7 @@ use Rattle.lu_lint.specs.Matrix.{lint_of, matrix_lint}
 use Rattle.lu_lint.specs.declared.component.ReadComponent.{ReadComponent}
 use Rattle.lu_lint.specs.declared.component.ReadComponent.TheVariants as read
 use Rattle.lu_lint.specs.Signatures.{signatures_meant}
-use Rattle.lu_lint.specs.Said.{SaysAndReads, SaysFurther, above_next, said_of_lines, said_of_text}
+use Rattle.lu_lint.specs.Said.{SaysAndReads, SaysFurther, SaysSuch, above_next, said_of_lines, said_of_text}
 use Rattle.lu_lint.specs.Warnings.{Possible, held, warnings_of_lines}
 use Rattle.lu_lint.specs.Runs.{RunsSaid}
 
@@ -99,6 +99,23 @@ abbrev pub LintsComponentLines : {E Y Z : Type 0} → Result (Vec Remark Z × Re
     → Vec Remark Y → List (List ℕ) → Type 0
 LintsComponentLines result before lines =
     SaysAndReads result before (component_lines_said lines) (read_of_lines lines)
+
+-- what is said of the parts after a matrix that is read or not, before which so many lines stand,
+-- and by runs
+abbrev pub AfterMatrixAndRuns : ℕ → ReadComponent → Option Matrix → ℕ → List ℕ → List (List ℕ)
+    → List Said
+    → Type 0
+AfterMatrixAndRuns bound c m above matrix parts said =
+    (further : List Said) × (runs : List Said)
+    × AfterMatrix m (above_next above matrix) parts further
+    × RunsSaid bound c m above matrix runs
+    × (said ≡ further ++ runs)
+
+-- where it succeeds, that is said too, after what was said before
+abbrev pub SaysRest : {E Y Z : Type 0} → Result (Vec Remark Z) E → Vec Remark Y → ℕ → ReadComponent
+    → Option Matrix → ℕ → List ℕ → List (List ℕ) → Type 0
+SaysRest result before bound c m above matrix parts =
+    SaysSuch result before (AfterMatrixAndRuns bound c m above matrix parts)
 
 -- what is said on a matrix, before which so many lines stand: of it, of the parts after it, and
 -- by runs

@@ -2,10 +2,10 @@
 use Rattle.std.specs.Prelude.{◌≡◌, ℕ, Bool, List, [], ◌∷◌, ◌++◌, Option, Some, None, Result, IfOk, Vec, if◌then◌else◌}
 use Rattle.std.specs.Result.{result_ok}
 use Rattle.lu_component.specs.Component.{Component, IsComponent}
-use Rattle.lu_text.specs.Faults.{meaning_of_lines}
+use Rattle.lu_text.specs.Faults.{going_on, meaning_of_lines}
 use Rattle.lu_test.specs.declared.matrix_fault.MatrixFaultKind.{MatrixFaultKind}
 use Rattle.lu_test.specs.Matrix.{IsOf, Matrix}
-use Rattle.lu_test.specs.MatrixText.{MatrixDraft, IsDraft, finished, grammar_by, matrix_of}
+use Rattle.lu_test.specs.MatrixText.{MatrixDraft, IsDraft, finished, grammar_by, line_of, matrix_of}
 use Rattle.lu_test.specs.MatrixGoing.{mend}
 use Rattle.lu_test.specs.Signatures.{Signature, signatures}
 use Rattle.lu_lint.specs.declared.matrix.LeftLines.{LeftLines}
@@ -49,6 +49,28 @@ fault_said at (Some kind) = said_told part.Matrix at.above (told_here at.line ki
 -- the matrix of what lines left that have no fault, or have some
 abbrev pub matrix_if : MatrixDraft → Bool → Option Matrix
 matrix_if d sound = if sound then result_ok (finished d) else None
+
+-- a line after this draft: the draft after it, or the one before it and the line's fault
+abbrev pub line_read : List Signature → MatrixDraft → List ℕ
+    → MatrixDraft × Option MatrixFaultKind
+line_read all d line = going_on d (line_of all d line)
+
+-- A line at which what was said before is said, and its fault, and which leaves this draft and has
+-- this fault or none.
+pub record LeavesDraft (all : List Signature) (at : Position) (d : MatrixDraft) (line : List ℕ)
+    (before next : List Said) (left : MatrixDraft) (fault : Option MatrixFaultKind)
+    : Type 0 where
+  pub told : next ≡ before ++ fault_said at (line_read all d line).1
+  pub left_is : left ≡ left_by (line_read all d line).0 line (line_read all d line).1
+  pub fault_is : fault ≡ (line_read all d line).1
+
+-- the draft is read so, where that succeeds, and these remarks are those before with what is said
+abbrev pub ReadsDraft : {E Y Z : Type 0}
+    → Result (Vec Remark Z × MatrixDraft × Option MatrixFaultKind) E → Vec Remark Y
+    → List Signature → Position → MatrixDraft → List ℕ → Type 0
+ReadsDraft result before all at d line =
+    IfOk result (λ (next, left, fault).
+    LeavesDraft all at d line (said_of before.items) (said_of next.items) left fault)
 
 -- the calls are those of any component whose operations have these signatures
 abbrev pub FitsBy : List Signature → MatrixDraft → Type 0

@@ -9,12 +9,14 @@ use Rattle.lu_lang.specs.declared.fault.LangFaultKind.TheVariants.{Name}
 use Rattle.lu_lang.specs.Faulty.{FaultyDraft}
 use Rattle.lu_lang.specs.Meant.{faulty_grammar}
 use Rattle.lu_lint.specs.declared.component.Reading.{Reading}
+use Rattle.lu_lint.specs.declared.component.ReadComponent.{ReadComponent}
+use Rattle.lu_lint.specs.declared.warning.PossibleWarning.{PossibleWarning}
 use Rattle.lu_lint.specs.declared.remark.Position.{Position}
 use Rattle.lu_lint.specs.declared.remark.Remark.{Remark}
 use Rattle.lu_lint.specs.declared.remark.Said.{Said}
 use Rattle.lu_lint.specs.Bundle.{held_of}
 use Rattle.lu_lint.specs.Component.{backs_beside, end_said, jumps_said, left_by, line_said, read_as}
-use Rattle.lu_lint.specs.Lint.{with_words}
+use Rattle.lu_lint.specs.Lint.{seen_with}
 use Rattle.lu_lint.specs.Said.{SaysAndReads, said_of}
 use Rattle.lu_lint.specs.Warnings.{Possible, found_at, hints_while, without_words}
 
@@ -55,17 +57,35 @@ hints_at at sound f words = map (found_at at) (hints_while sound f.draft words)
 abbrev pub line_at : Reading → ℕ → Position
 line_at r n = record { above = 0; line = n; seen = r.seen }
 
--- What is left after one line more, which is line n; `lines` are those after it.
-pub record ReadsOn (r : Reading) (n : ℕ) (line : List ℕ) (lines : List (List ℕ)) (next : Reading)
-    : Type 0 where
+-- The warnings are found too of a line of these words, which is line n, and nothing else is changed.
+pub record FindsAt (r : Reading) (n : ℕ) (words : List Word) (next : Reading) : Type 0 where
+  pub found : map without_words next.warnings.items ≡ map without_words r.warnings.items
+      ++ hints_at (line_at r n) r.sound r.draft words
+  pub others : next ≡ record r { warnings = next.warnings }
+
+-- What is left after line n, of these words, of which the warnings are found; `lines` are those
+-- after it.
+pub record ReadsFound (r : Reading) (n : ℕ) (line : List ℕ) (words : List Word)
+    (lines : List (List ℕ)) (next : Reading) : Type 0 where
   pub told : said_of next.all.items ≡ said_of r.all.items
       ++ all_on_line (line_at r n) (line_read r.draft line).0 line lines
       (line_read r.draft line).1
   pub left : next.draft ≡ left_by (line_read r.draft line).0 line lines (line_read r.draft line).1
   pub sound : next.sound ≡ (r.sound && is_none (line_read r.draft line).1)
-  pub found : map without_words next.warnings.items ≡ map without_words r.warnings.items
-      ++ map (found_at (line_at r n)) (hints_while r.sound r.draft.draft (words_of line))
-  pub seen : next.seen.items ≡ with_words r.seen.items n line
+  pub found : next.warnings.items ≡ r.warnings.items
+  pub seen : next.seen.items ≡ seen_with r.seen.items n words
+
+-- that is left, where it succeeds
+abbrev pub ReadsRest : {E : Type 0} → Result Reading E → Reading → ℕ → List ℕ → List Word
+    → List (List ℕ) → Type 0
+ReadsRest result r n line words lines =
+    IfOk result (λ next. ReadsFound r n line words lines next)
+
+-- what is left after one line more, which is line n; `lines` are those after it
+abbrev pub ReadsOn : Reading → ℕ → List ℕ → List (List ℕ) → Reading → Type 0
+ReadsOn r n line lines next =
+    (found : Reading) × FindsAt r n (words_of line) found
+    × ReadsFound found n line (words_of line) lines next
 
 -- what is said at the end, on line n, after what is read
 abbrev pub all_end_said : Reading → ℕ → List Said
@@ -76,3 +96,9 @@ all_end_said r n =
 -- that is said at the end, and this is what the lines are read as
 abbrev pub ReadsEnd : {E V : Type 0} → Result (Vec Remark × V) E → Reading → ℕ → V → Type 0
 ReadsEnd result r n value = SaysAndReads result r.all (all_end_said r n) value
+
+-- those of these warnings that hold of the component are said, and it is what is read
+abbrev pub SaysHeld : {E : Type 0} → Result (Vec Remark × ReadComponent) E → Vec Remark
+    → ReadComponent → List PossibleWarning → Type 0
+SaysHeld result before c warnings =
+    SaysAndReads result before (held_of c (map without_words warnings)) c

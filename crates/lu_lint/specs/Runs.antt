@@ -1,5 +1,5 @@
 -- Warnings by runs: what the setup's run and the serial runs show.
-use Rattle.std.specs.Prelude.{◌≡◌, ◌⊎◌, ℕ, ◌+◌, ◌-◌, Bool, true, false, List, [], ◌∷◌, ◌++◌, length, map, filter, replicate, Option, Some, None, IfSome, Result, IfOk, Vec, slice_get, codes, ◌==◌, ◌&&◌, if◌then◌else◌}
+use Rattle.std.specs.Prelude.{◌≡◌, ◌⊎◌, ℕ, ◌+◌, ◌-◌, ◌≤◌, Bool, true, false, List, [], ◌∷◌, ◌++◌, length, map, filter, replicate, Option, Some, None, IfSome, Result, IfOk, Vec, slice_get, codes, ◌==◌, ◌&&◌, if◌then◌else◌}
 use Rattle.std.specs.List.{flat_map, list_any}
 use Rattle.std.specs.List.Sorted.{IsStrictlySortedBy}
 use Rattle.std.specs.Option.{unwrap_or}
@@ -14,6 +14,7 @@ use Rattle.lu_machine.specs.declared.event.Event.TheVariants.{Call, Return}
 use Rattle.lu_machine.specs.declared.event.Outcome.{Outcome}
 use Rattle.lu_machine.specs.declared.event.Outcome.TheVariants.{Ret as Returns, Trap as Traps}
 use Rattle.lu_machine.specs.States.{State}
+use Rattle.lu_machine.specs.Steps.{IsFeasible}
 use Rattle.lu_machine.specs.Runs.{Leads}
 use Rattle.lu_machine.specs.declared.test.Test.{Test}
 use Rattle.lu_machine.specs.Tests.{FromEachStartOf}
@@ -34,6 +35,7 @@ use Rattle.lu_lint.specs.declared.remark.RunHint.TheVariants.{SetupGoesOn, Setup
 use Rattle.lu_lint.specs.declared.component.ReadComponent.{ReadComponent}
 use Rattle.lu_lint.specs.declared.component.ReadComponent.TheVariants.{Sound, Faulty}
 use Rattle.lu_lint.specs.declared.runs.MatrixRuns.{MatrixRuns}
+use Rattle.lu_lint.specs.declared.setup_run.TheConstants.{MOST_MOVES_OF_SETUP}
 use Rattle.lu_lint.specs.Said.{line_below}
 
 -- ---- the setup
@@ -50,6 +52,15 @@ event_hints (Return t k outcome) = trap_hint k outcome
 -- the calls of a setup that trap, in its history
 abbrev pub setup_hints : List Event → List RunHint
 setup_hints history = flat_map event_hints history
+
+-- what a run from this state shows, each of whose moves is of thread 0 and pick 0: it makes as many
+-- as can be made, or as many as a setup makes at most
+abbrev pub ShownByRun : State → List RunHint → Type 0
+ShownByRun s hints =
+    (moves : ℕ) × (end : State) × (history : List Event)
+    × Leads s (replicate moves first_move) end history
+    × (IsFeasible end first_move → MOST_MOVES_OF_SETUP ≤ moves)
+    × (hints ≡ setup_hints history)
 
 -- so many moves, each of thread 0 and pick 0, are the setup's, and this is their history
 abbrev pub SetupRuns : Component → Matrix → ℕ → List Event → Type 0

@@ -6,7 +6,7 @@ ghost use Rattle.lu_lint.specs.Bundle.{LintsComponentLines, component_read, comp
 ghost use Rattle.lu_lint.specs.Component as spec;
 ghost use Rattle.lu_text.specs.Results.{HasItems};
 ghost use Rattle.lu_lint.specs.Lint.{told_there};
-ghost use Rattle.lu_lint.specs.Reading.{ReadsDraft, ReadsEnd, ReadsOn, all_on_line, hints_at};
+ghost use Rattle.lu_lint.specs.Reading.{FindsAt, ReadsDraft, ReadsEnd, ReadsOn, ReadsRest, SaysHeld, all_on_line, hints_at};
 ghost use Rattle.lu_lint.specs.Said.{SaysAlso, SaysAndReads, said_told};
 ghost use Rattle.lu_lint.specs.Warnings.{FindsAlso, without_words};
 ghost use Rattle.lu_lint.specs.declared.remark.FaultKind.TheVariants as part;
@@ -307,16 +307,51 @@ fn read_draft<W: Wording>(
     Ok((all, draft, fault))
 }
 
-/// What is left after one line more, of this number; `lines` are those after it.
-fn read_line<W: Wording>(
+/// What is left, with the warnings found at a line of these words, of this number.
+fn find_warnings<W: Wording>(
     alloc: Global,
     wording: &W,
     reading: Reading,
     line: usize,
     text: &[u8],
+    words: &[&[u8]],
+) -> Result<Reading, AllocError>
+    ensures { IfOk result (λ next. FindsAt reading line (texts words.now) next) }
+{
+    let Reading {
+        all,
+        draft,
+        sound,
+        warnings,
+        seen,
+    } = reading;
+    let at = Position {
+        above: 0,
+        line,
+        seen,
+    };
+    let warnings = with_line_hints(alloc, wording, warnings, &at, sound, &draft, text, words)?;
+    Ok(Reading {
+        all,
+        draft,
+        sound,
+        warnings,
+        seen: at.seen,
+    })
+}
+
+/// What is left after a line of these words, of this number, of which the warnings are found;
+/// `lines` are those after it.
+fn read_words<W: Wording>(
+    alloc: Global,
+    wording: &W,
+    reading: Reading,
+    line: usize,
+    text: &[u8],
+    words: &[&[u8]],
     lines: &[&[u8]],
 ) -> Result<Reading, AllocError>
-    ensures { IfOk result (λ next. ReadsOn reading line text.now (texts lines.now) next) }
+    ensures { ReadsRest result reading line text.now (texts words.now) (texts lines.now) }
 {
     let Reading {
         all,
@@ -330,11 +365,9 @@ fn read_line<W: Wording>(
         line,
         seen,
     };
-    let words = words_of(alloc, text)?;
-    let warnings = with_line_hints(alloc, wording, warnings, &at, sound, &draft, text, &words)?;
     let (all, draft, fault) = read_draft(alloc, wording, all, &at, draft, text, lines)?;
     sound &= fault.is_none();
-    let seen = with_words(at.seen, line, &words)?;
+    let seen = with_words(at.seen, line, words)?;
     Ok(Reading {
         all,
         draft,
@@ -342,6 +375,35 @@ fn read_line<W: Wording>(
         warnings,
         seen,
     })
+}
+
+/// What is left after one line more, of this number; `lines` are those after it.
+fn read_line<W: Wording>(
+    alloc: Global,
+    wording: &W,
+    reading: Reading,
+    line: usize,
+    text: &[u8],
+    lines: &[&[u8]],
+) -> Result<Reading, AllocError>
+    ensures { IfOk result (λ next. ReadsOn reading line text.now (texts lines.now) next) }
+{
+    let words = words_of(alloc, text)?;
+    let reading = find_warnings(alloc, wording, reading, line, text, &words)?;
+    read_words(alloc, wording, reading, line, text, &words, lines)
+}
+
+/// The remarks with those of these warnings that hold of a component, and the component.
+fn read_held(
+    alloc: Global,
+    all: Vec<Remark>,
+    component: ReadComponent,
+    warnings: Vec<PossibleWarning>,
+) -> Result<(Vec<Remark>, ReadComponent), AllocError>
+    ensures { SaysHeld result all component warnings.items }
+{
+    let all = with_held(alloc, all, &component, warnings)?;
+    Ok((all, component))
 }
 
 /// The remarks with those on the end of the lines, which is after all of them, and what the lines
@@ -355,15 +417,20 @@ fn read_end<W: Wording>(
     requires { reading.sound ≡ true → IsSoundDraft reading.draft.draft }
     ensures { ReadsEnd result reading end (spec.read_as reading.draft reading.sound) }
 {
+    let Reading {
+        all,
+        draft,
+        sound,
+        warnings,
+        seen,
+    } = reading;
     let at = Position {
         above: 0,
         line: end,
-        seen: reading.seen,
+        seen,
     };
-    let all = with_end(alloc, wording, reading.all, &at, &reading.draft)?;
-    let component = read_as(reading.draft, reading.sound);
-    let all = with_held(alloc, all, &component, reading.warnings)?;
-    Ok((all, component))
+    let all = with_end(alloc, wording, all, &at, &draft)?;
+    read_held(alloc, all, read_as(draft, sound), warnings)
 }
 
 /// The remarks with those on these lines of a component, each of which is read once, and what the

@@ -4,7 +4,8 @@ ghost use Rattle.std.specs.Prelude.{◌≡◌, ◌≤◌, ◌∷◌, IfOk, strin
 ghost use Rattle.std.specs.List.Sorted.{IsNonDecreasingBy};
 ghost use Rattle.lu_report.specs.Limits.{most_moves};
 ghost use Rattle.lu_text.specs.Lines.{texts};
-ghost use Rattle.lu_lint.specs.Bundle.{AfterComponent, BundleSaid, OnMatrix, IsSaidOf, PartsSaid};
+ghost use Rattle.lu_lint.specs.Bundle.{AfterComponent, BundleSaid, OnMatrix, IsSaidOf, PartsSaid, SaysRest};
+ghost use Rattle.lu_lint.specs.Runs.{AreTest};
 ghost use Rattle.lu_lint.specs.Messages.{remarks_text};
 ghost use Rattle.lu_lint.specs.Said as said;
 ghost use Rattle.lu_lint.specs.Said.{SaysSuch, said_of};
@@ -17,6 +18,7 @@ use crate::remark::Remark;
 use crate::runs::with_runs;
 use crate::words::Wording;
 use crate::writing::write_remarks;
+use lu_test::Matrix;
 use lu_text::{kept_lines, meant_parts};
 use std::alloc::{AllocError, Global};
 
@@ -31,6 +33,30 @@ pub struct Linted {
 
     /// Whether one of them is a fault.
     pub faults: bool,
+}
+
+/// The remarks with those on the parts after a matrix that is read or not, and by runs.
+fn with_after_matrix<W: Wording>(
+    alloc: Global,
+    wording: &W,
+    all: Vec<Remark>,
+    serial: u16,
+    component: &ReadComponent,
+    matrix: &Option<Matrix>,
+    above: usize,
+    text: &[u8],
+    parts: &[&[u8]],
+) -> Result<Vec<Remark>, AllocError>
+    requires fits { AreTest component.now matrix.now }
+    requires some { 1 ≤ serial }
+    requires few { serial ≤ most_moves }
+    ensures { SaysRest result all serial component.now matrix.now above text.now (texts parts.now) }
+{
+    let after = above_next(alloc, above, text)?;
+    let all = with_further(alloc, wording, all, matrix, after, parts)?;
+    // For the proof: what this returns is looked at before it is returned.
+    let all = with_runs(alloc, wording, all, component, matrix, serial, above, text)?;
+    Ok(all)
 }
 
 /// The remarks with those on a matrix, before which `above` lines stand, on the parts after it, and
@@ -50,11 +76,9 @@ fn with_second<W: Wording>(
     ensures { SaysSuch result all (OnMatrix serial component.now above text.now (texts parts.now)) }
 {
     let (all, matrix) = with_matrix(alloc, wording, all, component, above, text)?;
-    let after = above_next(alloc, above, text)?;
-    let all = with_further(alloc, wording, all, &matrix, after, parts)?;
-    // For the proof: what this returns is looked at before it is returned.
-    let all = with_runs(alloc, wording, all, component, &matrix, serial, above, text)?;
-    Ok(all)
+    with_after_matrix(
+        alloc, wording, all, serial, component, &matrix, above, text, parts,
+    )
 }
 
 /// The remarks with those on the parts after a component.
@@ -92,11 +116,9 @@ fn with_first<W: Wording>(
     requires few { serial ≤ most_moves }
     ensures { SaysSuch result all (PartsSaid serial (text.now ∷ texts parts.now)) }
 {
-    let (all, component) = with_component(alloc, wording, all, text)?;
     let above = above_next(alloc, 0, text)?;
-    // For the proof: what this returns is looked at before it is returned.
-    let all = with_after(alloc, wording, all, serial, &component, above, parts)?;
-    Ok(all)
+    let (all, component) = with_component(alloc, wording, all, text)?;
+    with_after(alloc, wording, all, serial, &component, above, parts)
 }
 
 /// The remarks with those on the parts of a bundle, of which each is read once.

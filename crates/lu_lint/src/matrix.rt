@@ -2,9 +2,10 @@
 
 ghost use Rattle.std.specs.Prelude.{◌≡◌, IfOk, IfSome, []};
 ghost use Rattle.std.specs.Option.{unwrap_or};
+ghost use Rattle.lu_lint.specs.Lint as lint;
 ghost use Rattle.lu_lint.specs.Lint.{told_here};
 ghost use Rattle.lu_lint.specs.Matrix as spec;
-ghost use Rattle.lu_lint.specs.Matrix.{FitsBy, LintsMatrixLines, fault_said, lint_of};
+ghost use Rattle.lu_lint.specs.Matrix.{FitsBy, LintsMatrixLines, ReadsDraft, fault_said, lint_of};
 ghost use Rattle.lu_lint.specs.Bundle.{LintsMatrix, said_after_faulty};
 ghost use Rattle.lu_lint.specs.Runs.{AreTest};
 ghost use Rattle.lu_lint.specs.Said.{LintsText, SaysAlso, said_told};
@@ -13,6 +14,7 @@ ghost use Rattle.lu_text.specs.Faults.{fault_in, going_on};
 ghost use Rattle.lu_test.specs.Matrix.{IsOf};
 ghost use Rattle.lu_test.specs.MatrixText.{AreFew, CanRead, IsDraft, finished, line_of, nothing, matrix_of as left_matrix};
 ghost use Rattle.lu_text.specs.Lines.{lines_of as lines_in, texts};
+ghost use Rattle.lu_text.specs.Results.{HasItems};
 
 use crate::component::ReadComponent;
 use crate::remark::{
@@ -107,6 +109,42 @@ fn left_by(
     }
 }
 
+/// The remarks with that on this line after this draft, where it has a fault, the draft from which
+/// the lines after it are read, and the line's fault.
+fn read_draft<W: Wording>(
+    alloc: Global,
+    wording: &W,
+    signatures: &[Signature<'_>],
+    all: Vec<Remark>,
+    at: &Position,
+    draft: MatrixDraft,
+    text: &[u8],
+) -> Result<(Vec<Remark>, MatrixDraft, Option<MatrixFaultKind>), AllocError>
+    requires { CanRead signatures.now draft }
+    ensures { ReadsDraft result all signatures.now at.now draft text.now }
+{
+    let (read, fault) = read_line(alloc, signatures, draft, text)?;
+    let next = Next { draft: &read, text };
+    let all = with_line(alloc, wording, signatures, all, at, next, fault)?;
+    let draft = left_by(alloc, read, fault, text)?;
+    Ok((all, draft, fault))
+}
+
+/// The lines with words so far, with one more line, of this text.
+fn seen_with(
+    alloc: Global,
+    seen: Vec<usize>,
+    line: usize,
+    text: &[u8],
+) -> Result<Vec<usize>, AllocError>
+    ensures { HasItems result (lint.with_words seen.items line text.now) }
+{
+    let words = words_of(alloc, text)?;
+    // For the proof: what this returns is looked at before it is returned.
+    let seen = with_words(seen, line, &words)?;
+    Ok(seen)
+}
+
 /// The remarks with that on the end of the text, where it has a fault.
 fn with_end<W: Wording>(
     alloc: Global,
@@ -182,13 +220,11 @@ fn read_lines<W: Wording>(
             line: before + 1,
             seen,
         };
-        let (read, fault) = read_line(alloc, signatures, draft, text)?;
+        let (next, left, fault) = read_draft(alloc, wording, signatures, all, &at, draft, text)?;
+        all = next;
+        draft = left;
         sound &= fault.is_none();
-        let next = Next { draft: &read, text };
-        all = with_line(alloc, wording, signatures, all, &at, next, fault)?;
-        draft = left_by(alloc, read, fault, text)?;
-        let words = words_of(alloc, text)?;
-        seen = with_words(at.seen, before + 1, &words)?;
+        seen = seen_with(alloc, at.seen, before + 1, text)?;
     }
     let at = Position {
         above,

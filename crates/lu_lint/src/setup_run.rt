@@ -6,7 +6,7 @@ ghost use Rattle.lu_machine.specs.Runs as runs;
 ghost use Rattle.lu_text.specs.Results.{HasItems};
 ghost use Rattle.lu_lint.specs.Items.{Extends};
 ghost use Rattle.lu_lint.specs.Runs as spec;
-ghost use Rattle.lu_lint.specs.Runs.{OfTest, ShownBySetup};
+ghost use Rattle.lu_lint.specs.Runs.{OfTest, ShownByRun, ShownBySetup};
 ghost use Rattle.lu_lint.specs.declared.remark.RunHint.TheVariants.{SetupGoesOn};
 
 use crate::remark::RunHint;
@@ -40,12 +40,10 @@ fn with_event_hint(
     Ok(hints)
 }
 
-/// The calls of the setup that trap.
-pub(crate) fn setup_hints(alloc: Global, test: Test<'_>) -> Result<Vec<RunHint>, AllocError>
-    ensures { IfOk result (λ hints. OfTest ShownBySetup test.entry hints.items) }
+/// The calls that trap in as many moves of this machine as can be made, or as a setup takes.
+fn run_hints(alloc: Global, mut machine: Machine<'_>) -> Result<Vec<RunHint>, AllocError>
+    ensures { IfOk result (λ hints. ShownByRun machine.entry hints.items) }
 {
-    let alone = setup_alone(alloc, test.matrix)?;
-    let mut machine = Machine::start(alloc, test.component, &alone)?;
     let mut hints = Vec::new(alloc);
     for _moved in 0..MOST_MOVES_OF_SETUP {
         if !machine.feasible(FIRST_MOVE) {
@@ -55,6 +53,15 @@ pub(crate) fn setup_hints(alloc: Global, test: Test<'_>) -> Result<Vec<RunHint>,
         hints = with_event_hint(hints, event)?;
     }
     Ok(hints)
+}
+
+/// The calls of the setup that trap.
+pub(crate) fn setup_hints(alloc: Global, test: Test<'_>) -> Result<Vec<RunHint>, AllocError>
+    ensures { IfOk result (λ hints. OfTest ShownBySetup test.entry hints.items) }
+{
+    let alone = setup_alone(alloc, test.matrix)?;
+    let machine = Machine::start(alloc, test.component, &alone)?;
+    run_hints(alloc, machine)
 }
 
 /// That this call of the setup does not end.

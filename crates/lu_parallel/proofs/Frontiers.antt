@@ -3,7 +3,7 @@ use Rattle.std.proofs.Common.{ℕ, zero, suc, ◌≤◌, List, [], ◌∷◌, Al
 use Rattle.lu_test.specs.declared.schedule.Move.{Move}
 use Rattle.lu_machine.specs.States.{State}
 use Rattle.lu_machine.specs.Schedules.{Lists}
-use Rattle.lu_tree.specs.Trees.{IsPieceAt, IsFrontier}
+use Rattle.lu_pieces.specs.Frontiers.{IsPieceAt, IsFrontier}
 use Rattle.lu_parallel.specs.Works.{IsPiece}
 
 all_listed : (P : List Move → Type 0) (pieces : List (List Move)) → ((u : List Move) → Lists pieces u → P u) → All P pieces

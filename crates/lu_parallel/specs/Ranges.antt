@@ -2,7 +2,7 @@
 use Rattle.std.specs.Prelude.{ℕ, ◌≤◌}
 use Rattle.lu_board.specs.declared.view.TheConstants.{MAX_WORKERS}
 use Rattle.lu_report.specs.Limits.{IsSerialBound, most_moves}
-use Rattle.lu_tree.specs.declared.pieces.TheConstants.{MOST_DEPTH}
+use Rattle.lu_pieces.specs.declared.pieces.TheConstants.{MOST_DEPTH}
 
 -- what is chosen for a check
 pub record Options : Type 0 where

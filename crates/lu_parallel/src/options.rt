@@ -3,7 +3,7 @@
 ghost use Rattle.std.specs.Prelude.{◌≡◌, ◌≤◌, ◌↔◌, IsSome, IfSome};
 ghost use Rattle.lu_board.specs.declared.view.TheConstants.{MAX_WORKERS};
 ghost use Rattle.lu_report.specs.Limits.{IsSerialBound, most_moves};
-ghost use Rattle.lu_tree.specs.declared.pieces.TheConstants.{MOST_DEPTH};
+ghost use Rattle.lu_pieces.specs.declared.pieces.TheConstants.{MOST_DEPTH};
 ghost use Rattle.lu_parallel.specs.Ranges.{IsInRange, choice, with_head_start};
 
 use lu_board::view::MAX_WORKERS;

@@ -26,8 +26,9 @@ abbrev pub GivesSource : Result Source (Fault Kind) → Result Program (Fault Ki
 GivesSource returned meant = Gives (result_map_both program_in (λ e. e) returned) meant
 
 -- the draft after line n, or the fault of this line, unless memory ran out
-abbrev pub GivesDraft : ℕ → Result Draft (Fault Kind) → Result Drafted Kind → Type 0
-GivesDraft n returned meant = OnLine n (result_map_both drafted_of (λ e. e) returned) meant
+abbrev pub GivesDraft : ℕ → Result (Unit {0}) (Fault Kind) → Draft → Result Drafted Kind → Type 0
+GivesDraft n returned new meant =
+    OnLine n (result_map_both (λ _. drafted_of new) (λ e. e) returned) meant
 
 -- the component of a text, or the text's first fault
 abbrev pub component_meant : List ℕ → Result Component (Fault Kind)

@@ -51,6 +51,11 @@ with_rest seen read = (seen read.0, texts read.1.now)
 abbrev pub in_draft : {A : Type 0} → (Drafted → List Word → A) → Draft → List (Bor Word) → A
 in_draft said d words = said (drafted_of d) (texts words)
 
+-- what is said of a line, by its first word and the others, in a draft
+abbrev pub in_line : {A : Type 0} → (Drafted → Word → List Word → A) → Draft → Word
+    → List (Bor Word) → A
+in_line said d word words = said (drafted_of d) word (texts words)
+
 -- what is said of a draft and its open operation
 abbrev pub within : {A : Type 0} → Draft → HeldBegun → (Drafted → Begun → A) → A
 within d b said = said (drafted_of d) (begun_of b)
@@ -79,9 +84,6 @@ infix_after left least most steps s words =
 abbrev pub ReadsAlone : {A : Type 0} → Result A Refusal → Result A Kind → Type 0
 ReadsAlone returned meant = Reads (λ x. x) returned meant
 
-abbrev pub ReadsDraft : Result Draft Refusal → Result Drafted Kind → Type 0
-ReadsDraft returned meant = Reads drafted_of returned meant
-
 abbrev pub ReadsBegun : Result HeldBegun Refusal → Result Begun Kind → Type 0
 ReadsBegun returned meant = Reads begun_of returned meant
 
@@ -93,6 +95,11 @@ abbrev pub ReadsSize : Result (ℕ × Bool × Left) Refusal → Result ((ℕ × 
     → Type 0
 ReadsSize returned meant =
     Reads (λ (n, written, rest). ((n, written), texts rest.now)) returned meant
+
+-- the length of a shared word, whether it is written, and what the cells hold at first
+abbrev pub ReadsCells : Result (ℕ × Bool × ℕ) Refusal → Result ((ℕ × Bool) × ℕ) Kind → Type 0
+ReadsCells returned meant =
+    Reads (λ (n, written, init). ((n, written), init)) returned meant
 
 abbrev pub ReadsNames : {Z : Type 0} → Result (Vec Word Z × Left) Refusal
     → Result (List Word × List Word) Kind → Type 0
@@ -217,6 +224,16 @@ BlocksBecome returned old new made =
 abbrev pub Becomes : Result (Unit {0}) Refusal → HeldBegun → HeldBegun
     → (Begun → Result Begun Kind) → Type 0
 Becomes returned old new made = Reads (λ _. begun_of new) returned (made (begun_of old))
+
+-- the draft is now what is meant, or the fault is there
+abbrev pub DraftIs : Result (Unit {0}) Refusal → Draft → Result Drafted Kind → Type 0
+DraftIs returned new meant = Reads (λ _. drafted_of new) returned meant
+
+-- the draft is now what a line of these words makes of it and of its open operation
+abbrev pub DraftTakes : Result (Unit {0}) Refusal
+    → (Drafted → Begun → List Word → Result Drafted Kind) → Draft → HeldBegun → List (Bor Word)
+    → Draft → Type 0
+DraftTakes returned line old b words new = DraftIs returned new (in_begun line old b words)
 
 -- the open operation becomes what a line of these words makes of it in the draft
 abbrev pub ReadsLine : Result (Unit {0}) Refusal

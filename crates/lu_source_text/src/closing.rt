@@ -7,7 +7,7 @@ ghost use Rattle.lu_source.specs.Shapes.{tree_of};
 ghost use Rattle.lu_source_text.specs.Drafts.{begun_of, block_of, drafted_of, opening_of};
 ghost use Rattle.lu_source_text.specs.Grammar as spec;
 ghost use Rattle.lu_source_text.specs.Parts.{else_after};
-ghost use Rattle.lu_source_text.specs.Reads.{Becomes, ReadsDraft, ReadsLine, ReadsOperation, in_begun, within};
+ghost use Rattle.lu_source_text.specs.Reads.{Becomes, DraftIs, DraftTakes, ReadsLine, ReadsOperation, within};
 
 use crate::blocks::{close_into, closed_by, pop_block, push_block};
 use crate::declaration::open_block;
@@ -40,13 +40,13 @@ fn whole_of(begun: Begun, body: Stmt) -> Result<Operation, Refusal>
 }
 
 /// The operation is there.
-fn whole_line(mut draft: Draft, begun: Begun, body: Stmt) -> Result<Draft, Refusal>
-    ensures { ReadsDraft result (within draft begun spec.whole_line (tree_of body)) }
+fn whole_line(draft: &mut Draft, begun: Begun, body: Stmt) -> Result<(), Refusal>
+    ensures { DraftIs result draft.new (within draft.old begun spec.whole_line (tree_of body)) }
 {
     let operation = whole_of(begun, body)?;
     draft.operations.push(operation)?;
     draft.begun = None;
-    Ok(draft)
+    Ok(())
 }
 
 /// A block ends, and with it its locals; the blocks around do what it did.
@@ -59,12 +59,11 @@ fn end_block(alloc: Global, begun: &mut Begun, block: Block) -> Result<(), Refus
     close_into(alloc, &mut begun.blocks, whole, chained)
 }
 
-/// The draft with this open operation.
-fn going(mut draft: Draft, begun: Begun) -> Draft
-    ensures { drafted_of result ≡ spec.going (drafted_of draft) (begun_of begun) }
+/// The draft has this open operation.
+pub(crate) fn go_on(draft: &mut Draft, begun: Begun)
+    ensures { drafted_of draft.new ≡ within draft.old begun spec.going }
 {
     draft.begun = Some(begun);
-    draft
 }
 
 fn is_whole(opening: &Opening) -> bool
@@ -74,14 +73,15 @@ fn is_whole(opening: &Opening) -> bool
 }
 
 /// `}`
-fn end_line(alloc: Global, draft: Draft, mut begun: Begun, block: Block) -> Result<Draft, Refusal>
-    ensures { ReadsDraft result (within draft begun spec.end_line (block_of block)) }
+fn end_line(alloc: Global, draft: &mut Draft, mut begun: Begun, block: Block) -> Result<(), Refusal>
+    ensures { DraftIs result draft.new (within draft.old begun spec.end_line (block_of block)) }
 {
     if is_whole(&block.opening) {
         whole_line(draft, begun, block.does)
     } else {
         end_block(alloc, &mut begun, block)?;
-        Ok(going(draft, begun))
+        go_on(draft, begun);
+        Ok(())
     }
 }
 
@@ -146,28 +146,29 @@ fn else_of(
 /// A line that begins with `}`, where this is the innermost block, and these words come after.
 fn closes(
     alloc: Global,
-    draft: Draft,
+    draft: &mut Draft,
     mut begun: Begun,
     block: Block,
     words: &[&[u8]],
-) -> Result<Draft, Refusal>
-    ensures { ReadsDraft result (in_begun (spec.closes (block_of block)) draft begun words.now) }
+) -> Result<(), Refusal>
+    ensures { DraftTakes result (spec.closes (block_of block)) draft.old begun words.now draft.new }
 {
     let Some((word, rest)) = words.split_first() else {
         return end_line(alloc, draft, begun, block);
     };
-    else_of(alloc, &draft, &mut begun, block, word, rest)?;
-    Ok(going(draft, begun))
+    else_of(alloc, draft, &mut begun, block, word, rest)?;
+    go_on(draft, begun);
+    Ok(())
 }
 
 /// A line that begins with `}`, and the words after it.
 pub(crate) fn close_line(
     alloc: Global,
-    draft: Draft,
+    draft: &mut Draft,
     mut begun: Begun,
     words: &[&[u8]],
-) -> Result<Draft, Refusal>
-    ensures { ReadsDraft result (in_begun spec.close_line draft begun words.now) }
+) -> Result<(), Refusal>
+    ensures { DraftTakes result spec.close_line draft.old begun words.now draft.new }
 {
     match pop_block(&mut begun.blocks) {
         None => Err(Refusal::Kind(SourceFaultKind::Flow)),

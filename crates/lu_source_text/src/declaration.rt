@@ -7,7 +7,8 @@ ghost use Rattle.lu_source_text.specs.Drafts.{block_of, drafted_of, opening_of};
 ghost use Rattle.lu_text.specs.Lines.{texts};
 ghost use Rattle.lu_source.specs.Programs.{operation_of};
 ghost use Rattle.lu_source_text.specs.Grammar as spec;
-ghost use Rattle.lu_source_text.specs.Reads.{ReadsAlone, ReadsBegun, ReadsConstant, ReadsDraft, ReadsLocal, ReadsLock, ReadsNames, ReadsObject, ReadsOp, ReadsShared, ReadsSize, ReadsValue, in_draft};
+ghost use Rattle.lu_source_text.specs.Parts.{arguments_in, cells_in, object_name, only_word};
+ghost use Rattle.lu_source_text.specs.Reads.{DraftIs, Reads, ReadsAlone, ReadsBegun, ReadsCells, ReadsConstant, ReadsLocal, ReadsLock, ReadsNames, ReadsObject, ReadsOp, ReadsShared, ReadsSize, ReadsValue, in_draft, in_line};
 
 use crate::draft::{Begun, Block, Constant, Draft, Opening, Shared};
 use crate::expression::{after_word, first_number};
@@ -51,16 +52,23 @@ pub(crate) fn new_name(
     Ok(Name::new(alloc, word)?)
 }
 
-/// The name of `object NAME`.
-fn object_in(alloc: Global, draft: &Draft, words: &[&[u8]]) -> Result<Name, Refusal>
-    ensures { ReadsObject (drafted_of draft.now) result (texts words.now) }
+/// The only word.
+fn only_word<'a>(words: &'a [&'a [u8]]) -> Result<&'a [u8], Refusal>
+    ensures { Reads (λ word. word.now) result (only_word (texts words.now)) }
 {
     let Some((word, rest)) = words.split_first() else {
         return Err(Refusal::Kind(SourceFaultKind::Form));
     };
-    if let Some(_) = rest.split_first() {
-        return Err(Refusal::Kind(SourceFaultKind::Form));
+    match rest.split_first() {
+        None => Ok(word),
+        Some(_) => Err(Refusal::Kind(SourceFaultKind::Form)),
     }
+}
+
+/// The name that this word is, before anything is declared.
+fn object_name(alloc: Global, word: &[u8]) -> Result<Name, Refusal>
+    ensures { ReadsAlone result (object_name word.now) }
+{
     if !is_free_name(word) {
         return Err(Refusal::Kind(SourceFaultKind::Form));
     }
@@ -70,16 +78,20 @@ fn object_in(alloc: Global, draft: &Draft, words: &[&[u8]]) -> Result<Name, Refu
     Ok(Name::new(alloc, word)?)
 }
 
-/// `object NAME`
-pub(crate) fn object_line(
-    alloc: Global,
-    mut draft: Draft,
-    words: &[&[u8]],
-) -> Result<Draft, Refusal>
-    ensures { ReadsDraft result (spec.object_line (drafted_of draft) (texts words.now)) }
+/// The name of `object NAME`.
+fn object_in(alloc: Global, draft: &Draft, words: &[&[u8]]) -> Result<Name, Refusal>
+    ensures { ReadsObject (drafted_of draft.now) result (texts words.now) }
 {
-    draft.name = Some(object_in(alloc, &draft, words)?);
-    Ok(draft)
+    let word = only_word(words)?;
+    object_name(alloc, word)
+}
+
+/// `object NAME`
+pub(crate) fn object_line(alloc: Global, draft: &mut Draft, words: &[&[u8]]) -> Result<(), Refusal>
+    ensures { DraftIs result draft.new (in_draft spec.object_line draft.old words.now) }
+{
+    draft.name = Some(object_in(alloc, draft, words)?);
+    Ok(())
 }
 
 /// A number, after which no word is left.
@@ -108,11 +120,11 @@ fn local_in(draft: &Draft, words: &[&[u8]]) -> Result<u8, Refusal>
 }
 
 /// `local L`
-fn local_line(mut draft: Draft, words: &[&[u8]]) -> Result<Draft, Refusal>
-    ensures { ReadsDraft result (spec.local_line (drafted_of draft) (texts words.now)) }
+fn local_line(draft: &mut Draft, words: &[&[u8]]) -> Result<(), Refusal>
+    ensures { DraftIs result draft.new (in_draft spec.local_line draft.old words.now) }
 {
-    draft.local = Some(local_in(&draft, words)?);
-    Ok(draft)
+    draft.local = Some(local_in(draft, words)?);
+    Ok(())
 }
 
 /// The constant of `const NAME = N`.
@@ -129,12 +141,12 @@ fn constant_in(alloc: Global, draft: &Draft, words: &[&[u8]]) -> Result<Constant
 }
 
 /// `const NAME = N`
-fn const_line(alloc: Global, mut draft: Draft, words: &[&[u8]]) -> Result<Draft, Refusal>
-    ensures { ReadsDraft result (spec.const_line (drafted_of draft) (texts words.now)) }
+fn const_line(alloc: Global, draft: &mut Draft, words: &[&[u8]]) -> Result<(), Refusal>
+    ensures { DraftIs result draft.new (in_draft spec.const_line draft.old words.now) }
 {
-    let constant = constant_in(alloc, &draft, words)?;
+    let constant = constant_in(alloc, draft, words)?;
     draft.constants.push(constant)?;
-    Ok(draft)
+    Ok(())
 }
 
 /// `[LEN]` or nothing: the length, whether it is written, and the words after it.
@@ -163,6 +175,20 @@ fn init_in(draft: &Draft, words: &[&[u8]]) -> Result<u32, Refusal>
     last_number(&draft.constants, rest)
 }
 
+/// `[LEN]` or nothing and `= INIT` or nothing, of a shared word more: the length, whether it is
+/// written, and what the cells hold at first.
+fn cells_in(draft: &Draft, words: &[&[u8]]) -> Result<(u8, bool, u32), Refusal>
+    ensures cells { ReadsCells result (in_draft cells_in draft.now words.now) }
+    ensures room { IfOk result (λ _. length draft.now.words.items < MOST_ARRAYS) }
+{
+    let (len, indexed, more) = len_in(draft, words)?;
+    let init = init_in(draft, more)?;
+    if draft.words.len() >= MOST_ARRAYS || len < 1 || len > MOST_CELLS {
+        return Err(Refusal::Kind(SourceFaultKind::Limit));
+    }
+    Ok((len as u8, indexed, init))
+}
+
 /// The shared word of a line `word`.
 fn shared_in(alloc: Global, draft: &Draft, words: &[&[u8]]) -> Result<Shared, Refusal>
     ensures shared { ReadsShared (drafted_of draft.now) result (texts words.now) }
@@ -172,23 +198,18 @@ fn shared_in(alloc: Global, draft: &Draft, words: &[&[u8]]) -> Result<Shared, Re
         return Err(Refusal::Kind(SourceFaultKind::Form));
     };
     let name = new_name(alloc, draft, &[], word)?;
-    let (len, indexed, more) = len_in(draft, rest)?;
-    let init = init_in(draft, more)?;
-    if draft.words.len() >= MOST_ARRAYS || len < 1 || len > MOST_CELLS {
-        return Err(Refusal::Kind(SourceFaultKind::Limit));
-    }
-    let len = len as u8;
+    let (len, indexed, init) = cells_in(draft, rest)?;
     let array = Array { name, len, init };
     Ok(Shared { array, indexed })
 }
 
 /// `word NAME`, `word NAME = INIT`, `word NAME[LEN]` or `word NAME[LEN] = INIT`
-fn word_line(alloc: Global, mut draft: Draft, words: &[&[u8]]) -> Result<Draft, Refusal>
-    ensures { ReadsDraft result (spec.word_line (drafted_of draft) (texts words.now)) }
+fn word_line(alloc: Global, draft: &mut Draft, words: &[&[u8]]) -> Result<(), Refusal>
+    ensures { DraftIs result draft.new (in_draft spec.word_line draft.old words.now) }
 {
-    let shared = shared_in(alloc, &draft, words)?;
+    let shared = shared_in(alloc, draft, words)?;
     draft.words.push(shared)?;
-    Ok(draft)
+    Ok(())
 }
 
 /// The name of `lock NAME`, outside an operation.
@@ -210,12 +231,12 @@ fn lock_in(alloc: Global, draft: &Draft, words: &[&[u8]]) -> Result<Name, Refusa
 }
 
 /// `lock NAME`, outside an operation
-fn lock_line(alloc: Global, mut draft: Draft, words: &[&[u8]]) -> Result<Draft, Refusal>
-    ensures { ReadsDraft result (spec.lock_line (drafted_of draft) (texts words.now)) }
+fn lock_line(alloc: Global, draft: &mut Draft, words: &[&[u8]]) -> Result<(), Refusal>
+    ensures { DraftIs result draft.new (in_draft spec.lock_line draft.old words.now) }
 {
-    let lock = lock_in(alloc, &draft, words)?;
+    let lock = lock_in(alloc, draft, words)?;
     draft.locks.push(lock)?;
-    Ok(draft)
+    Ok(())
 }
 
 /// Names parted by commas and then `)`, after the names that were there; and the words after.
@@ -286,6 +307,19 @@ fn op_fault(draft: &Draft, word: &[u8], locals: &[Name]) -> Option<SourceFaultKi
     None
 }
 
+/// The arguments of `(A, B) {`, after which no word is left.
+fn arguments_in(alloc: Global, draft: &Draft, words: &[&[u8]]) -> Result<Vec<Name>, Refusal>
+    ensures { Reads (λ names. names.items) result (in_draft arguments_in draft.now words.now) }
+{
+    let inside = after_word(b"(".as_slice(), words)?;
+    let (names, more) = names_in(alloc, draft, inside)?;
+    let end = after_word(b"{".as_slice(), more)?;
+    if let Some(_) = end.split_first() {
+        return Err(Refusal::Kind(SourceFaultKind::Form));
+    }
+    Ok(names)
+}
+
 /// The operation that `op NAME(A, B) {` opens.
 fn op_in(alloc: Global, draft: &Draft, words: &[&[u8]]) -> Result<Begun, Refusal>
     ensures { ReadsOp (drafted_of draft.now) result (texts words.now) }
@@ -296,12 +330,7 @@ fn op_in(alloc: Global, draft: &Draft, words: &[&[u8]]) -> Result<Begun, Refusal
     if !is_free_name(word) {
         return Err(Refusal::Kind(SourceFaultKind::Form));
     }
-    let inside = after_word(b"(".as_slice(), rest)?;
-    let (locals, more) = names_in(alloc, draft, inside)?;
-    let end = after_word(b"{".as_slice(), more)?;
-    if let Some(_) = end.split_first() {
-        return Err(Refusal::Kind(SourceFaultKind::Form));
-    }
+    let locals = arguments_in(alloc, draft, rest)?;
     match op_fault(draft, word, &locals) {
         Some(kind) => Err(Refusal::Kind(kind)),
         None => begin(alloc, word, locals),
@@ -309,11 +338,11 @@ fn op_in(alloc: Global, draft: &Draft, words: &[&[u8]]) -> Result<Begun, Refusal
 }
 
 /// `op NAME(A, B) {`
-fn op_line(alloc: Global, mut draft: Draft, words: &[&[u8]]) -> Result<Draft, Refusal>
-    ensures { ReadsDraft result (spec.op_line (drafted_of draft) (texts words.now)) }
+fn op_line(alloc: Global, draft: &mut Draft, words: &[&[u8]]) -> Result<(), Refusal>
+    ensures { DraftIs result draft.new (in_draft spec.op_line draft.old words.now) }
 {
-    draft.begun = Some(op_in(alloc, &draft, words)?);
-    Ok(draft)
+    draft.begun = Some(op_in(alloc, draft, words)?);
+    Ok(())
 }
 
 /// An operation that does nothing yet.
@@ -349,11 +378,11 @@ pub(crate) fn open_block(opening: Opening, locals: usize, chained: bool) -> Bloc
 /// A line outside of operations.
 pub(crate) fn declaration(
     alloc: Global,
-    draft: Draft,
+    draft: &mut Draft,
     word: &[u8],
     words: &[&[u8]],
-) -> Result<Draft, Refusal>
-    ensures { ReadsDraft result (spec.declaration (drafted_of draft) word.now (texts words.now)) }
+) -> Result<(), Refusal>
+    ensures { DraftIs result draft.new (in_line spec.declaration draft.old word.now words.now) }
 {
     if word == b"local".as_slice() {
         local_line(draft, words)

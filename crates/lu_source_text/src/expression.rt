@@ -7,7 +7,7 @@ ghost use Rattle.lu_source.specs.declared.expr.TheConstants.{REGISTERS};
 ghost use Rattle.lu_source.specs.Evaluations.{expr_of};
 ghost use Rattle.lu_source.specs.Expressions.Expr.{Not};
 ghost use Rattle.lu_source_text.specs.Grammar as spec;
-ghost use Rattle.lu_source_text.specs.Parts.{operated};
+ghost use Rattle.lu_source_text.specs.Parts.{operated, value_with};
 ghost use Rattle.lu_source_text.specs.Reads.{ReadsCell, ReadsExchange, ReadsExpr, ReadsLast, ReadsNoMore, ReadsNumber, ReadsWords, by_steps, infix_after, meanings, swap_of};
 
 use crate::draft::Constant;
@@ -243,6 +243,31 @@ fn opposite(alloc: Global, expr: Expr) -> Result<Expr, AllocError>
     Ok(Expr::Not(Box::new(alloc, expr)?))
 }
 
+/// A truth value, a number, or what a name stands for.
+#[cycle(expression)]
+fn value_with<'a>(
+    alloc: Global,
+    steps: usize,
+    scope: Scope<'_>,
+    word: &[u8],
+    words: &'a [&'a [u8]],
+) -> Result<Parsed<'a>, Refusal>
+    ensures { ReadsExpr result (by_steps (value_with word.now) steps scope.entry words.now) }
+{
+    if word == b"true".as_slice() {
+        Ok((Expr::Number(1), words))
+    } else if word == b"false".as_slice() {
+        Ok((Expr::Number(0), words))
+    } else if is_free_name(word) {
+        name_with(alloc, steps, scope, word, words)
+    } else {
+        match value_in(word) {
+            None => Err(Refusal::Kind(SourceFaultKind::Number)),
+            Some(value) => Ok((Expr::Number(value), words)),
+        }
+    }
+}
+
 /// An expression without operators between two values in it, but for those in parentheses.
 #[cycle(expression)]
 fn unary_with<'a>(
@@ -263,17 +288,8 @@ fn unary_with<'a>(
         cas_with(alloc, steps, scope, words)
     } else if word == b"pick".as_slice() {
         pick_from(scope.constants, words)
-    } else if word == b"true".as_slice() {
-        Ok((Expr::Number(1), words))
-    } else if word == b"false".as_slice() {
-        Ok((Expr::Number(0), words))
-    } else if is_free_name(word) {
-        name_with(alloc, steps, scope, word, words)
     } else {
-        match value_in(word) {
-            None => Err(Refusal::Kind(SourceFaultKind::Number)),
-            Some(value) => Ok((Expr::Number(value), words)),
-        }
+        value_with(alloc, steps, scope, word, words)
     }
 }
 

@@ -16,7 +16,7 @@ ghost use Rattle.lu_source_text.specs.Origins.{AreOrigins, FailsAs, Fills, HasEa
 
 use crate::draft::{Block, Draft, Opening, Shared};
 use crate::fault::SourceFault;
-use crate::reading::{finish, line_read, new_draft};
+use crate::reading::{finish, new_draft, take_line};
 use lu_source::{Operation, Origin, Origins, Stmt, comes_out, falls, size};
 use lu_text::{Name, lines_of};
 use std::alloc::{AllocError, Global};
@@ -200,7 +200,7 @@ fn origins_of_lines(alloc: Global, lines: &[&[u8]]) -> Result<Origins, SourceFau
     let mut draft = new_draft(alloc);
     let mut operations = Vec::new(alloc);
     for (before, text) in lines.iter().enumerate() {
-        draft = line_read(alloc, before + 1, draft, text)?;
+        take_line(alloc, before + 1, &mut draft, text)?;
         fill_all(alloc, &mut operations, before + 1, &draft)?;
     }
     origins_of(alloc, lines.len() + 1, draft, operations)

@@ -1,16 +1,17 @@
 //! Reading of sources, line by line.
 
-ghost use Rattle.std.specs.Prelude.{◌≡◌, ◌<◌, ◌≤◌, ◌∷◌, map, Ok, IfOk};
+ghost use Rattle.std.specs.Prelude.{◌≡◌, ◌<◌, ◌≤◌, map, Ok, IfOk};
 ghost use Rattle.lu_text.specs.Faults.{Gives, TellsFirst, meaning_of, meaning_of_lines, on_line};
 ghost use Rattle.lu_text.specs.Lines.{texts};
 ghost use Rattle.lu_text.specs.Results.{HasItems};
 ghost use Rattle.lu_source_text.specs.Drafts.{drafted_of};
 ghost use Rattle.lu_source_text.specs.Grammar as spec;
 ghost use Rattle.lu_source_text.specs.Grammar.{source_grammar};
+ghost use Rattle.lu_source_text.specs.Parts.{by_first};
 ghost use Rattle.lu_source_text.specs.Readers.{GivesDraft, GivesSource, IsCompiledFrom, component_meant};
-ghost use Rattle.lu_source_text.specs.Reads.{ReadsDraft, in_begun};
+ghost use Rattle.lu_source_text.specs.Reads.{DraftIs, DraftTakes, in_draft, in_line};
 
-use crate::closing::close_line;
+use crate::closing::{close_line, go_on};
 use crate::declaration::{declaration, object_line};
 use crate::draft::{Begun, Draft, Shared};
 use crate::fault::{Refusal, SourceFault, SourceFaultKind};
@@ -46,31 +47,31 @@ pub(crate) fn new_draft(alloc: Global) -> Draft
 /// A line of an operation.
 fn line_inside(
     alloc: Global,
-    mut draft: Draft,
+    draft: &mut Draft,
     mut begun: Begun,
     word: &[u8],
     words: &[&[u8]],
-) -> Result<Draft, Refusal>
-    ensures { ReadsDraft result (in_begun (spec.line_inside word.now) draft begun words.now) }
+) -> Result<(), Refusal>
+    ensures { DraftTakes result (spec.line_inside word.now) draft.old begun words.now draft.new }
 {
     if word == b"}".as_slice() {
         close_line(alloc, draft, begun, words)
     } else {
-        statement(alloc, &draft, &mut begun, word, words)?;
-        draft.begun = Some(begun);
-        Ok(draft)
+        statement(alloc, draft, &mut begun, word, words)?;
+        go_on(draft, begun);
+        Ok(())
     }
 }
 
 /// A line of an operation, which has at most 256 of them.
 fn inside(
     alloc: Global,
-    draft: Draft,
+    draft: &mut Draft,
     mut begun: Begun,
     word: &[u8],
     words: &[&[u8]],
-) -> Result<Draft, Refusal>
-    ensures { ReadsDraft result (in_begun (spec.inside word.now) draft begun words.now) }
+) -> Result<(), Refusal>
+    ensures { DraftTakes result (spec.inside word.now) draft.old begun words.now draft.new }
 {
     if begun.lines >= MOST_LINES {
         return Err(Refusal::Kind(SourceFaultKind::Limit));
@@ -80,9 +81,13 @@ fn inside(
 }
 
 /// The first line with words.
-fn object_first(alloc: Global, draft: Draft, word: &[u8], words: &[&[u8]]) -> Result<Draft, Refusal>
-    ensures { ReadsDraft result
-        (spec.object_first (drafted_of draft) word.now (texts words.now)) }
+fn object_first(
+    alloc: Global,
+    draft: &mut Draft,
+    word: &[u8],
+    words: &[&[u8]],
+) -> Result<(), Refusal>
+    ensures { DraftIs result draft.new (in_line spec.object_first draft.old word.now words.now) }
 {
     if word == b"object".as_slice() {
         object_line(alloc, draft, words)
@@ -91,8 +96,8 @@ fn object_first(alloc: Global, draft: Draft, word: &[u8], words: &[&[u8]]) -> Re
     }
 }
 
-fn by_state(alloc: Global, mut draft: Draft, word: &[u8], words: &[&[u8]]) -> Result<Draft, Refusal>
-    ensures { ReadsDraft result (spec.by_words (drafted_of draft) (word.now ∷ texts words.now)) }
+fn by_state(alloc: Global, draft: &mut Draft, word: &[u8], words: &[&[u8]]) -> Result<(), Refusal>
+    ensures { DraftIs result draft.new (in_line by_first draft.old word.now words.now) }
 {
     if draft.name.is_none() {
         return object_first(alloc, draft, word, words);
@@ -104,21 +109,21 @@ fn by_state(alloc: Global, mut draft: Draft, word: &[u8], words: &[&[u8]]) -> Re
 }
 
 /// A line of words, of which there are at most 256.
-fn short_line(alloc: Global, draft: Draft, words: &[&[u8]]) -> Result<Draft, Refusal>
-    ensures { ReadsDraft result (spec.short_line (drafted_of draft) (texts words.now)) }
+fn short_line(alloc: Global, draft: &mut Draft, words: &[&[u8]]) -> Result<(), Refusal>
+    ensures { DraftIs result draft.new (in_draft spec.short_line draft.old words.now) }
 {
     if words.len() > MOST_WORDS {
         return Err(Refusal::Kind(SourceFaultKind::Limit));
     }
     match words.split_first() {
-        None => Ok(draft),
+        None => Ok(()),
         Some((word, rest)) => by_state(alloc, draft, word, rest),
     }
 }
 
 #[tactic(auto, unfolding(crate::specs::Grammar::line_of))]
-fn read_line(alloc: Global, draft: Draft, text: &[u8]) -> Result<Draft, Refusal>
-    ensures { ReadsDraft result (spec.line_of (drafted_of draft) text.now) }
+fn read_line(alloc: Global, draft: &mut Draft, text: &[u8]) -> Result<(), Refusal>
+    ensures { DraftIs result draft.new (spec.line_of (drafted_of draft.old) text.now) }
 {
     if !are_allowed(text) {
         return Err(Refusal::Kind(SourceFaultKind::Byte));
@@ -127,17 +132,17 @@ fn read_line(alloc: Global, draft: Draft, text: &[u8]) -> Result<Draft, Refusal>
     short_line(alloc, draft, &words)
 }
 
-/// The draft after a line, or the fault with the line's number.
-pub(crate) fn line_read(
+/// The draft takes in a line; a fault has the line's number.
+pub(crate) fn take_line(
     alloc: Global,
     line: usize,
-    draft: Draft,
+    draft: &mut Draft,
     text: &[u8],
-) -> Result<Draft, SourceFault>
-    ensures { GivesDraft line result (spec.line_of (drafted_of draft) text.now) }
+) -> Result<(), SourceFault>
+    ensures { GivesDraft line result draft.new (spec.line_of (drafted_of draft.old) text.now) }
 {
     match read_line(alloc, draft, text) {
-        Ok(next) => Ok(next),
+        Ok(()) => Ok(()),
         Err(Refusal::Kind(kind)) => Err(Fault::At(kind, line)),
         Err(Refusal::Memory) => Err(Fault::Memory),
     }
@@ -191,7 +196,7 @@ pub fn read_source_lines(alloc: Global, lines: &[&[u8]]) -> Result<Source, Sourc
 {
     let mut draft = new_draft(alloc);
     for (before, text) in lines.iter().enumerate() {
-        draft = line_read(alloc, before + 1, draft, text)?;
+        take_line(alloc, before + 1, &mut draft, text)?;
     }
     finish(alloc, lines.len() + 1, draft)
 }

@@ -9,7 +9,7 @@ ghost use Rattle.lu_source.specs.Expressions as expressions;
 ghost use Rattle.lu_source.specs.Shapes.{tree_of};
 ghost use Rattle.lu_source_text.specs.Drafts.{begun_of, blocks_of, drafted_of, opening_of};
 ghost use Rattle.lu_source_text.specs.Grammar as spec;
-ghost use Rattle.lu_source_text.specs.Parts.{assigned, named_cell, stored, when_still};
+ghost use Rattle.lu_source_text.specs.Parts.{assigned, await_it, named_cell, on_cell, return_value, set_local, stored, when_still};
 ghost use Rattle.lu_source_text.specs.Reads.{Reads, ReadsAwaited, ReadsBoth, ReadsCell, ReadsCode, ReadsCompared, ReadsTree, ReadsWhole, awaited_of, cell_of, in_begun, meanings, within};
 
 use crate::draft::{Begun, Block, Draft, Opening};
@@ -122,7 +122,7 @@ fn both_of(
 }
 
 /// The code, and then the register becomes its value.
-pub(crate) fn put_value(alloc: Global, value: Evaluation, register: u8) -> Result<Stmt, AllocError>
+fn put_value(alloc: Global, value: Evaluation, register: u8) -> Result<Stmt, AllocError>
     ensures { IfOk result (λ t. tree_of t ≡ expressions.put_at register (coded_of value)) }
 {
     then(alloc, value.code, put(register, value.at))
@@ -138,7 +138,7 @@ fn both_then(alloc: Global, first: Stmt, second: Stmt, last: Action) -> Result<S
 }
 
 /// `= EXPR`, which all the words are.
-fn assigned_in(
+pub(crate) fn assigned_in(
     alloc: Global,
     draft: &Draft,
     begun: &Begun,
@@ -148,6 +148,19 @@ fn assigned_in(
 {
     let more = after_word(b"=".as_slice(), words)?;
     expr_in(alloc, draft, begun, more)
+}
+
+/// The local becomes the value of the expression.
+pub(crate) fn set_local(
+    alloc: Global,
+    begun: &Begun,
+    register: u8,
+    expr: &Expr,
+) -> Result<Stmt, Refusal>
+    ensures { ReadsTree result (set_local register (begun_of begun.now) (expr_of expr.now)) }
+{
+    let value = code_for(alloc, expr, register, begun.locals.len() as u8)?;
+    Ok(put_value(alloc, value, register)?)
 }
 
 /// `NAME = EXPR` of a local.
@@ -161,8 +174,7 @@ fn set_tree(
     ensures { ReadsTree result (in_begun (spec.set_tree register) draft.now begun.now words.now) }
 {
     let expr = assigned_in(alloc, draft, begun, words)?;
-    let value = code_for(alloc, &expr, register, begun.locals.len() as u8)?;
-    Ok(put_value(alloc, value, register)?)
+    set_local(alloc, begun, register, &expr)
 }
 
 /// The cell becomes the value of the expression.
@@ -296,14 +308,21 @@ fn awaited(alloc: Global, draft: &Draft, begun: &Begun, words: &[&[u8]]) -> Resu
     when_still(Awaited { cell, equal, value })
 }
 
+/// A thread goes on where what is awaited is so.
+fn await_it(alloc: Global, begun: &Begun, awaited: &Awaited) -> Result<Stmt, Refusal>
+    ensures { ReadsTree result (await_it (begun_of begun.now) (awaited_of awaited.now)) }
+{
+    let (index, value) = both_of(alloc, begun, &awaited.cell.index, &awaited.value)?;
+    let action = awaiting(awaited.equal, awaited.cell.array, index.at, value.at);
+    Ok(both_then(alloc, index.code, value.code, action)?)
+}
+
 /// `await CELL == EXPR` and `await CELL != EXPR`.
 fn await_tree(alloc: Global, draft: &Draft, begun: &Begun, words: &[&[u8]]) -> Result<Stmt, Refusal>
     ensures { ReadsTree result (in_begun spec.await_tree draft.now begun.now words.now) }
 {
-    let Awaited { cell, equal, value } = awaited(alloc, draft, begun, words)?;
-    let (index, other) = both_of(alloc, begun, &cell.index, &value)?;
-    let action = awaiting(equal, cell.array, index.at, other.at);
-    Ok(both_then(alloc, index.code, other.code, action)?)
+    let awaited = awaited(alloc, draft, begun, words)?;
+    await_it(alloc, begun, &awaited)
 }
 
 fn is_loop(block: &Block) -> bool
@@ -338,6 +357,14 @@ fn leave(begun: &Begun, stmt: Stmt, words: &[&[u8]]) -> Result<Stmt, Refusal>
     Ok(stmt)
 }
 
+/// The operation returns the value of the expression.
+fn return_value(alloc: Global, begun: &Begun, expr: &Expr) -> Result<Stmt, Refusal>
+    ensures { ReadsTree result (return_value (begun_of begun.now) (expr_of expr.now)) }
+{
+    let value = value_of(alloc, begun, expr)?;
+    Ok(then(alloc, value.code, Stmt::Plain(Action::Return(value.at)))?)
+}
+
 /// `return` and `return EXPR`.
 fn return_tree(
     alloc: Global,
@@ -349,8 +376,7 @@ fn return_tree(
 {
     let None = words.split_first() else {
         let expr = expr_in(alloc, draft, begun, words)?;
-        let value = value_of(alloc, begun, &expr)?;
-        return Ok(then(alloc, value.code, Stmt::Plain(Action::Return(value.at)))?);
+        return return_value(alloc, begun, &expr);
     };
     Ok(Stmt::Plain(Action::Return(Operand::Num(0))))
 }
@@ -412,6 +438,27 @@ fn assign(
     }
 }
 
+/// A statement on a cell or a local: `await`, `cas`, or one that begins with a name.
+fn on_cell(
+    alloc: Global,
+    draft: &Draft,
+    begun: &Begun,
+    word: &[u8],
+    words: &[&[u8]],
+) -> Result<Stmt, Refusal>
+    ensures { ReadsTree result (in_begun (on_cell word.now) draft.now begun.now words.now) }
+{
+    if word == b"await".as_slice() {
+        await_tree(alloc, draft, begun, words)
+    } else if word == b"cas".as_slice() {
+        cas_tree(alloc, draft, begun, words)
+    } else if !is_free_name(word) {
+        Err(Refusal::Kind(SourceFaultKind::Form))
+    } else {
+        assign(alloc, draft, begun, word, words)
+    }
+}
+
 /// A statement that opens no block and declares no local.
 pub(crate) fn simple(
     alloc: Global,
@@ -432,13 +479,7 @@ pub(crate) fn simple(
         lock_tree(draft, words)
     } else if word == b"unlock".as_slice() {
         unlock_tree(draft, words)
-    } else if word == b"await".as_slice() {
-        await_tree(alloc, draft, begun, words)
-    } else if word == b"cas".as_slice() {
-        cas_tree(alloc, draft, begun, words)
-    } else if !is_free_name(word) {
-        Err(Refusal::Kind(SourceFaultKind::Form))
     } else {
-        assign(alloc, draft, begun, word, words)
+        on_cell(alloc, draft, begun, word, words)
     }
 }

@@ -6,17 +6,17 @@ ghost use Rattle.lu_source.specs.declared.expr.TheConstants.{REGISTERS};
 ghost use Rattle.lu_source.specs.Evaluations.{expr_of};
 ghost use Rattle.lu_source.specs.Expressions as expressions;
 ghost use Rattle.lu_source.specs.Shapes.{tree_of};
-ghost use Rattle.lu_source_text.specs.Drafts.{opening_of};
+ghost use Rattle.lu_source_text.specs.Drafts.{begun_of, opening_of};
 ghost use Rattle.lu_source_text.specs.Grammar as spec;
-ghost use Rattle.lu_source_text.specs.Parts.{simple_line, started_loop, started_while};
-ghost use Rattle.lu_source_text.specs.Reads.{Becomes, ReadsLet, ReadsLine, ReadsTest, in_begun};
+ghost use Rattle.lu_source_text.specs.Parts.{first_value, first_value_in, simple_line, started_loop, started_while};
+ghost use Rattle.lu_source_text.specs.Reads.{Becomes, ReadsLet, ReadsLine, ReadsTest, ReadsTree, in_begun};
 
 use crate::blocks::{add_to, are_deep, push_block};
 use crate::declaration::{new_name, open_block};
 use crate::draft::{Begun, Draft, Opening};
 use crate::expression::after_word;
 use crate::fault::{Refusal, SourceFaultKind};
-use crate::simple::{expr_before_brace, expr_in, put_value, simple, value_of};
+use crate::simple::{assigned_in, expr_before_brace, set_local, simple, value_of};
 use lu_component::Operand;
 use lu_source::{Expr, Operator, REGISTERS, Stmt};
 use lu_text::Name;
@@ -42,6 +42,31 @@ fn deeper(begun: &mut Begun, opening: Opening, chained: bool) -> Result<(), Refu
     Ok(())
 }
 
+/// The statement that gives a new local this value, where there is a register for it.
+fn first_value(alloc: Global, begun: &Begun, expr: &Expr) -> Result<Stmt, Refusal>
+    ensures read { ReadsTree result (first_value (begun_of begun.now) (expr_of expr.now)) }
+    ensures room { IfOk result (λ _. length begun.now.locals.items < REGISTERS) }
+{
+    if begun.locals.len() >= REGISTERS as usize {
+        return Err(Refusal::Kind(SourceFaultKind::Registers));
+    }
+    set_local(alloc, begun, begun.locals.len() as u8, expr)
+}
+
+/// The statement that gives a new local its value, by `= EXPR`.
+fn first_value_in(
+    alloc: Global,
+    draft: &Draft,
+    begun: &Begun,
+    words: &[&[u8]],
+) -> Result<Stmt, Refusal>
+    ensures read { ReadsTree result (in_begun first_value_in draft.now begun.now words.now) }
+    ensures room { IfOk result (λ _. length begun.now.locals.items < REGISTERS) }
+{
+    let expr = assigned_in(alloc, draft, begun, words)?;
+    first_value(alloc, begun, &expr)
+}
+
 /// The name of `let NAME = EXPR`, and the statement that gives it its value.
 fn let_in(
     alloc: Global,
@@ -56,13 +81,7 @@ fn let_in(
         return Err(Refusal::Kind(SourceFaultKind::Form));
     };
     let name = new_name(alloc, draft, &begun.locals, word)?;
-    let more = after_word(b"=".as_slice(), rest)?;
-    let expr = expr_in(alloc, draft, begun, more)?;
-    if begun.locals.len() >= REGISTERS as usize {
-        return Err(Refusal::Kind(SourceFaultKind::Registers));
-    }
-    let value = value_of(alloc, begun, &expr)?;
-    let stmt = put_value(alloc, value, begun.locals.len() as u8)?;
+    let stmt = first_value_in(alloc, draft, begun, rest)?;
     Ok((name, stmt))
 }
 

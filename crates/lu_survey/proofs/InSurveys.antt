@@ -93,6 +93,15 @@ survey_more list one survey (Undecided smaller r) is of = record {
   undecided = tally_yes is_undecided list one survey.undecided (ap is_undecided is) of.undecided;
 }
 
+-- ---- one matrix
+
+-- the matrix of a number has its certificate
+pub certified_there : (asked : Asked) (nodes number : ℕ) (one : CertifiedMatrix) → (at : IsMatrixAt asked number one.matrix) → IsRoleCertificate asked nodes at.choice one.certificate → IsCertifiedAt asked nodes number one
+certified_there asked nodes number one at certified = record { choice = at.choice; chosen = at.chosen; is_at = at.is_at; fills = at.fills; certified = certified }
+
+abbrev pub matrix_there : (asked : Asked) (nodes number : ℕ) (one : CertifiedMatrix) → IsCertifiedAt asked nodes number one → IsMatrixAt asked number one.matrix
+matrix_there asked nodes number one is = record { choice = is.choice; chosen = is.chosen; is_at = is.is_at; fills = is.fills }
+
 -- ---- the survey so far
 
 -- of the matrices with these numbers
@@ -105,9 +114,8 @@ pub record IsSurveyedTo (asked : Asked) (nodes start number : ℕ) (survey : Sur
 pub surveyed_none : (asked : Asked) (nodes start : ℕ) (survey : Survey) → IsSurveyOf [] survey → IsSurveyedTo asked nodes start start survey
 surveyed_none asked nodes start survey of = record { list = []; size = omega arith; each = tt; of = of }
 
-pub surveyed_more : (asked : Asked) (nodes start number : ℕ) (survey : Survey) (one : CertifiedMatrix) → (at : IsMatrixAt asked number one.matrix) → IsRoleCertificate asked nodes at.choice one.certificate → IsSurveyedTo asked nodes start number survey → IsSurveyedTo asked nodes start (number + 1) (survey_by one.certificate survey one)
-surveyed_more asked nodes start number survey one at certified so_far =
-    let here : IsCertifiedAt asked nodes number one = record { choice = at.choice; chosen = at.chosen; is_at = at.is_at; fills = at.fills; certified = certified } in
+pub surveyed_more : (asked : Asked) (nodes start number : ℕ) (survey : Survey) (one : CertifiedMatrix) → IsCertifiedAt asked nodes number one → IsSurveyedTo asked nodes start number survey → IsSurveyedTo asked nodes start (number + 1) (survey_by one.certificate survey one)
+surveyed_more asked nodes start number survey one here so_far =
     let longer = length-append so_far.list (one ∷ []) in
     record {
       list = so_far.list ++ one ∷ [];

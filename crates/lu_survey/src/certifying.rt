@@ -1,13 +1,16 @@
 //! Slices of a campaign whose matrices are certified.
 
-ghost use Rattle.std.specs.Prelude.{◌↔◌, IsTrue, IfOk, IfErr};
-ghost use Rattle.lu_refine.specs.ByThread.{CanAsk, IsRolesFault, asked_of};
+ghost use Rattle.std.specs.Prelude.{◌↔◌, ◌<◌, IsTrue, IfOk, IfErr};
+ghost use Rattle.lu_refine.specs.ByThread.{CanAsk, IsRolesFault, asked_of, matrix_count};
+ghost use Rattle.lu_refine.specs.Roles.{AreWithinLimits};
 ghost use Rattle.lu_survey.specs.Certified.{IsCertifiedAnswer, IsCertifiedOf, SaysLinearizable};
+ghost use Rattle.lu_survey.specs.Surveys.{IsCertifiedAt, IsShownOf};
 
 use crate::certified_campaign::CertifiedCampaign;
+use crate::survey::CertifiedMatrix;
 use lu_certify::{Certificate, Limits, certify};
 use lu_refine::{CampaignFault, Roles, count_matrices, matrix_at};
-use std::alloc::Global;
+use std::alloc::{AllocError, Global};
 
 /// Whether it certifies that the component is linearizable.
 fn says_linearizable(certificate: &Certificate) -> bool
@@ -19,6 +22,33 @@ fn says_linearizable(certificate: &Certificate) -> bool
         Certificate::Livelock { .. } => false,
         Certificate::Undecided { .. } => false,
     }
+}
+
+/// The matrix with this number, in the order of a campaign, with its certificate. Asks for what
+/// [`matrix_at`] asks for.
+pub(crate) fn certified_at(
+    alloc: Global,
+    roles: Roles<'_>,
+    nodes: u32,
+    number: u64,
+) -> Result<CertifiedMatrix, AllocError>
+    requires asked { CanAsk (asked_of roles) }
+    requires limits { AreWithinLimits roles.calls roles.candidates.now }
+    requires number { number < matrix_count (asked_of roles) }
+    ensures certified { IfOk result (IsCertifiedAt (asked_of roles.entry) nodes number) }
+    ensures shown { IfOk result (IsShownOf roles.entry.component.now) }
+{
+    let matrix = matrix_at(alloc, roles, number)?;
+    let limits = Limits {
+        bound: roles.bound,
+        serial: roles.serial,
+        nodes,
+    };
+    let certificate = certify(alloc, roles.component, &matrix, limits)?;
+    Ok(CertifiedMatrix {
+        matrix,
+        certificate,
+    })
 }
 
 /// Certifies some of the matrices of [`campaign_by_thread`](lu_refine::campaign_by_thread), within
@@ -47,15 +77,13 @@ pub fn certify_slice(
     let count = count_matrices(alloc, roles.candidates, roles.calls)?;
     let end = to.min(count);
     let start = from.min(end);
-    let limits = Limits {
-        bound: roles.bound,
-        serial: roles.serial,
-        nodes,
-    };
     for number in start..end {
-        let matrix = matrix_at(alloc, roles, number)?;
-        let certificate = certify(alloc, roles.component, &matrix, limits)?;
-        if !says_linearizable(&certificate) {
+        let one = certified_at(alloc, roles, nodes, number)?;
+        if !says_linearizable(&one.certificate) {
+            let CertifiedMatrix {
+                matrix,
+                certificate,
+            } = one;
             return Ok(CertifiedCampaign::First {
                 matrix,
                 certificate,

@@ -4,9 +4,9 @@ ghost use Rattle.std.specs.Prelude.{IfOk, IfErr};
 ghost use Rattle.lu_refine.specs.ByThread.{CanAsk, IsRolesFault, asked_of};
 ghost use Rattle.lu_survey.specs.Surveys.{AreShownOf, IsSurveyAnswer};
 
-use crate::survey::{CertifiedMatrix, Survey};
-use lu_certify::{Limits, certify};
-use lu_refine::{CampaignFault, Roles, count_matrices, matrix_at};
+use crate::certifying::certified_at;
+use crate::survey::Survey;
+use lu_refine::{CampaignFault, Roles, count_matrices};
 use std::alloc::Global;
 
 /// Certifies the matrices with the numbers `from` to `to - 1`, as
@@ -33,18 +33,9 @@ pub fn survey_slice(
     let end = to.min(count);
     let start = from.min(end);
     let mut survey = Survey::none();
-    let limits = Limits {
-        bound: roles.bound,
-        serial: roles.serial,
-        nodes,
-    };
     for number in start..end {
-        let matrix = matrix_at(alloc, roles, number)?;
-        let certificate = certify(alloc, roles.component, &matrix, limits)?;
-        survey = survey.with(CertifiedMatrix {
-            matrix,
-            certificate,
-        });
+        let one = certified_at(alloc, roles, nodes, number)?;
+        survey = survey.with(one);
     }
     Ok(survey)
 }

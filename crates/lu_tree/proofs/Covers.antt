@@ -8,10 +8,11 @@ use Rattle.lu_machine.specs.States.{State}
 use Rattle.lu_machine.specs.Order.{IsSmaller}
 use Rattle.lu_machine.specs.Sums.{capped, total}
 use Rattle.lu_machine.specs.Schedules.{Lists, IsRising, BeginsWith, Reaches, IsNumber, IsCompleteWithin, IsStuckWithin, IsCutAt, IsEndedWithin, IsCounted}
-use Rattle.lu_machine.proofs.Orders.{smaller_asym, smaller_extends}
+use Rattle.lu_machine.proofs.Orders.{smaller_asym}
 use Rattle.lu_machine.proofs.Numbers.{number_none, number_same, number_join}
 use Rattle.lu_history.specs.declared.serial.SerialOp.{SerialOp}
 use Rattle.lu_witness.specs.Goodness.{IsGoodAt, AreGood, AreAllGood, Any}
+use Rattle.lu_pieces.proofs.PieceOrder.{below_pieces}
 use Rattle.lu_tree.specs.Trees.{Below}
 use Rattle.lu_tree.specs.Covers.{FirstOfCover, SumsOfCover}
 
@@ -20,12 +21,6 @@ record Under (pieces : List (List Move)) (v : List Move) : Type 0 where
   piece : List Move
   listed : Lists pieces piece
   begins : BeginsWith v piece
-
--- schedules below two pieces stand as the pieces do
-pub below_pieces : (p q v w : List Move) → IsSmaller p q → (BeginsWith q p → p ≡ q) → BeginsWith v p → BeginsWith w q → IsSmaller v w
-below_pieces p q v w smaller apart b c =
-    let not : BeginsWith q p → ⊥ = λ x. (let twice : IsSmaller p p = subst (IsSmaller p) (sym (apart x)) smaller in smaller_asym p p twice twice) in
-    rw (b.1, c.1) (smaller_extends p q b.0 c.0 smaller not)
 
 sum_more : (a b n : ℕ) → b ≡ capped n → capped (a + b) ≡ capped (a + n)
 sum_more a b n e = omega arith

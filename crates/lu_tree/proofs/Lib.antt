@@ -1,8 +1,5 @@
 pub mod Covers
-mod Kids
 mod Limits
-mod Making
-mod PieceLists
 mod Walking
 mod BelowLaws
 mod Added

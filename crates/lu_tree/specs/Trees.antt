@@ -1,13 +1,12 @@
--- What is found below a schedule, and the frontier of a tree of schedules.
-use Rattle.std.specs.Prelude.{◌≡◌, ℕ, ◌<◌, ◌≤◌, ◌⊎◌, Bool, true, false, List, length, Result, Ok, Err, IfOk}
+-- What is found below a schedule.
+use Rattle.std.specs.Prelude.{ℕ, ◌≤◌, Bool, true, false, List, length, Result, Ok, Err, IfOk}
 use Rattle.lu_component.specs.Component.{Component}
 use Rattle.lu_test.specs.declared.schedule.Move.{Move}
 use Rattle.lu_test.specs.Matrix.{Matrix}
 use Rattle.lu_machine.specs.States.{State}
-use Rattle.lu_machine.specs.Ends.{IsEnded}
 use Rattle.lu_machine.specs.Starts.{IsStart}
 use Rattle.lu_machine.specs.Tests.{IsStartOf}
-use Rattle.lu_machine.specs.Schedules.{BeginsWith, Reaches, IsSchedule, AreAll}
+use Rattle.lu_machine.specs.Schedules.{BeginsWith, IsSchedule}
 use Rattle.lu_history.specs.declared.serial.SerialOp.{SerialOp}
 use Rattle.lu_witness.specs.Caches.{Cache}
 use Rattle.lu_witness.specs.Witnesses.{IsMember}
@@ -39,20 +38,6 @@ is_abandoned (Ok (Clean counts)) = false
 is_abandoned (Ok (Bad schedule why)) = false
 is_abandoned (Ok Abandoned) = true
 is_abandoned (Err e) = false
-
--- u has d moves, or fewer and is ended
-abbrev pub IsPieceAt : State → ℕ → List Move → Type 0
-IsPieceAt s d u =
-    ((length u ≡ d) × IsSchedule s u) ⊎ ((length u < d) × Reaches s u (λ end _. IsEnded end))
-
--- all pieces at the greatest depth, up to `most`, at which there are at most 65,536
-pub record IsFrontier (s : State) (most : ℕ) (pieces : List (List Move)) : Type 0 where
-  pub depth : ℕ
-  pub within : depth ≤ most
-  pub all : AreAll (IsPieceAt s depth) pieces
-  pub few : length pieces ≤ 65536
-  pub greatest : (d : ℕ) (list : List (List Move)) → depth < d → d ≤ most
-      → AreAll (IsPieceAt s d) list → 65536 < length list
 
 -- what is found from the start of the component and the matrix among the schedules that begin with
 -- `from`; and the same over the tree of a cache, unless the search was abandoned

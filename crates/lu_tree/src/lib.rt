@@ -8,7 +8,7 @@
 //!
 //! [`search`] walks the schedules that begin with a given one, in order, and judges each ended one:
 //! it returns the least that is not good, or how many schedules are complete, stuck and cut.
-//! [`frontier`] cuts the tree into pieces, each of which can be searched by itself.
+//! [`frontier`] of lu_pieces cuts the tree into pieces, each of which can be searched by itself.
 //!
 //! ```text
 //! match search(alloc, &component, &matrix, &&set, &from, 40)? {
@@ -26,7 +26,6 @@ mod halt;
 mod known;
 mod lookahead;
 mod node;
-mod pieces;
 mod progress;
 mod searching;
 mod space;
@@ -38,7 +37,7 @@ mod walk;
 mod watch;
 
 pub use found::Found;
-pub use pieces::{MOST_DEPTH, frontier};
+pub use lu_pieces::{MOST_DEPTH, frontier};
 pub use searching::{search, search_watched, search_with};
 pub use space::SearchSpace;
 pub use tables::Tables;

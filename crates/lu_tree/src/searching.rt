@@ -90,6 +90,41 @@ fn found_bad<'t, T: SerialTree>(
     })
 }
 
+/// Searches below the node to which the moves lead.
+fn search_below<'t, T: SerialTree, W: Watch>(
+    space: &SearchSpace<'_>,
+    tables: &Tables,
+    cache: &mut Cache<'t, T>,
+    from: &[Move],
+    node: &mut Node<'_, 't, T>,
+    watch: &mut W,
+) -> Result<Found, AllocError>
+    requires of { CanSearch space.now from.now }
+    requires tables { AreTablesOf space.now.test tables.now }
+    requires leads { LeadsToNode space.now from.now node.old }
+    requires agree { Agree (progress node.old.machine) node.old.trail.history }
+    requires tree { cache.old.tree ≡ node.old.trail.tree }
+    requires running { W.is_stopped watch.old ≡ false }
+    requires limits { IsWithinLimits space.now.test }
+    ensures found { MayFind space.now (T.members node.old.trail.tree) from.now result }
+    ensures base { W.base watch.new ≡ W.base watch.old }
+    ensures cache { SameButEntries cache.old cache.new }
+    ensures stopped { W.is_stopped watch.new ≡ is_abandoned result }
+{
+    let left = space.bound - from.len() as u16;
+    let ahead = Lookahead {
+        alloc: space.alloc,
+        tables,
+        most: left,
+    };
+    let mut tally = WalkProgress::new(space.alloc)?;
+    match walk(cache, watch, &ahead, left, node, &mut tally) {
+        Ok(known) => Ok(Found::Clean(known.counts)),
+        Err(Halt::NotGood) => found_bad(cache, from, tally.path, node),
+        Err(Halt::Stopped) => Ok(Found::Abandoned),
+    }
+}
+
 /// Searches as [`search`] does, over the tree of the cache, until the watch stops it. The watch is
 /// asked after each 64 further schedules that were judged good, or that are cut. The tables are
 /// those of the component and the matrix: whoever searches below many schedules makes them once.
@@ -115,18 +150,7 @@ pub fn search_with<'t, T: SerialTree, W: Watch>(
 {
     let moves = from.moves();
     let mut node = node_after(space, cache.tree(), moves)?;
-    let left = space.bound - moves.len() as u16;
-    let ahead = Lookahead {
-        alloc: space.alloc,
-        tables,
-        most: left,
-    };
-    let mut tally = WalkProgress::new(space.alloc)?;
-    match walk(cache, watch, &ahead, left, &mut node, &mut tally) {
-        Ok(known) => Ok(Found::Clean(known.counts)),
-        Err(Halt::NotGood) => found_bad(cache, moves, tally.path, &mut node),
-        Err(Halt::Stopped) => Ok(Found::Abandoned),
-    }
+    search_below(space, tables, cache, moves, &mut node, watch)
 }
 
 /// Searches as [`search`] does, over the tree of the cache, until the watch stops it. The watch is
@@ -188,12 +212,14 @@ pub fn search<T: SerialTree>(
     ensures found { FindsBelow component.now matrix.now (T.members tree.now) from.now bound result }
     ensures limits { OnOk result (IsComponent component.now × IsMatrix matrix.now) }
 {
-    let space = SearchSpace {
-        alloc,
-        test: Test { component, matrix },
-        bound,
-    };
-    let tables = Tables::new(alloc, component, matrix, bound)?;
     let mut cache = Cache::new(alloc, tree, REMEMBERED)?;
-    search_with(&space, &tables, &mut cache, from, &mut Unwatched)
+    search_watched(
+        alloc,
+        component,
+        matrix,
+        &mut cache,
+        from,
+        bound,
+        &mut Unwatched,
+    )
 }

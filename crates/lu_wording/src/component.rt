@@ -5,7 +5,7 @@ use crate::spelling::near;
 use lu_lang::{ComponentDraft, LangFaultKind, OpenOp, Statement};
 use lu_text::{Name, are_allowed, has_name_form, is_long, value_in, words_of};
 use std::alloc::{AllocError, Global};
-use std::str;
+use std::{fmt, str};
 
 /// A word as text; a fault is told of words in ASCII alone.
 pub(crate) fn shown(word: &[u8]) -> &str {
@@ -15,10 +15,18 @@ pub(crate) fn shown(word: &[u8]) -> &str {
     }
 }
 
-pub(crate) fn hint(alloc: Global, near: Option<&str>) -> Result<String, AllocError> {
-    match near {
-        None => Ok(String::new(alloc)),
-        Some(name) => format!(in alloc; "; is it {name}?"),
+/// The name for which a word may be a slip, where there is one: the end of a message asks for it.
+#[derive(Clone, Copy)]
+pub(crate) struct Slip<'a> {
+    pub(crate) name: Option<&'a str>,
+}
+
+impl fmt::Display for Slip<'_> {
+    fn fmt<W: fmt::Write>(&self, f: &mut fmt::Formatter<W>) -> fmt::Result {
+        match self.name {
+            None => Ok(()),
+            Some(name) => write!(f, "; is it {name}?"),
+        }
     }
 }
 
@@ -110,9 +118,11 @@ fn no_declaration(alloc: Global, word: &[u8]) -> Result<String, AllocError> {
             "{said} stands inside an operation, and none is open; `op NAME ARGS` begins one"
         );
     }
-    let hint = hint(alloc, near_declaration(word))?;
+    let slip = Slip {
+        name: near_declaration(word),
+    };
     format!(in alloc;
-        "{said} begins no declaration; outside an operation stand word, lock, op and local{hint}"
+        "{said} begins no declaration; outside an operation stand word, lock, op and local{slip}"
     )
 }
 
@@ -138,9 +148,11 @@ fn no_instruction(alloc: Global, op: &OpenOp, word: &[u8]) -> Result<String, All
             "{said} stands outside operations, and {name} is open: its `end` is missing"
         );
     }
-    let hint = hint(alloc, near_instruction(word))?;
+    let slip = Slip {
+        name: near_instruction(word),
+    };
     format!(in alloc;
-        "{said} is no instruction; docs/LANGUAGE.md lists the 17 that there are{hint}"
+        "{said} is no instruction; docs/LANGUAGE.md lists the 17 that there are{slip}"
     )
 }
 
@@ -194,8 +206,13 @@ fn form_instruction(
     form_of_words(alloc, shape, rest)
 }
 
+/// The first of these words that is no number.
+pub(crate) fn first_no_number<'a>(words: &[&'a [u8]]) -> Option<&'a [u8]> {
+    words.iter().find(|word| value_in(word).is_none()).copied()
+}
+
 fn no_number(alloc: Global, words: &[&[u8]]) -> Result<String, AllocError> {
-    match words.iter().find(|word| value_in(word).is_none()) {
+    match first_no_number(words) {
         None => String::from_str(alloc, "a number is wanted here, 0 to 4294967295"),
         Some(word) => {
             let word = shown(word);
@@ -309,13 +326,20 @@ fn limit_inside(alloc: Global, op: &OpenOp) -> Result<String, AllocError> {
     String::from_str(alloc, "pick takes a number of choices from 1 to 8")
 }
 
+/// Whether a word is a name with too many bytes, or the label of one.
+fn is_long_name(word: &[u8]) -> bool {
+    let name = without_colon(word);
+    has_name_form(name) && is_long(name)
+}
+
+/// The first of these words that is too long a name.
+fn long_word<'a>(words: &[&'a [u8]]) -> Option<&'a [u8]> {
+    words.iter().find(|word| is_long_name(word)).copied()
+}
+
 fn limit(alloc: Global, draft: &ComponentDraft, words: &[&[u8]]) -> Result<String, AllocError> {
-    if let Some(word) = words
-        .iter()
-        .map(|word| without_colon(word))
-        .find(|word| has_name_form(word) && is_long(word))
-    {
-        return long_name(alloc, word);
+    if let Some(word) = long_word(words) {
+        return long_name(alloc, without_colon(word));
     }
     let Some((word, rest)) = words.split_first() else {
         return String::from_str(alloc, "a limit is passed");
@@ -336,9 +360,12 @@ fn declared_before(alloc: Global, kind: &[u8], name: &[u8]) -> Result<String, Al
 }
 
 fn no_lock(alloc: Global, draft: &ComponentDraft, lock: &[u8]) -> Result<String, AllocError> {
-    let (hint, lock) = (hint(alloc, near(&draft.locks, lock))?, shown(lock));
+    let slip = Slip {
+        name: near(&draft.locks, lock),
+    };
+    let lock = shown(lock);
     format!(in alloc;
-        "there is no lock {lock}; `lock {lock}` declares it, on a line before the operations that use it{hint}"
+        "there is no lock {lock}; `lock {lock}` declares it, on a line before the operations that use it{slip}"
     )
 }
 
@@ -346,9 +373,11 @@ fn no_array(alloc: Global, draft: &ComponentDraft, array: &str) -> Result<String
     if is_declared(&draft.locks, array.as_bytes()) {
         return format!(in alloc; "{array} is a lock, and an array is wanted here");
     }
-    let hint = hint(alloc, near(&draft.arrays, array.as_bytes()))?;
+    let slip = Slip {
+        name: near(&draft.arrays, array.as_bytes()),
+    };
     format!(in alloc;
-        "there is no array {array}; `word {array} LEN INIT` declares it, on a line before the operations that use it{hint}"
+        "there is no array {array}; `word {array} LEN INIT` declares it, on a line before the operations that use it{slip}"
     )
 }
 
@@ -552,9 +581,11 @@ pub(crate) fn jump_wording(
 }
 
 fn no_label(alloc: Global, op: &OpenOp, label: &Name) -> Result<String, AllocError> {
-    let hint = hint(alloc, near(&op.labels, label.as_bytes()))?;
+    let slip = Slip {
+        name: near(&op.labels, label.as_bytes()),
+    };
     let (name, label) = (op.name.as_str(), label.as_str());
-    format!(in alloc; "{name} jumps to the label {label}, which is not there{hint}")
+    format!(in alloc; "{name} jumps to the label {label}, which is not there{slip}")
 }
 
 /// The words for a fault at the end of the text.

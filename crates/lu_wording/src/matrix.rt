@@ -1,9 +1,9 @@
 //! The words for a fault of a matrix's line: what stands there, and what was wanted.
 
-use crate::component::{hint, is_register, shown, unknown_byte};
+use crate::component::{Slip, first_no_number, is_register, shown, unknown_byte};
 use crate::spelling::{is_near, near};
 use lu_test::{MatrixDraft, MatrixFaultKind, Signature};
-use lu_text::{Name, before_comment, has_name_form, parts_of, value_in, words_of};
+use lu_text::{Name, before_comment, has_name_form, parts_of, words_of};
 use std::alloc::{AllocError, Global};
 
 /// The words of a call: those of a part, without the line's first word.
@@ -57,9 +57,12 @@ fn form(
             "beside a `;` stands nothing; a `;` parts calls and ends none, and a call is an operation's name and its arguments",
         );
     }
-    let (hint, first) = (hint(alloc, near_first(first))?, shown(first));
+    let slip = Slip {
+        name: near_first(first),
+    };
+    let first = shown(first);
     format!(in alloc;
-        "{first} begins no line of a matrix; its lines are `thread CALL; CALL ..` and, first of all, `setup CALL; ..`{hint}"
+        "{first} begins no line of a matrix; its lines are `thread CALL; CALL ..` and, first of all, `setup CALL; ..`{slip}"
     )
 }
 
@@ -122,7 +125,7 @@ fn arity<'a>(signatures: &[Signature<'a>], name: &[u8]) -> Option<(&'a Name, u8)
 
 /// The words for the first of these that is no number, where one is none.
 fn of_numbers(alloc: Global, words: &[&[u8]]) -> Result<Option<String>, AllocError> {
-    match words.iter().find(|word| value_in(word).is_none()) {
+    match first_no_number(words) {
         Some(word) => Ok(Some(no_number(alloc, word)?)),
         None => Ok(None),
     }

@@ -7,21 +7,26 @@ use lu_text::Name;
 
 /// How many bytes two words have in common before they differ.
 fn common_front(left: &[u8], right: &[u8]) -> usize {
-    for (i, (one, other)) in left.iter().zip(right.iter()).enumerate() {
-        if !one.eq_ignore_ascii_case(other) {
-            return i;
-        }
+    match left
+        .iter()
+        .zip(right.iter())
+        .position(|(one, other)| !one.eq_ignore_ascii_case(other))
+    {
+        None => left.len().min(right.len()),
+        Some(place) => place,
     }
-    left.len().min(right.len())
 }
 
 fn common_back(left: &[u8], right: &[u8]) -> usize {
-    for (i, (one, other)) in left.iter().rev().zip(right.iter().rev()).enumerate() {
-        if !one.eq_ignore_ascii_case(other) {
-            return i;
-        }
+    match left
+        .iter()
+        .rev()
+        .zip(right.iter().rev())
+        .position(|(one, other)| !one.eq_ignore_ascii_case(other))
+    {
+        None => left.len().min(right.len()),
+        Some(place) => place,
     }
-    left.len().min(right.len())
 }
 
 /// Whether one word may be a slip for the other: capitals apart, one byte more, less or other, or

@@ -7,9 +7,14 @@ use lu_test::{Matrix, ScheduleFault};
 use lu_text::{is_number, number_up_to, place_of, words_of};
 use std::alloc::{AllocError, Global};
 
+/// Whether each byte is printed ASCII or a space.
+fn is_printed(text: &[u8]) -> bool {
+    text.iter().all(|byte| matches!(*byte, 32..=126))
+}
+
 /// A word as text where that is short and can be printed, and else this.
 fn printed<'a>(word: &'a [u8], other: &'a str) -> &'a str {
-    if word.is_empty() || word.len() > 64 || !word.iter().all(|byte| matches!(*byte, 33..=126)) {
+    if word.is_empty() || word.len() > 64 || word.contains(&b' ') || !is_printed(word) {
         return other;
     }
     shown(word)
@@ -36,13 +41,12 @@ fn wrong_bytes(text: &[u8]) -> Option<&'static str> {
 /// What is wrong with the end of a schedule.
 fn wrong_end(text: &[u8]) -> &'static str {
     if text.ends_with(b" \n") || text.ends_with(b" ") {
-        "a space stands behind the last move"
-    } else if !text.ends_with(b"\n") {
-        "the LF is missing"
-    } else if text.iter().filter(|byte| **byte == b'\n').count() > 1 {
-        "there is a second line"
-    } else {
-        "the first word is another"
+        return "a space stands behind the last move";
+    }
+    match text.strip_suffix(b"\n") {
+        None => "the LF is missing",
+        Some(line) if line.contains(&b'\n') => "there is a second line",
+        Some(_) => "the first word is another",
     }
 }
 
@@ -116,7 +120,7 @@ pub(crate) fn line_shown(line: Option<&[u8]>) -> &str {
     match line.strip_suffix(b"\n") {
         None => "a line without its LF",
         Some(line) => {
-            if line.len() > 80 || !line.iter().all(|byte| matches!(*byte, 32..=126)) {
+            if line.len() > 80 || !is_printed(line) {
                 return "another line";
             }
             match line {

@@ -44,6 +44,32 @@ fn open_label_at(draft: &ComponentDraft, back: usize) -> &str {
     }
 }
 
+/// That no instruction names what this line declares, of this kind.
+fn unnamed_wording(alloc: Global, text: &[u8], kind: &str) -> Result<String, AllocError> {
+    let name = shown(second_word(alloc, text)?);
+    format!(in alloc; "no instruction names the {kind} {name}")
+}
+
+/// That no jump leads to the label at the instruction that so many follow with it.
+fn unused_label_wording(
+    alloc: Global,
+    draft: &ComponentDraft,
+    back: usize,
+) -> Result<String, AllocError> {
+    let (name, label) = (operation_name(draft), open_label_at(draft, back));
+    format!(in alloc; "no jump of {name} leads to the label {label}")
+}
+
+/// What the open operation does.
+fn operation_wording(
+    alloc: Global,
+    draft: &ComponentDraft,
+    does: &str,
+) -> Result<String, AllocError> {
+    let name = operation_name(draft);
+    format!(in alloc; "{name} {does}")
+}
+
 /// The words of a warning that is found at a line after this draft, and stands so many lines with
 /// words before it.
 pub(crate) fn warning_wording(
@@ -53,21 +79,15 @@ pub(crate) fn warning_wording(
     hint: Hint,
     back: usize,
 ) -> Result<String, AllocError> {
-    let name = operation_name(draft);
     match hint {
-        Hint::UnnamedArray => {
-            let array = shown(second_word(alloc, text)?);
-            format!(in alloc; "no instruction names the array {array}")
-        }
-        Hint::UnnamedLock => {
-            let lock = shown(second_word(alloc, text)?);
-            format!(in alloc; "no instruction names the lock {lock}")
-        }
-        Hint::UnusedLabel => {
-            let label = open_label_at(draft, back);
-            format!(in alloc; "no jump of {name} leads to the label {label}")
-        }
-        Hint::NoReturn => format!(in alloc; "{name} reaches no return, so no call of it returns"),
-        Hint::Spin => format!(in alloc; "{name} jumps back without waiting; await waits"),
+        Hint::UnnamedArray => unnamed_wording(alloc, text, "array"),
+        Hint::UnnamedLock => unnamed_wording(alloc, text, "lock"),
+        Hint::UnusedLabel => unused_label_wording(alloc, draft, back),
+        Hint::NoReturn => operation_wording(
+            alloc,
+            draft,
+            "reaches no return, so no call of it returns",
+        ),
+        Hint::Spin => operation_wording(alloc, draft, "jumps back without waiting; await waits"),
     }
 }

@@ -1,9 +1,10 @@
-use Rattle.std.proofs.Common.{rules, ◌≡◌, ◌++◌, ◌∷◌, ◌∙◌, List, [], vec_len, ap}
+use Rattle.std.proofs.Common.{rules, ◌≡◌, ℕ, ◌<◌, ◌≤◌, ◌++◌, ◌∷◌, ◌∙◌, List, [], length, vec_len, refl, ap, subst}
 use Rattle.lu_machine.proofs.Orders.{popped}
 use Rattle.lu_history.specs.declared.serial.SerialOp.{SerialOp}
+use Rattle.lu_trie.specs.Branches.{branches_of}
 use Rattle.lu_trie.proofs.Trees.{branch_lighter}
 use Rattle.lu_lint.specs.Runs.{with_set}
-use Rattle.lu_lint.proofs.Shown.{kid_more}
+use Rattle.lu_lint.proofs.Shown.{all_kids, first_kid, kid_more}
 use Rattle.lu_lint.proofs.serial_runs.+with_below.Goals as goal
 
 pub with_below-requires : goal.with_below-requires
@@ -22,4 +23,25 @@ loop-i-preserved g t c =
     record {
       path = c.pop.ensures.rest ∙ popped path c.with_below.new.path.items op (vec_len c.with_below.new.path) back (c.with_below.new.path.ok.0);
       hints = kid_more c.args.told.items c.loop-i.told.items c.in_ok-told-2.told.items path below c.loop-i.i op kid c.kid-below.ensures.kid c.loop-i.invariant.hints (c.in_ok-told-2.ensures.hints ∙ ap (λ (p : List SerialOp). with_set c.loop-i.told.items p kid) pushed);
+    }
+
+pub loop-i-init : goal.loop-i-init
+loop-i-init g t c = record {
+  path = refl;
+  hints = first_kid c.args.told.items c.in_ok-told.told.items c.args.path.now.items c.deref.result.now (g.T.SerialTree.below c.args.tree.now c.args.place) c.ends.result c.deref.ensures.value c.ends.ensures c.in_ok-told.ensures;
+}
+
+pub kid-below-requires : goal.kid-below-requires
+kid-below-requires g t c =
+    let count : c.kid_count-i-end.result ≡ length (branches_of (g.T.SerialTree.below c.args.tree.now c.args.place)) = c.kid_count-i-end.ensures in
+    record { place = c.requires; in_range = subst (λ (n : ℕ). c.loop-i.i < n) count c.loop-i-test.true }
+
+pub returns : goal.returns
+returns g t c =
+    let hs = g.T.SerialTree.below c.args.tree.now c.args.place in
+    let count : c.kid_count-i-end.result ≡ length (branches_of hs) = c.kid_count-i-end.ensures in
+    let past = subst (λ (n : ℕ). n ≤ c.loop-i.i) count c.loop-i-test.false in
+    record {
+      hints = all_kids c.args.told.items c.loop-i.told.items c.args.path.now.items hs c.loop-i.i (g.met.T.SerialTree.branching c.args.tree.now c.args.place c.requires) past c.loop-i.invariant.hints;
+      path = c.loop-i.invariant.path;
     }

@@ -7,4 +7,4 @@ use Rattle.lu_source_text.proofs.closing.closes.Goals as goal
 pub returns-in_err-else_of : goal.returns-in_err-else_of
 returns-in_err-else_of c =
     let is : texts c.args.words.now ≡ c.in-Some.word.now.now ∷ texts c.in-Some.rest.now = search rules in
-    rw (is, closes_by (block_of c.args.block) (drafted_of c.args.draft) (begun_of c.args.begun) c.in-Some.word.now.now (texts c.in-Some.rest.now)) (search rules)
+    rw (is, closes_by (block_of c.args.block) (drafted_of c.args.draft.now) (begun_of c.args.begun) c.in-Some.word.now.now (texts c.in-Some.rest.now)) (search rules)

@@ -28,5 +28,8 @@ decreases-exchange_with l = 6 * l.steps + 2
 abbrev pub decreases-cas_with : goal.decreases-cas_with
 decreases-cas_with l = 6 * l.steps + 4
 
+abbrev pub decreases-value_with : goal.decreases-value_with
+decreases-value_with l = 6 * l.steps + 4
+
 abbrev pub decreases-unary_with : goal.decreases-unary_with
 decreases-unary_with l = 6 * l.steps + 5

@@ -10,11 +10,11 @@ use Rattle.lu_source_text.proofs.Complete.{each_there}
 use Rattle.lu_source_text.proofs.Entries.{are_done, told, after_is, drafts_go_on, fails_done, origins_go_on}
 use Rattle.lu_source_text.proofs.origins.origins_of_lines.Goals as goal
 
-pub returns-in_err-draft-clause-fault : goal.returns-in_err-draft-clause-fault
-returns-in_err-draft-clause-fault c =
+pub returns-in_err-take_line-clause-fault : goal.returns-in_err-take_line-clause-fault
+returns-in_err-take_line-clause-fault c =
     let p = err_from_is_err_and c.from_residual.result c.from_residual.ensures.1 in
     let step = text_more c.args.lines.now c.loop-before.before _ (omega arith) in
-    rw (p.1, p.2) (ends source_grammar c.in_err-draft.field-0.0 _ _ _ _ _ c.in_err-draft.ensures (rw step at c.loop-before.invariant.read))
+    rw (p.1, p.2) (ends source_grammar c.in_err-take_line.field-0.0 _ _ _ _ _ c.in_err-take_line.ensures (rw step at c.loop-before.invariant.read))
 
 pub loop-before-init : goal.loop-before-init
 loop-before-init c = record {
@@ -27,16 +27,16 @@ loop-before-init c = record {
 pub loop-before-preserved : goal.loop-before-preserved
 loop-before-preserved c =
     let step = text_more c.args.lines.now c.loop-before.before _ (omega arith) in
-    let next = after_is _ _ _ _ c.in_ok-draft.ensures in
+    let next = after_is _ _ _ _ c.in_ok-take_line.ensures in
     record {
-      read = goes_on source_grammar _ _ _ _ _ _ c.in_ok-draft.ensures (rw step at c.loop-before.invariant.read);
+      read = goes_on source_grammar _ _ _ _ _ _ c.in_ok-take_line.ensures (rw step at c.loop-before.invariant.read);
       origins = origins_go_on _ _ _ _ _ (entries c.loop-before.operations.items) (entries c.fill_all.new.rows.items) _ next c.in_ok-fill_all.ensures (λ o p. rw step at (c.loop-before.invariant.origins o p));
-      drafts = drafts_go_on (drafted_of c.loop-before.draft) (drafted_of c.in_ok-draft.draft) _ (drop (c.loop-before.before + 1) (texts c.args.lines.now)) _ next (rw step at c.loop-before.invariant.drafts);
-      sound = draft_kept _ _ _ _ c.loop-before.invariant.sound c.in_ok-draft.ensures;
+      drafts = drafts_go_on (drafted_of c.loop-before.draft) (drafted_of c.take_line.new.draft) _ (drop (c.loop-before.before + 1) (texts c.args.lines.now)) _ next (rw step at c.loop-before.invariant.drafts);
+      sound = draft_kept _ _ _ _ c.loop-before.invariant.sound c.in_ok-take_line.ensures;
     }
 
 pub fill_all-requires : goal.fill_all-requires
-fill_all-requires c = locals_named c.in_ok-draft.draft (draft_kept _ _ _ _ c.loop-before.invariant.sound c.in_ok-draft.ensures)
+fill_all-requires c = locals_named c.take_line.new.draft (draft_kept _ _ _ _ c.loop-before.invariant.sound c.in_ok-take_line.ensures)
 
 pub returns-clause-origins : goal.returns-clause-origins
 returns-clause-origins c =

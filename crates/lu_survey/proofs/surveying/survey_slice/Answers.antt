@@ -1,21 +1,15 @@
 use Rattle.std.proofs.Common.{arith, ◌≡◌, ◌+◌, ap, ◌∙◌, refl, subst, sym}
 use Rattle.std.specs.Prelude.{min}
 use Rattle.lu_refine.specs.ByThread.{asked_of, matrix_count}
-use Rattle.lu_survey.specs.declared.survey.CertifiedMatrix.{CertifiedMatrix}
-use Rattle.lu_survey.specs.Surveys.{AreShownOf, IsShownOf}
-use Rattle.lu_survey.proofs.InCampaigns.{certificate_at}
-use Rattle.lu_survey.proofs.InSlices.{at_of, at_runs}
+use Rattle.lu_survey.specs.Surveys.{AreShownOf}
 use Rattle.lu_survey.proofs.InSurveys.{IsSurveyedTo, has_room, none_shown, shown_more, surveyed_all, surveyed_more, surveyed_none}
 use Rattle.lu_survey.proofs.surveying.survey_slice.Goals as goal
 
-pub matrix_at-requires-clause-limits : goal.matrix_at-requires-clause-limits
-matrix_at-requires-clause-limits c = c.in_ok-count.ensures.within refl
+pub certified_at-requires-clause-limits : goal.certified_at-requires-clause-limits
+certified_at-requires-clause-limits c = c.in_ok-count.ensures.within refl
 
-pub matrix_at-requires-clause-number : goal.matrix_at-requires-clause-number
-matrix_at-requires-clause-number c = omega (arith, c.min-end.ensures, c.in_ok-count.ensures.count)
-
-pub certify-requires-clause-of : goal.certify-requires-clause-of
-certify-requires-clause-of c = at_runs (asked_of c.args.roles) c.loop-number.number c.in_ok-matrix.matrix c.requires c.in_ok-matrix.ensures
+pub certified_at-requires-clause-number : goal.certified_at-requires-clause-number
+certified_at-requires-clause-number c = omega (arith, c.min-end.ensures, c.in_ok-count.ensures.count)
 
 pub loop-number-init : goal.loop-number-init
 loop-number-init c = record {
@@ -29,14 +23,12 @@ with-survey-requires c = has_room (asked_of c.args.roles) c.args.nodes c.min-sta
 pub loop-number-preserved : goal.loop-number-preserved
 loop-number-preserved c =
     let asked = asked_of c.args.roles in
-    let one : CertifiedMatrix = record { matrix = c.in_ok-matrix.matrix; certificate = c.in_ok-certificate.certificate } in
-    let certified = certificate_at asked c.args.nodes c.loop-number.number c.in_ok-matrix.matrix c.in_ok-certificate.certificate c.in_ok-matrix.ensures c.in_ok-certificate.ensures.certificate in
-    let shown : IsShownOf c.args.roles.component.now one = (at_of asked c.loop-number.number c.in_ok-matrix.matrix c.requires c.in_ok-matrix.ensures, c.in_ok-certificate.ensures.of) in
+    let one = c.in_ok-one.one in
     record {
       surveyed = subst (IsSurveyedTo asked c.args.nodes c.min-start.result (c.loop-number.number + 1)) (sym c.with-survey.ensures)
-          (surveyed_more asked c.args.nodes c.min-start.result c.loop-number.number c.loop-number.survey one c.in_ok-matrix.ensures certified c.loop-number.invariant.surveyed);
+          (surveyed_more asked c.args.nodes c.min-start.result c.loop-number.number c.loop-number.survey one c.in_ok-one.ensures.certified c.loop-number.invariant.surveyed);
       shown = subst (AreShownOf c.args.roles.component.now) (sym c.with-survey.ensures)
-          (shown_more c.args.roles.component.now c.loop-number.survey one c.in_ok-certificate.certificate shown c.loop-number.invariant.shown);
+          (shown_more c.args.roles.component.now c.loop-number.survey one one.certificate c.in_ok-one.ensures.shown c.loop-number.invariant.shown);
     }
 
 pub returns-clause-answer : goal.returns-clause-answer

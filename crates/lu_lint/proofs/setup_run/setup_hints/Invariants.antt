@@ -1,5 +1,0 @@
-use Rattle.lu_lint.proofs.SettingUp.{IsSettingUp}
-use Rattle.lu_lint.proofs.setup_run.setup_hints.Given as goal
-
-abbrev pub invariant-loop-moved : goal.invariant-loop-moved
-invariant-loop-moved l = IsSettingUp l.test.component.now l.test.matrix.now.setup l._moved l.machine l.hints.items

@@ -1,0 +1,4 @@
+pub mod PieceOrder
+mod Kids
+mod Making
+mod PieceLists

@@ -1,0 +1,2 @@
+pub mod Frontiers
+pub mod Pieces
