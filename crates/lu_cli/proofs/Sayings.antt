@@ -69,8 +69,7 @@ use Rattle.lu_cli.specs.declared.explanation.Presentation.{Presentation}
 use Rattle.lu_cli.specs.declared.explanation.Presenting.{Presenting}
 use Rattle.lu_cli.specs.declared.explanation.Presentation.TheVariants.{Words, Picture}
 use Rattle.lu_explain.specs.Explanations.{Explanation}
-use Rattle.lu_lint.specs.Said.{is_fault}
-use Rattle.std.specs.List.{list_any}
+use Rattle.lu_lint.specs.Said.{have_fault}
 use Rattle.lu_cli.specs.Pictures.{IsDrawnExplained}
 use Rattle.lu_cli.specs.declared.explanation.Target.{Target}
 use Rattle.lu_cli.specs.declared.explanation.Target.TheVariants as target
@@ -607,13 +606,13 @@ marked_else answer true e = status_else answer 2 e (λ f. omega arith)
 marked_else answer false e = status_else answer 0 e (λ f. omega arith)
 
 linted_else : (limits : Bounds) (bundle : List ℕ) (answer : Answer) → IsLinted limits bundle answer → IsElse answer
-linted_else limits bundle answer (remarks, are, e) = marked_else answer (list_any (λ r. is_fault r.said.cause) remarks) (ap (λ (a : Answer). a.status) e)
+linted_else limits bundle answer (remarks, are, e) = marked_else answer (have_fault remarks) (ap (λ (a : Answer). a.status) e)
 
 source_linted_else : (limits : Bounds) (source : List ℕ) (parts : List (List ℕ)) (answer : Answer) → IsSourceLinted limits source parts answer → IsElse answer
 source_linted_else limits source parts answer is = go (component_meant source) is
   where
     go : (meant : Result Component (Fault SourceFaultKind)) → MatchResult meant (λ c. IsLintedAfter limits source parts c answer) (λ fault. IsFaulted source answer) → IsElse answer
-    go (Ok c) (said, remarks, tells, are, e) = marked_else answer (list_any (λ r. is_fault r.said.cause) (below_source source c remarks)) (ap (λ (a : Answer). a.status) e)
+    go (Ok c) (said, remarks, tells, are, e) = marked_else answer (have_fault (below_source source c remarks)) (ap (λ (a : Answer). a.status) e)
     go (Err fault) (text, tells, e) = status_else answer 2 (ap (λ (a : Answer). a.status) e) (λ f. omega arith)
 
 lint_else : (limits : Bounds) (bundle : List ℕ) (answer : Answer) → IsLint limits bundle answer → IsElse answer

@@ -1,5 +1,5 @@
 -- What `check` answers.
-use Rattle.std.specs.Prelude.{◌≡◌, ◌≢◌, ◌⊎◌, ℕ, List}
+use Rattle.std.specs.Prelude.{◌≡◌, ◌≢◌, ◌⊎◌, ℕ, List, Result}
 use Rattle.lu_text.specs.Words.{exactly_two, exactly_three}
 use Rattle.lu_component.specs.Component.{Component}
 use Rattle.lu_test.specs.Matrix.{Matrix}
@@ -8,6 +8,9 @@ use Rattle.lu_report.specs.Parts.{Report}
 use Rattle.lu_witness.specs.Witnesses.{IsMember}
 use Rattle.lu_replay.specs.Reports.{IsReport, IsReportAgainst}
 use Rattle.lu_parallel.specs.Ranges.{Options}
+use Rattle.lu_machine.specs.declared.test.Test.{Test}
+use Rattle.lu_cli.specs.declared.refusal.Refusal.{Refusal}
+use Rattle.lu_cli.specs.Refusals.{Answered}
 use Rattle.lu_cli.specs.Shows.{reported}
 use Rattle.lu_cli.specs.Outcomes.{Answer, no_worker}
 use Rattle.lu_cli.specs.Reading.{ToParts, ToTexts, ToGiven}
@@ -18,6 +21,9 @@ abbrev pub IsChecked : Component → Matrix → Options → Answer → Type 0
 IsChecked c matrix choice answer =
     ((r : Report) × IsReport c matrix choice.bound choice.serial r × (answer ≡ reported r))
     ⊎ ((choice.workers ≢ 1) × (answer ≡ no_worker))
+
+abbrev pub Checks : Test → Options → Result Answer Refusal → Type 0
+Checks test choice = Answered (IsChecked test.component.now test.matrix.now choice)
 
 abbrev pub IsAnswerToCheck : Options → List (List ℕ) → Answer → Type 0
 IsAnswerToCheck choice parts =

@@ -1,6 +1,6 @@
 -- What `lint` answers.
 use Rattle.std.specs.Prelude.{◌≡◌, ◌-◌, ℕ, nat_lt, MatchBool, MatchResult, List, [], ◌∷◌, ◌++◌, length, Option, Some, None, if◌then◌else◌, Vec, codes, String, string_bytes}
-use Rattle.std.specs.List.{filter_map, list_any}
+use Rattle.std.specs.List.{filter_map}
 use Rattle.std.specs.List.Sorted.{IsNonDecreasingBy}
 use Rattle.std.specs.Fmt.{decimal}
 use Rattle.lu_text.specs.Lines.{lines_of}
@@ -17,7 +17,7 @@ use Rattle.lu_source_lint.specs.Warnings.{warnings_in}
 use Rattle.lu_lint.specs.declared.remark.Remark.{Remark}
 use Rattle.lu_lint.specs.Bundle.{IsSaidOf}
 use Rattle.lu_lint.specs.Messages.{remarks_text}
-use Rattle.lu_lint.specs.Said.{is_fault, line_below, said_of}
+use Rattle.lu_lint.specs.Said.{have_fault, line_below, said_of}
 use Rattle.lu_report.specs.Limits.{Bounds}
 use Rattle.lu_text.specs.Bundle.{bundle_parts}
 use Rattle.lu_cli.specs.Compile.{behind}
@@ -29,7 +29,7 @@ use Rattle.lu_cli.specs.Outcomes.{Answer}
 abbrev pub remarked : List Remark → Answer
 remarked remarks = record {
   text = remarks_text remarks;
-  status = if list_any (λ r. is_fault r.said.cause) remarks then 2 else 0;
+  status = if have_fault remarks then 2 else 0;
 }
 
 -- what there is to say of a bundle, in the order of its lines

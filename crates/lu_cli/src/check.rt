@@ -1,24 +1,39 @@
 //! The first fault of a component and a matrix.
 
-ghost use Rattle.std.specs.Prelude.{IfOk};
 ghost use Rattle.lu_text.specs.Lines.{texts};
-ghost use Rattle.lu_machine.specs.Starts.{CanRun};
-ghost use Rattle.lu_replay.specs.Reports.{IsReport};
 ghost use Rattle.lu_cli.specs.Refusals.{Answered};
 ghost use Rattle.lu_cli.specs.Check as spec;
+ghost use Rattle.lu_cli.specs.Check.{Checks};
 
 use crate::answer::{Answer, show_report};
 use crate::refusal::Refusal;
 use crate::texts::read_texts;
-use lu_component::Component;
+use lu_machine::Test;
 use lu_parallel::{OpenGate, Options, check, check_against, check_one, check_one_against};
-use lu_report::Report;
 use lu_spec::read_given_spec;
-use lu_test::Matrix;
 use lu_text::{exactly_three, exactly_two};
-use std::alloc::{AllocError, Global};
+use std::alloc::Global;
 use std::sync::Wait;
 use std::thread::Threads;
+
+/// The report of a test, by as many workers as the options say.
+fn check_test<X: AllocGlobal + Threads + Wait>(
+    rt: &X,
+    test: Test<'_>,
+    options: Options,
+) -> Result<Answer, Refusal>
+    ensures { Checks test.entry options result }
+{
+    let report = check(
+        rt,
+        rt.alloc(),
+        &OpenGate,
+        test.component,
+        test.matrix,
+        options,
+    )?;
+    Ok(show_report(rt.alloc(), &report)?)
+}
 
 /// `lineup check`: component and matrix.
 pub(crate) fn answer_check<X: AllocGlobal + Threads + Wait>(
@@ -30,9 +45,11 @@ pub(crate) fn answer_check<X: AllocGlobal + Threads + Wait>(
 {
     let (component, matrix) = exactly_two(parts).ok_or(Refusal::Parts)?;
     let case = read_texts(rt.alloc(), component, matrix)?;
-    let (component, matrix) = (&case.component, &case.matrix);
-    let report = check(rt, rt.alloc(), &OpenGate, component, matrix, options)?;
-    Ok(show_report(rt.alloc(), &report)?)
+    let test = Test {
+        component: &case.component,
+        matrix: &case.matrix,
+    };
+    check_test(rt, test, options)
 }
 
 /// `lineup check --spec`: component, matrix and specification.
@@ -52,24 +69,13 @@ pub(crate) fn answer_check_against<X: AllocGlobal + Threads + Wait>(
     Ok(show_report(rt.alloc(), &report)?)
 }
 
-/// The report of a check on the calling thread.
-fn check_alone(
-    alloc: Global,
-    component: &Component,
-    matrix: &Matrix,
-    options: Options,
-) -> Result<Report, AllocError>
-    requires { CanRun component.now matrix.now }
-    ensures { IfOk result (IsReport component.now matrix.now options.bound options.serial) }
+/// The report of a test, on the calling thread.
+fn check_test_alone(alloc: Global, test: Test<'_>, options: Options) -> Result<Answer, Refusal>
+    ensures { Checks test.entry options result }
 {
-    check_one(
-        alloc,
-        alloc,
-        component,
-        matrix,
-        options.bound(),
-        options.serial(),
-    )
+    let (bound, serial) = (options.bound(), options.serial());
+    let report = check_one(alloc, alloc, test.component, test.matrix, bound, serial)?;
+    Ok(show_report(alloc, &report)?)
 }
 
 /// `lineup check` on the calling thread: component and matrix.
@@ -82,8 +88,11 @@ pub(crate) fn answer_check_alone(
 {
     let (component, matrix) = exactly_two(parts).ok_or(Refusal::Parts)?;
     let case = read_texts(alloc, component, matrix)?;
-    let report = check_alone(alloc, &case.component, &case.matrix, options)?;
-    Ok(show_report(alloc, &report)?)
+    let test = Test {
+        component: &case.component,
+        matrix: &case.matrix,
+    };
+    check_test_alone(alloc, test, options)
 }
 
 /// `lineup check --spec` on the calling thread: component, matrix and specification.

@@ -1,12 +1,9 @@
 //! What there is to say of a bundle: by its component's text, or by its source's own.
 
 ghost use Rattle.std.specs.Prelude.{◌≡◌, ◌++◌, IfOk, OnOk, string_bytes};
-ghost use Rattle.std.specs.List.{list_any};
 ghost use Rattle.lu_text.specs.Lines.{texts};
 ghost use Rattle.lu_text.specs.Writing.{Writes};
 ghost use Rattle.lu_text.specs.Results.{HasItems};
-ghost use Rattle.lu_lint.specs.Messages as messages;
-ghost use Rattle.lu_lint.specs.Said.{is_fault};
 ghost use Rattle.lu_cli.specs.Compile.{lent_after};
 ghost use Rattle.lu_cli.specs.Lint as spec;
 ghost use Rattle.lu_cli.specs.Lint.{AddsMessage, AreRemarksAfter, IsFaulted, IsLint, IsLinted, IsLintedAfter, IsSourceLinted, WritesMessages};
@@ -14,7 +11,7 @@ ghost use Rattle.lu_cli.specs.Lint.{AddsMessage, AreRemarksAfter, IsFaulted, IsL
 use crate::answer::Answer;
 use lu_component::Component;
 use lu_lang::write_component;
-use lu_lint::{Cause, FaultKind, Remark, Said, lint};
+use lu_lint::{Remark, Said, have_fault, lint, write_remarks};
 use lu_report::Bounds;
 use lu_source_lint::{SourceMessage, What, faults_of, warnings_of, wording};
 use lu_source_text::{compile_text, is_source};
@@ -134,64 +131,6 @@ fn remarks_below(
         .into_iter()
         .filter_map(|remark| moved(remark, above, now))
         .collect(alloc)
-}
-
-/// Whether a remark tells a fault.
-fn have_fault(remarks: &[Remark]) -> bool
-    ensures { result ≡ list_any (λ r. is_fault r.said.cause) remarks.now }
-{
-    remarks.iter().any(|remark| remark.said.cause.is_fault())
-}
-
-/// What stands before the words of a remark.
-fn remark_word(cause: &Cause) -> &'static str
-    ensures { result.now ≡ messages.remark_word cause.now }
-{
-    if cause.is_fault() { "" } else { "warning: " }
-}
-
-/// Adds the code of a fault and its line in the part.
-fn write_fault_tail(text: &mut String, kind: FaultKind, line: usize) -> Result<(), AllocError>
-    ensures { Writes result text.old text.new (messages.fault_tail kind line) }
-{
-    let (code, part) = (kind.code(), kind.part());
-    write!(text, " ({code}, line {line} of the {part})\n")
-}
-
-/// Adds what stands after the words of a remark.
-fn write_remark_tail(text: &mut String, cause: &Cause) -> Result<(), AllocError>
-    ensures { Writes result text.old text.new (messages.remark_tail cause.now) }
-{
-    match cause {
-        Cause::Fault(kind, line) => write_fault_tail(text, *kind, *line),
-        Cause::FifthPart => text.push_str(" (B1)\n"),
-        Cause::Separator | Cause::Warning(_) | Cause::Run(_) => text.push_str("\n"),
-    }
-}
-
-/// Adds the line of one remark.
-fn write_remark(text: &mut String, remark: &Remark) -> Result<(), AllocError>
-    ensures { Writes result text.old text.new (messages.remark_text remark.now) }
-{
-    let cause = &remark.said.cause;
-    write!(
-        text,
-        "line {}: {}{}",
-        remark.said.place,
-        remark_word(cause),
-        remark.words.as_str()
-    )?;
-    write_remark_tail(text, cause)
-}
-
-/// Adds a line for each remark.
-fn write_remarks(text: &mut String, remarks: &[Remark]) -> Result<(), AllocError>
-    ensures { Writes result text.old text.new (messages.remarks_text remarks.now) }
-{
-    for remark in remarks {
-        write_remark(text, remark)?;
-    }
-    Ok(())
 }
 
 /// The component, with these parts after it.

@@ -1,11 +1,8 @@
 -- What is said of faults, one after the other.
-use Rattle.std.proofs.Common.{◌≡◌, ℕ, zero, suc, add-one, ◌+◌, ◌<◌, ◌≤◌, List, [], ◌∷◌, ◌++◌, length, get_or, drop, take, map, refl, sym, ap, ◌∙◌, arith}
+use Rattle.std.proofs.Common.{◌≡◌, ℕ, zero, suc, add-one, ◌+◌, ◌<◌, ◌≤◌, List, [], ◌∷◌, ◌++◌, length, get_or, drop, map, refl, sym, ap, ◌∙◌, arith}
 use Rattle.std.proofs.Math.ListN.{drop_of_length-le}
-use Rattle.std.proofs.lemmas.List.{append_assoc, append-nil, map-append, take_more}
-use Rattle.std.proofs.lemmas.Grind.{flat_map-append}
-use Rattle.lu_lint.specs.declared.remark.Remark.{Remark}
+use Rattle.std.proofs.lemmas.List.{append_assoc, append-nil, map-append}
 use Rattle.lu_lint.specs.declared.remark.Said.{Said}
-use Rattle.lu_lint.specs.Messages.{remark_text, remarks_text}
 
 module _ {A : Type 0} where
   one_more : (xs : List A) (i : ℕ) (d : A) → i < length xs → drop i xs ≡ get_or xs i d ∷ drop (suc i) xs
@@ -17,15 +14,6 @@ module _ {A : Type 0} where
   no_more [] i h = drop_of_length-le [] h
   no_more (x ∷ xs) zero h = absurd (omega arith)
   no_more (x ∷ xs) (suc i) h = no_more xs i (omega arith)
-
--- one remark more is written
-pub writes_more : (remarks : List Remark) (i : ℕ) (d : Remark) (before next : List ℕ) → i < length remarks → before ≡ remarks_text (take i remarks) → next ≡ before ++ remark_text (get_or remarks i d) → next ≡ remarks_text (take (i + 1) remarks)
-writes_more remarks i d before next within so_far more =
-    let one = get_or remarks i d in
-    rw (take_more remarks i d within) (more
-    ∙ (ap (λ (x : List ℕ). x ++ remark_text one) so_far
-    ∙ (ap (λ (x : List ℕ). remarks_text (take i remarks) ++ x) (sym (append-nil (remark_text one)))
-    ∙ sym (flat_map-append remark_text (take i remarks) (one ∷ [])))))
 
 -- one is said after others
 pub push_more : {A : Type 0} (said : A → Said) (xs : List A) (x : A) (before now next : List Said) (one : Said) → now ≡ before ++ map said xs → one ≡ said x → next ≡ now ++ one ∷ [] → next ≡ before ++ map said (xs ++ x ∷ [])

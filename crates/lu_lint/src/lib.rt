@@ -22,8 +22,9 @@ mod words;
 mod writing;
 
 pub use laws::agree;
-pub use linting::{Linted, lint};
+pub use linting::{Linted, have_fault, lint};
 pub use remark::{Cause, Ending, FaultKind, Hint, Operations, Remark, RunHint, Said, SerialHint};
 pub use runs::MatrixRuns;
 pub use serial_runs::operation_count;
 pub use words::Wording;
+pub use writing::write_remarks;

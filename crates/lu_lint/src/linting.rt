@@ -159,7 +159,7 @@ fn remarks_on<W: Wording>(
 }
 
 /// Whether one of the remarks is a fault.
-fn have_fault(remarks: &[Remark]) -> bool
+pub fn have_fault(remarks: &[Remark]) -> bool
     ensures { result ≡ said.have_fault remarks.now }
 {
     remarks.iter().any(|remark| remark.said.cause.is_fault())
@@ -209,7 +209,8 @@ pub fn lint<W: Wording>(
 {
     let mut remarks = remarks_on(alloc, wording, bundle, serial)?;
     remarks.sort_by_key(|remark| remark.said.place)?;
-    let text = write_remarks(alloc, &remarks)?;
+    let mut text = String::new(alloc);
+    write_remarks(&mut text, &remarks)?;
     let faults = have_fault(&remarks);
     Ok(Linted {
         remarks,
