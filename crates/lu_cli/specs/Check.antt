@@ -44,6 +44,10 @@ IsCheckedAgainst c matrix choice members answer =
 abbrev pub IsCheckedAgainstText : Component → Matrix → Options → List ℕ → Answer → Type 0
 IsCheckedAgainstText c matrix choice spec = ToGiven matrix spec (IsCheckedAgainst c matrix choice)
 
+abbrev pub ChecksAgainst : Test → Options → List ℕ → Result Answer Refusal → Type 0
+ChecksAgainst test choice spec =
+    Answered (IsCheckedAgainstText test.component.now test.matrix.now choice spec)
+
 abbrev pub IsAnswerToCheckAgainst : Options → List (List ℕ) → Answer → Type 0
 IsAnswerToCheckAgainst choice parts =
     ToParts (exactly_three parts)

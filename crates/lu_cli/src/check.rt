@@ -3,7 +3,7 @@
 ghost use Rattle.lu_text.specs.Lines.{texts};
 ghost use Rattle.lu_cli.specs.Refusals.{Answered};
 ghost use Rattle.lu_cli.specs.Check as spec;
-ghost use Rattle.lu_cli.specs.Check.{Checks};
+ghost use Rattle.lu_cli.specs.Check.{Checks, ChecksAgainst};
 
 use crate::answer::{Answer, show_report};
 use crate::refusal::Refusal;
@@ -52,6 +52,30 @@ pub(crate) fn answer_check<X: AllocGlobal + Threads + Wait>(
     check_test(rt, test, options)
 }
 
+/// The report of a test against a specification of this text, by as many workers as the options
+/// say.
+fn check_test_against<X: AllocGlobal + Threads + Wait>(
+    rt: &X,
+    test: Test<'_>,
+    options: Options,
+    specification: &[u8],
+) -> Result<Answer, Refusal>
+    ensures { ChecksAgainst test.entry options specification.now result }
+{
+    let specification = read_given_spec(rt.alloc(), test.matrix, specification)?;
+    let tree = specification.tree();
+    let report = check_against(
+        rt,
+        rt.alloc(),
+        &OpenGate,
+        test.component,
+        test.matrix,
+        &tree,
+        options,
+    )?;
+    Ok(show_report(rt.alloc(), &report)?)
+}
+
 /// `lineup check --spec`: component, matrix and specification.
 pub(crate) fn answer_check_against<X: AllocGlobal + Threads + Wait>(
     rt: &X,
@@ -62,11 +86,11 @@ pub(crate) fn answer_check_against<X: AllocGlobal + Threads + Wait>(
 {
     let (component, matrix, specification) = exactly_three(parts).ok_or(Refusal::Parts)?;
     let case = read_texts(rt.alloc(), component, matrix)?;
-    let (component, matrix) = (&case.component, &case.matrix);
-    let specification = read_given_spec(rt.alloc(), matrix, specification)?;
-    let tree = specification.tree();
-    let report = check_against(rt, rt.alloc(), &OpenGate, component, matrix, &tree, options)?;
-    Ok(show_report(rt.alloc(), &report)?)
+    let test = Test {
+        component: &case.component,
+        matrix: &case.matrix,
+    };
+    check_test_against(rt, test, options, specification)
 }
 
 /// The report of a test, on the calling thread.
@@ -95,6 +119,21 @@ pub(crate) fn answer_check_alone(
     check_test_alone(alloc, test, options)
 }
 
+/// The report of a test against a specification of this text, on the calling thread.
+fn check_test_against_alone(
+    alloc: Global,
+    test: Test<'_>,
+    options: Options,
+    specification: &[u8],
+) -> Result<Answer, Refusal>
+    ensures { ChecksAgainst test.entry options specification.now result }
+{
+    let specification = read_given_spec(alloc, test.matrix, specification)?;
+    let (tree, bound) = (specification.tree(), options.bound());
+    let report = check_one_against(alloc, test.component, test.matrix, &tree, bound)?;
+    Ok(show_report(alloc, &report)?)
+}
+
 /// `lineup check --spec` on the calling thread: component, matrix and specification.
 pub(crate) fn answer_check_against_alone(
     alloc: Global,
@@ -105,9 +144,9 @@ pub(crate) fn answer_check_against_alone(
 {
     let (component, matrix, specification) = exactly_three(parts).ok_or(Refusal::Parts)?;
     let case = read_texts(alloc, component, matrix)?;
-    let (component, matrix) = (&case.component, &case.matrix);
-    let specification = read_given_spec(alloc, matrix, specification)?;
-    let tree = specification.tree();
-    let report = check_one_against(alloc, component, matrix, &tree, options.bound())?;
-    Ok(show_report(alloc, &report)?)
+    let test = Test {
+        component: &case.component,
+        matrix: &case.matrix,
+    };
+    check_test_against_alone(alloc, test, options, specification)
 }
