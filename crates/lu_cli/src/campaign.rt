@@ -197,13 +197,26 @@ fn show_certificates(
     }
 }
 
+/// The answer that shows what certificates say, which are let go.
+fn answer_certificates(
+    alloc: Global,
+    component: &Component,
+    found: CertifiedCampaign,
+) -> Result<Answer, AllocError>
+    requires { IsCertifiedOf component.now found }
+    ensures { IfOk result (spec.ShowsCertified component.now found) }
+{
+    // For the proof: what is shown is let go at one exit.
+    show_certificates(alloc, component, &found)
+}
+
 /// What the certificates of the matrices with the numbers `from` to `upto - 1` say.
 fn certify_numbers(alloc: Global, roles: Roles<'_>, from: u64, upto: u64) -> Result<Answer, Refusal>
     requires { CanAsk (asked_of roles) }
     ensures { Answered (spec.IsCertifiedNumbers (asked_of roles.entry) from upto) result }
 {
     let found = certify_slice(alloc, roles, DEFAULT_NODES, from, upto)?;
-    Ok(show_certificates(alloc, roles.component, &found)?)
+    Ok(answer_certificates(alloc, roles.component, found)?)
 }
 
 /// How many matrices the campaign has.
@@ -238,13 +251,22 @@ fn certify_part(alloc: Global, roles: Roles<'_>, part: CampaignPart) -> Result<A
     }
 }
 
+/// The answer that shows a survey, which is let go.
+fn answer_survey(alloc: Global, component: &Component, survey: Survey) -> Result<Answer, AllocError>
+    requires { AreShownOf component.now survey }
+    ensures { IfOk result (spec.ShowsSurvey component.now survey) }
+{
+    // For the proof: what is shown is let go at one exit.
+    show_survey(alloc, component, &survey)
+}
+
 /// How many of the matrices with the numbers `from` to `upto - 1` have a certificate of each kind.
 fn survey_numbers(alloc: Global, roles: Roles<'_>, from: u64, upto: u64) -> Result<Answer, Refusal>
     requires { CanAsk (asked_of roles) }
     ensures { Answered (spec.IsSurveyedNumbers (asked_of roles.entry) from upto) result }
 {
     let survey = survey_slice(alloc, roles, DEFAULT_NODES, from, upto)?;
-    Ok(show_survey(alloc, roles.component, &survey)?)
+    Ok(answer_survey(alloc, roles.component, survey)?)
 }
 
 /// What is answered where all matrices are certified, whatever their certificates.
