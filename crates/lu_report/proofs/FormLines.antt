@@ -1,6 +1,6 @@
 -- The faults of the lines of a report, one line after the other.
-use Rattle.std.proofs.Common.{◌≡◌, ℕ, ◌+◌, ◌<◌, List, [], ◌∷◌, ◌++◌, length, take, drop, get_or, Option, Some, None, refl, sym, ap, subst, ◌∙◌, arith, inl, inr}
-use Rattle.std.specs.Prelude.{codes}
+use Rattle.std.proofs.Common.{◌≡◌, ℕ, ◌+◌, ◌<◌, List, [], ◌∷◌, ◌++◌, length, take, drop, get_or, Option, Some, None, add-one, suc, refl, sym, ap, subst, ◌∙◌, arith, inl, inr}
+use Rattle.std.specs.Prelude.{codes, slice_get}
 use Rattle.std.specs.List.{concat}
 use Rattle.std.specs.Option.{option_to_list}
 use Rattle.std.proofs.lemmas.List.{append_assoc}
@@ -20,11 +20,10 @@ use Rattle.lu_report.specs.declared.version.Version.{Version}
 use Rattle.lu_report.specs.declared.version.Version.TheVariants.{One, Two, Three}
 use Rattle.lu_report.specs.Parts.{IsThreadOf}
 use Rattle.lu_report.specs.Text.{fail_line, finding_lines, number_line, version_line, version_of}
-use Rattle.lu_report.specs.Forms.{AreBeforeLines, AreBounded, AreConflict, AreCountLines, AreCut, AreEarlier, AreFinding, AreJudgement, AreLocal, AreNone, AreReport, AreRun, AreStuck, IsLineThen, DiffersAt, IsNumberLine, IsVersionLine, Spells}
+use Rattle.lu_report.specs.Forms.{AreReport, DiffersAt, IsFaultLine, IsVersionLine, Spells}
 use Rattle.lu_report.specs.EveryLine.{AreFaultsFrom, AreReportFaults, IsFindingLine, IsJudgedAs, IsJudgementLine, IsLineOf, after_finding, fault_on, missing, next_form, next_wanted, version_by}
 use Rattle.lu_report.specs.Laws.{IsToldAsRead}
-use Rattle.lu_report.proofs.Faulty.{deeper}
-use Rattle.lu_report.proofs.Exits.{a_before, a_cut, a_finding, a_judgement, a_local, a_stuck, an_earlier, bounded_back, bounded_into, conflict_found, conflict_only, counts_found, cut_only, fail_only, no_schedule, nothing, pass_only, run_found, some_after}
+use Rattle.lu_report.proofs.PartLines.{AreBeforeLines, AreBounded, AreConflict, AreCountLines, AreCut, AreEarlier, AreFinding, AreJudgement, AreLocal, AreNone, AreRun, AreStuck, IsLineThen, a_before, a_cut, a_finding, a_judgement, a_local, a_stuck, an_earlier, bounded_back, bounded_into, conflict_found, conflict_only, counts_found, cut_only, fail_only, no_schedule, nothing, pass_only, run_found, some_after}
 use Rattle.lu_report.proofs.OneText.{report_again}
 
 -- ---- the lines from one of a form on
@@ -35,11 +34,11 @@ after_serial Two lines = AreLocal lines
 after_serial Three lines = AreLocal lines
 
 abbrev AreOf : Version → LineForm → List (List ℕ) → Type 0
-AreOf v form.Version lines = IsLineThen IsVersionLine (AreBounded v) lines
+AreOf v form.Version lines = IsLineThen (IsLineOf form.Version) (AreBounded v) lines
 AreOf v form.Bound lines = AreBounded v lines
-AreOf v form.Serial lines = IsLineThen (IsNumberLine (codes "serial ") 1 256) (after_serial v) lines
+AreOf v form.Serial lines = IsLineThen (IsLineOf form.Serial) (after_serial v) lines
 AreOf v form.Local lines = AreLocal lines
-AreOf v form.AnyLocal lines = IsLineThen (IsNumberLine (codes "local ") 0 16) AreJudgement lines
+AreOf v form.AnyLocal lines = IsLineThen (IsLineOf form.AnyLocal) AreJudgement lines
 AreOf v form.Finding lines = AreFinding lines
 AreOf v form.Judgement lines = AreJudgement lines
 AreOf v form.Schedule lines = AreRun lines
@@ -65,17 +64,23 @@ record IsStep (v : Version) (wanted : LineForm) : Type 0 where
 
 -- ---- findings
 
+no_finding : (f : Finding) → [] ≡ finding_lines f → ⊥
+no_finding (SerialCut u) e = cc
+no_finding (Nondeterministic u before earlier) e = cc
+no_finding (Fail u w) e = cc
+no_finding (Pass counts) e = cc
+
 judgement_head : (line : List ℕ) (t : List (List ℕ)) → AreJudgement (line ∷ t) → IsJudgementLine line
-judgement_head line t (SerialCut u, is, e) = absurd is.1
-judgement_head line t (Nondeterministic u before earlier, is, e) = absurd is.1
-judgement_head line t (Fail u w, is, e) = inr (w, is.0.0, cc)
-judgement_head line t (Pass counts, is, e) = inl cc
+judgement_head line t (SerialCut u, (is, e)) = absurd is.1
+judgement_head line t (Nondeterministic u before earlier, (is, e)) = absurd is.1
+judgement_head line t (Fail u w, (is, e)) = inr (w, (is.0.0, cc))
+judgement_head line t (Pass counts, (is, e)) = inl cc
 
 finding_head : (line : List ℕ) (t : List (List ℕ)) → AreFinding (line ∷ t) → IsFindingLine line
-finding_head line t (SerialCut u, is, e) = inl cc
-finding_head line t (Nondeterministic u before earlier, is, e) = inr (inl cc)
-finding_head line t (Fail u w, is, e) = inr (inr (inr (w, is.0, cc)))
-finding_head line t (Pass counts, is, e) = inr (inr (inl cc))
+finding_head line t (SerialCut u, (is, e)) = inl cc
+finding_head line t (Nondeterministic u before earlier, (is, e)) = inr (inl cc)
+finding_head line t (Fail u w, (is, e)) = inr (inr (inr (w, (is.0, cc))))
+finding_head line t (Pass counts, (is, e)) = inr (inr (inl cc))
 
 after_fail : (w : Why) → after_finding (fail_line w) ≡ Some form.Schedule
 after_fail why.Complete = refl
@@ -86,66 +91,66 @@ module _ (v : Version) where
   unfold_pass = record {
     next = form.Complete;
     is = refl;
-    into = λ t are. let c = counts_found t are in (Pass c.0, ((tt, c.1), tt), ap (λ (x : List (List ℕ)). codes "pass\n" ∷ x) c.2);
-    back = λ t are. pass_only t are.0 are.1.0 are.2;
+    into = λ t are. let c = counts_found t are in (Pass c.0, (((tt, c.1), tt), ap (λ (x : List (List ℕ)). codes "pass\n" ∷ x) c.2));
+    back = λ t are. pass_only t are.0 are.1.0.0 are.1.1;
   }
 
   unfold_fail : (w : Why) → IsThreadOf w → GoesOn v form.Judgement (fail_line w)
   unfold_fail w is = record {
     next = form.Schedule;
     is = after_fail w;
-    into = λ t are. let c = run_found t are in (Fail c.0 w, ((is, c.1), tt), ap (λ (x : List (List ℕ)). fail_line w ∷ x) c.2);
-    back = λ t are. fail_only w t are.0 are.1.0 are.2;
+    into = λ t are. let c = run_found t are in (Fail c.0 w, (((is, c.1), tt), ap (λ (x : List (List ℕ)). fail_line w ∷ x) c.2));
+    back = λ t are. fail_only w t are.0 are.1.0.0 are.1.1;
   }
 
   judgement_on : (line : List ℕ) → IsJudgementLine line → GoesOn v form.Judgement line
   judgement_on line (inl is) = subst (GoesOn v form.Judgement) (sym is) unfold_pass
-  judgement_on line (inr (w, thread, is)) = subst (GoesOn v form.Judgement) (sym is) (unfold_fail w thread)
+  judgement_on line (inr (w, (thread, is))) = subst (GoesOn v form.Judgement) (sym is) (unfold_fail w thread)
 
   find_cut : GoesOn v form.Finding (codes "serial-cut\n")
   find_cut = record {
     next = form.Schedule;
     is = refl;
-    into = λ t are. let c = run_found t are in (SerialCut c.0, (tt, c.1), ap (λ (x : List (List ℕ)). codes "serial-cut\n" ∷ x) c.2);
-    back = λ t are. cut_only t are.0 are.1 are.2;
+    into = λ t are. let c = run_found t are in (SerialCut c.0, ((tt, c.1), ap (λ (x : List (List ℕ)). codes "serial-cut\n" ∷ x) c.2));
+    back = λ t are. cut_only t are.0 are.1.0 are.1.1;
   }
 
   find_conflict : GoesOn v form.Finding (codes "nondeterministic\n")
   find_conflict = record {
     next = form.ConflictSchedule;
     is = refl;
-    into = λ t are. let c = conflict_found t are in (Nondeterministic c.0 c.1 c.2, (c.4, (c.3, c.5)), ap (λ (x : List (List ℕ)). codes "nondeterministic\n" ∷ x) c.6);
-    back = λ t are. conflict_only t are.0 are.1 are.2;
+    into = λ t are. let c = conflict_found t are in (Nondeterministic c.0 c.1 c.2, ((c.4, (c.3, c.5)), ap (λ (x : List (List ℕ)). codes "nondeterministic\n" ∷ x) c.6));
+    back = λ t are. conflict_only t are.0 are.1.0 are.1.1;
   }
 
   find_pass : GoesOn v form.Finding (codes "pass\n")
   find_pass = record {
     next = form.Complete;
     is = refl;
-    into = λ t are. let c = counts_found t are in (Pass c.0, (tt, c.1), ap (λ (x : List (List ℕ)). codes "pass\n" ∷ x) c.2);
-    back = λ t are. pass_only t are.0 are.1 are.2;
+    into = λ t are. let c = counts_found t are in (Pass c.0, ((tt, c.1), ap (λ (x : List (List ℕ)). codes "pass\n" ∷ x) c.2));
+    back = λ t are. pass_only t are.0 are.1.0 are.1.1;
   }
 
   find_fail : (w : Why) → IsThreadOf w → GoesOn v form.Finding (fail_line w)
   find_fail w is = record {
     next = form.Schedule;
     is = after_fail w;
-    into = λ t are. let c = run_found t are in (Fail c.0 w, (is, c.1), ap (λ (x : List (List ℕ)). fail_line w ∷ x) c.2);
-    back = λ t are. fail_only w t are.0 are.1 are.2;
+    into = λ t are. let c = run_found t are in (Fail c.0 w, ((is, c.1), ap (λ (x : List (List ℕ)). fail_line w ∷ x) c.2));
+    back = λ t are. fail_only w t are.0 are.1.0 are.1.1;
   }
 
   finding_on : (line : List ℕ) → IsFindingLine line → GoesOn v form.Finding line
   finding_on line (inl is) = subst (GoesOn v form.Finding) (sym is) find_cut
   finding_on line (inr (inl is)) = subst (GoesOn v form.Finding) (sym is) find_conflict
   finding_on line (inr (inr (inl is))) = subst (GoesOn v form.Finding) (sym is) find_pass
-  finding_on line (inr (inr (inr (w, thread, is)))) = subst (GoesOn v form.Finding) (sym is) (find_fail w thread)
+  finding_on line (inr (inr (inr (w, (thread, is))))) = subst (GoesOn v form.Finding) (sym is) (find_fail w thread)
 
 -- ---- each form
 
 some_serial : (v : Version) → (t : List (List ℕ)) × AreOf v form.Serial t
-some_serial One = (number_line (codes "serial ") 1 ∷ a_finding.0, ((1, omega arith, omega arith, refl), a_finding.1))
-some_serial Two = (number_line (codes "serial ") 1 ∷ a_local.0, ((1, omega arith, omega arith, refl), a_local.1))
-some_serial Three = (number_line (codes "serial ") 1 ∷ a_local.0, ((1, omega arith, omega arith, refl), a_local.1))
+some_serial One = (number_line (codes "serial ") 1 ∷ a_finding.0, ((1, (omega arith, omega arith, refl)), a_finding.1))
+some_serial Two = (number_line (codes "serial ") 1 ∷ a_local.0, ((1, (omega arith, omega arith, refl)), a_local.1))
+some_serial Three = (number_line (codes "serial ") 1 ∷ a_local.0, ((1, (omega arith, omega arith, refl)), a_local.1))
 
 bound_on : (v : Version) (line : List ℕ) → IsLineOf form.Bound line → GoesOn v form.Bound line
 bound_on One line is = record { next = form.Serial; is = refl; into = λ t are. (is, are); back = λ t are. are.1 }
@@ -158,7 +163,7 @@ serial_on Two line is = record { next = form.Local; is = refl; into = λ t are. 
 serial_on Three line is = record { next = form.Local; is = refl; into = λ t are. (is, are); back = λ t are. are.1 }
 
 some_bounded : (v : Version) → (t : List (List ℕ)) × AreBounded v t
-some_bounded v = (number_line (codes "bound ") 0 ∷ (some_after v).0, ((0, omega arith, omega arith, refl), (some_after v).1))
+some_bounded v = (number_line (codes "bound ") 0 ∷ (some_after v).0, ((0, (omega arith, omega arith, refl)), (some_after v).1))
 
 step : (v : Version) (wanted : LineForm) → IsStep v wanted
 step v form.Version = record {
@@ -174,7 +179,7 @@ step v form.Local = record {
   on = λ line is. record { next = form.Finding; is = refl; into = λ t are. (is, are); back = λ t are. are.1 };
 }
 step v form.AnyLocal = record {
-  some = (number_line (codes "local ") 0 ∷ a_judgement.0, ((0, omega arith, omega arith, refl), a_judgement.1));
+  some = (number_line (codes "local ") 0 ∷ a_judgement.0, ((0, (omega arith, omega arith, refl)), a_judgement.1));
   head = λ line t are. are.0;
   on = λ line is. record { next = form.Judgement; is = refl; into = λ t are. (is, are); back = λ t are. are.1 };
 }
@@ -201,7 +206,7 @@ step v form.Earlier = record {
   on = λ line is. record { next = form.End; is = refl; into = λ t are. (is, are); back = λ t are. are.1 };
 }
 step v form.Complete = record {
-  some = (number_line (codes "complete ") 0 ∷ a_stuck.0, ((0, omega arith, omega arith, refl), a_stuck.1));
+  some = (number_line (codes "complete ") 0 ∷ a_stuck.0, ((0, (omega arith, omega arith, refl)), a_stuck.1));
   head = λ line t are. are.0;
   on = λ line is. record { next = form.Stuck; is = refl; into = λ t are. (is, are); back = λ t are. are.1 };
 }
@@ -242,20 +247,8 @@ at_end v n form.Bound = (0, omega arith, here _ [] (step v form.Bound).some (no_
 at_end v n form.Serial = (0, omega arith, here _ [] (step v form.Serial).some (no_more _ (λ are. are)))
 at_end v n form.Local = (0, omega arith, here _ [] (step v form.Local).some (no_more _ (λ are. are)))
 at_end v n form.AnyLocal = (0, omega arith, here _ [] (step v form.AnyLocal).some (no_more _ (λ are. are)))
-at_end v n form.Finding = (0, omega arith, here AreFinding [] a_finding (no_more AreFinding (λ are. no_finding are.0 are.2)))
-  where
-    no_finding : (f : Finding) → [] ≡ finding_lines f → ⊥
-    no_finding (SerialCut u) e = cc
-    no_finding (Nondeterministic u before earlier) e = cc
-    no_finding (Fail u w) e = cc
-    no_finding (Pass counts) e = cc
-at_end v n form.Judgement = (0, omega arith, here AreJudgement [] a_judgement (no_more AreJudgement (λ are. no_finding are.0 are.2)))
-  where
-    no_finding : (f : Finding) → [] ≡ finding_lines f → ⊥
-    no_finding (SerialCut u) e = cc
-    no_finding (Nondeterministic u before earlier) e = cc
-    no_finding (Fail u w) e = cc
-    no_finding (Pass counts) e = cc
+at_end v n form.Finding = (0, omega arith, here AreFinding [] a_finding (no_more AreFinding (λ are. no_finding are.0 are.1.1)))
+at_end v n form.Judgement = (0, omega arith, here AreJudgement [] a_judgement (no_more AreJudgement (λ are. no_finding are.0 are.1.1)))
 at_end v n form.Schedule = (0, omega arith, here _ [] (step v form.Schedule).some (no_more _ (λ are. are)))
 at_end v n form.ConflictSchedule = (0, omega arith, here _ [] (step v form.ConflictSchedule).some (no_more _ (λ are. are)))
 at_end v n form.Before = (0, omega arith, here _ [] (step v form.Before).some (no_more _ (λ are. are)))
@@ -264,6 +257,20 @@ at_end v n form.Complete = (0, omega arith, here _ [] (step v form.Complete).som
 at_end v n form.Stuck = (0, omega arith, here _ [] (step v form.Stuck).some (no_more _ (λ are. are)))
 at_end v n form.Cut = (0, omega arith, here _ [] (step v form.Cut).some (no_more _ (λ are. are)))
 at_end v n form.End = refl
+
+-- one line further on
+deeper : (Texts : List (List ℕ) → Type 0) (line : List ℕ) (lines : List (List ℕ)) (n : ℕ) → DiffersAt (λ t. Texts (line ∷ t)) lines n → DiffersAt Texts (line ∷ lines) (n + 1)
+deeper Texts line lines n d = record {
+  before = (line ∷ d.before.0, d.before.1, rw (add-one n) (ap (λ (x : List (List ℕ)). line ∷ x) d.before.2));
+  there = λ other is e. later other is (rw (add-one (n + 1)) at e);
+}
+  where
+    later : (other : List (List ℕ)) → Texts other → take (suc (n + 1)) other ≡ take (suc (n + 1)) (line ∷ lines) → ⊥
+    later [] is e = absurd cc
+    later (x ∷ other) is e =
+        let same : x ≡ line = cc in
+        let rest : take (n + 1) other ≡ take (n + 1) lines = cc in
+        d.there other (subst (λ (y : List ℕ). Texts (y ∷ other)) same is) rest
 
 -- after a line that these texts have
 after_line : (Texts Tails : List (List ℕ) → Type 0) (n : ℕ) (line : List ℕ) (lines : List (List ℕ)) (faults : List ReportLineFault) → ((t : List (List ℕ)) → Tails t → Texts (line ∷ t)) → ((t : List (List ℕ)) → Texts (line ∷ t) → Tails t)
@@ -303,11 +310,11 @@ a_report : (t : List (List ℕ)) × AreReport t
 a_report = (version_line One ∷ (some_bounded One).0, bounded_into One (some_bounded One).0 (some_bounded One).1)
 
 report_head : (line : List ℕ) (t : List (List ℕ)) → AreReport (line ∷ t) → IsVersionLine line
-report_head line t (r, limits, sound, is) = (version_of r.serial r.local, cc)
+report_head line t (r, (limits, sound, is)) = (version_of r.serial r.local, cc)
 
 told_lines : (lines : List (List ℕ)) (faults : List ReportLineFault) → AreReportFaults lines faults → Told AreReport 1 lines faults
 told_lines [] faults is =
-    let missed : Told AreReport 1 [] (fault_on 1 form.Version ∷ []) = (0, refl, here AreReport [] a_report (no_more AreReport (λ are. let e = are.3 in cc))) in
+    let missed : Told AreReport 1 [] (fault_on 1 form.Version ∷ []) = (0, refl, here AreReport [] a_report (no_more AreReport (λ are. let e = are.1.2 in cc))) in
     subst (Told AreReport 1 []) (sym is) missed
 told_lines (first ∷ lines) faults (fault, others, judged, from, is) = subst (Told AreReport 1 (first ∷ lines)) (sym is) (by_fault fault judged)
   where
@@ -321,11 +328,23 @@ told_lines (first ∷ lines) faults (fault, others, judged, from, is) = subst (T
         let number : f.line ≡ 1 = ap (λ (x : ReportLineFault). x.line) here_is in
         (0, omega (arith, number), here AreReport (first ∷ lines) a_report (other_head AreReport first lines (λ t are. wrong (report_head first t are))))
 
+-- the first of the faults is on the line of the fault
+pub first_fault : (lines : List (List ℕ)) (faults : List ReportLineFault) (first : ReportLineFault) → AreReportFaults lines faults → Some first ≡ slice_get faults 0 → IsFaultLine lines first.line
+first_fault lines [] first are is = absurd cc
+first_fault lines (fault ∷ others) first are is =
+    let same : first ≡ fault = cc in
+    subst (λ (x : ReportLineFault). IsFaultLine lines x.line) (sym same) (told_lines lines (fault ∷ others) are)
+
+-- where there is none, the lines are a report
+pub no_first_fault : (lines : List (List ℕ)) (faults : List ReportLineFault) (line : ℕ) → AreReportFaults lines faults → None ≡ slice_get faults 0 → (AreReport lines → ⊥) → IsFaultLine lines line
+no_first_fault lines [] line are is none = absurd (none (told_lines lines [] are))
+no_first_fault lines (fault ∷ others) line are is none = absurd cc
+
 pub told_as_read : (text : List ℕ) (faults : List ReportLineFault) → AreReportFaults (kept_lines text) faults → IsToldAsRead text faults
 told_as_read text faults are = by_faults faults (told_lines (kept_lines text) faults are)
   where
     by_faults : (faults : List ReportLineFault) → Told AreReport 1 (kept_lines text) faults → IsToldAsRead text faults
-    by_faults [] (r, limits, sound, is) = (r, (limits, sound, sym (joined_lines text) ∙ ap concat is))
+    by_faults [] (r, (limits, sound, is)) = (r, (limits, sound, sym (joined_lines text) ∙ ap concat is))
     by_faults (first ∷ others) told = told
 
 -- nothing is told of a text that is read
@@ -333,12 +352,12 @@ pub none_told : (text : List ℕ) (r : Report) (faults : List ReportLineFault) �
 none_told text r [] spells are = refl
 none_told text r (first ∷ others) spells are =
     let fault = told_as_read text (first ∷ others) are in
-    let report : AreReport (kept_lines text) = (r, spells.0, spells.1, ap kept_lines spells.2 ∙ report_again r spells.0 spells.1) in
+    let report : AreReport (kept_lines text) = (r, (spells.0, spells.1, ap kept_lines spells.2 ∙ report_again r spells.0 spells.1)) in
     absurd (fault.2.there (kept_lines text) report refl)
 
 -- ---- line after line
 
--- the faults of the lines before place i are found, and those of all lines are these and those of the others
+-- the faults of the lines before line number i are found, and those of all lines are these and those of the others
 pub record AreJudgedTo (version : Version) (lines : List (Bor (List ℕ))) (wanted : Option LineForm) (i : ℕ) (found : List ReportLineFault) : Type 0 where
   pub behind : (others : List ReportLineFault) → AreFaultsFrom version (i + 1) (drop i (texts lines)) wanted others → AreFaultsFrom version 1 (texts lines) (Some form.Version) (found ++ others)
 

@@ -1,8 +1,8 @@
 pub mod Texts
 pub mod Numbers
 pub mod Outcomes
-pub mod Faulty
-pub mod Exits
+pub mod PartLines
 pub mod OneText
 pub mod FormLines
 pub mod LineTests
+pub mod Reading

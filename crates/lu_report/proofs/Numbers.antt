@@ -1,6 +1,6 @@
 -- Lines that end with a number.
 use Rattle.std.proofs.Common.{◌≡◌, ℕ, ◌+◌, ◌<◌, ◌≤◌, ◌^◌, List, ◌++◌, Option, Some, None, true, false, refl, sym, ◌∙◌, ap, subst, arith}
-use Rattle.std.specs.Prelude.{Bool, cond, nat_lt, codes, IfNone, IfSome, IfErr, IfOk, Result, Ok, Err}
+use Rattle.std.specs.Prelude.{Bool, cond, nat_lt, codes, IfNone, IfSome}
 use Rattle.std.specs.Fmt.{decimal}
 use Rattle.std.proofs.lemmas.Bool.{lt-ltb, ltb-true}
 use Rattle.std.proofs.lemmas.List.{append_assoc, append_cancel_left, append_cancel_right}
@@ -33,10 +33,6 @@ module _ (line front p : List ℕ) (same : p ≡ front) where
     behind : (n : ℕ) → line ≡ number_line front n → rest ≡ decimal n ++ codes "\n"
     behind n e = append_cancel_left p rest (decimal n ++ codes "\n") (sym begins ∙ whole n e)
 
-    -- the line does not end with LF
-    pub no_end : ((word : List ℕ) → rest ≡ word ++ codes "\n" → ⊥) → (n : ℕ) → line ≡ number_line front n → ⊥
-    no_end none n e = none (decimal n) (behind n e)
-
     module _ (word : List ℕ) (ends : rest ≡ word ++ codes "\n") where
       is_word : (n : ℕ) → line ≡ number_line front n → word ≡ decimal n
       is_word n e = append_cancel_right word (decimal n) (codes "\n") (sym ends ∙ behind n e)
@@ -64,11 +60,3 @@ module _ (line front p : List ℕ) (same : p ≡ front) where
       pub not_said : (most : ℕ) (o : Option ℕ) → most < 2 ^ 64 → o ≡ below (most + 1) (number_in word) → IfNone o ((n : ℕ) → n ≤ most → line ≡ number_line front n → ⊥)
       not_said most None small is = λ n few e. let f = again (most + 1) n (omega arith) (omega arith) e in cc
       not_said most (Some n) small is = tt
-
-pub err_weaker : {A E : Type 0} (r : Result A E) (P Q : E → Type 0) → ((e : E) → P e → Q e) → IfErr r P → IfErr r Q
-err_weaker (Ok x) P Q h p = p
-err_weaker (Err e) P Q h p = h e p
-
-pub ok_weaker : {A E : Type 0} (r : Result A E) (P Q : A → Type 0) → ((x : A) → P x → Q x) → IfOk r P → IfOk r Q
-ok_weaker (Ok x) P Q h p = h x p
-ok_weaker (Err e) P Q h p = p

@@ -33,7 +33,7 @@ use Rattle.lu_report.specs.Text.{number_line, earlier_line, fail_line, finding_l
 use Rattle.lu_text.specs.Lines.{kept_lines}
 use Rattle.lu_history.specs.Serial.{IsOutcome}
 use Rattle.lu_report.specs.Forms.{IsSoundFinding, IsFault, GivesReport, Spells}
-use Rattle.lu_report.proofs.Exits.{byte_at, clash, fail_byte, same_number, version_same}
+use Rattle.lu_report.proofs.PartLines.{byte_at, clash, fail_byte, same_number, version_same}
 
 -- ---- the lines of a report's text are its lines
 
@@ -264,4 +264,4 @@ pub text_read : (text : List ℕ) (result : Result Report (Fault ReportFaultKind
 text_read text (Ok x) found fault r is = one_spelt text x r found is
 text_read text (Err Memory) found fault r is = refl
 text_read text (Err (At Form line)) found fault r is =
-    absurd (fault.2.there (report_lines r) (r, is.0, is.1, refl) (ap (take (fault.0 + 1)) (sym (ap kept_lines is.2 ∙ report_again r is.0 is.1))))
+    absurd (fault.2.there (report_lines r) (r, (is.0, is.1, refl)) (ap (take (fault.0 + 1)) (sym (ap kept_lines is.2 ∙ report_again r is.0 is.1))))

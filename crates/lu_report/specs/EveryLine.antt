@@ -83,9 +83,9 @@ abbrev pub next_wanted : Version → Option LineForm → List ℕ → Option Lin
 next_wanted version None line = None
 next_wanted version (Some wanted) line = next_form version wanted line
 
--- so many lines before it, a line is there and begins with these bytes
+-- this many lines before it, a line is there and begins with these bytes
 abbrev pub has_at : ℕ → List ℕ → List (List ℕ) → Bool
-has_at n front lines = option_map_or (begins front) (slice_get lines n) false
+has_at position front lines = option_map_or (begins front) (slice_get lines position) false
 
 -- the version that the first line says; else the one that the lines `local` show
 abbrev pub version_by : List (List ℕ) → Version

@@ -20,11 +20,11 @@ pub struct ReportLineFault {
     pub line: usize,
 }
 
-/// Whether a line is there, so many lines before it, and begins with these bytes.
-fn has_at(lines: &[&[u8]], place: usize, front: &str) -> bool
-    ensures { result ≡ spec.has_at place front.now (texts lines.now) }
+/// Whether a line is there, this many lines before it, and begins with these bytes.
+fn has_at(lines: &[&[u8]], position: usize, front: &str) -> bool
+    ensures { result ≡ spec.has_at position front.now (texts lines.now) }
 {
-    match lines.get(place) {
+    match lines.get(position) {
         None => false,
         Some(line) => begins(line, front),
     }
@@ -118,7 +118,7 @@ fn with_fault(
 /// where line 3 begins with `local`, of version 2 where line 4 does, and else of version 1. After
 /// a finding's line with a fault the next is known by the first word of that line; where that is
 /// none of a finding, no further line is judged. Of the lines after the last one the first alone
-/// is told.
+/// is reported.
 ///
 /// # Errors
 ///
@@ -129,13 +129,10 @@ pub fn report_faults(alloc: Global, lines: &[&[u8]]) -> Result<Vec<ReportLineFau
     let version = version_by(lines);
     let mut faults = Vec::new(alloc);
     let mut form = Some(LineForm::Version);
-    for (place, line) in lines.iter().enumerate() {
-        let fault = judge_line(alloc, form, line, place + 1)?;
+    for (position, line) in lines.iter().enumerate() {
+        let fault = judge_line(alloc, form, line, position + 1)?;
         faults = with_fault(faults, fault)?;
         form = next_wanted(version, form, line);
     }
-    let fault = missing(form, lines.len() + 1);
-    // For the proof: what this returns is looked at before it is returned.
-    let faults = with_fault(faults, fault)?;
-    Ok(faults)
+    with_fault(faults, missing(form, lines.len() + 1))
 }

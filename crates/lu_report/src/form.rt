@@ -5,10 +5,11 @@ ghost use Rattle.lu_report.specs.EveryLine as spec;
 ghost use Rattle.lu_report.specs.EveryLine.{IsFindingLine, IsJudgementLine, IsLineOf};
 ghost use Rattle.lu_report.specs.Forms.{IsEarlierLine, IsFailLine, IsNumberLine, IsScheduleLine, IsVersionLine};
 
-use crate::line::{earlier_in, is_line, number_after, version_in, why_in};
+use crate::line::{earlier_in, is_line, number_within, schedule_in, version_in, why_in};
 use crate::version::Version;
+use lu_component::MOST_LOCAL;
 use lu_machine::MOST_MOVES;
-use lu_test::{ScheduleFault, read_schedule};
+use lu_test::MOST_CALLS;
 use std::alloc::{AllocError, Global};
 
 /// What a line of a report is to be, as the lines before it say.
@@ -60,18 +61,21 @@ pub enum LineForm {
     End,
 }
 
+#[tactic(auto, using(crate::proofs::LineTests::tells))]
 fn is_version(line: &[u8]) -> bool
     ensures { IsTrue result ↔ IsVersionLine line.now }
 {
     version_in(line).is_some()
 }
 
+#[tactic(auto, using(crate::proofs::LineTests::tells))]
 fn is_earlier(line: &[u8]) -> bool
     ensures { IsTrue result ↔ IsEarlierLine line.now }
 {
     earlier_in(line).is_some()
 }
 
+#[tactic(auto, using(crate::proofs::LineTests::tells))]
 fn is_fail(line: &[u8]) -> bool
     ensures { IsTrue result ↔ IsFailLine line.now }
 {
@@ -79,13 +83,11 @@ fn is_fail(line: &[u8]) -> bool
 }
 
 /// Whether a line has a number within these limits after this front.
+#[tactic(auto, using(crate::proofs::LineTests::tells))]
 fn is_number(line: &[u8], front: &str, least: u64, most: u64) -> bool
     ensures { IsTrue result ↔ IsNumberLine front.now least most line.now }
 {
-    match number_after(line, front, most) {
-        None => false,
-        Some(number) => least <= number,
-    }
+    number_within(line, front, least, most).is_some()
 }
 
 fn is_judgement(line: &[u8]) -> bool
@@ -100,16 +102,11 @@ fn is_finding(line: &[u8]) -> bool
     is_line(line, "serial-cut\n") || is_line(line, "nondeterministic\n") || is_judgement(line)
 }
 
+#[tactic(auto, using(crate::proofs::LineTests::tells))]
 fn is_schedule(alloc: Global, line: &[u8]) -> Result<bool, AllocError>
     ensures { IfOk result (λ right. IsTrue right ↔ IsScheduleLine line.now) }
 {
-    match read_schedule(alloc, line) {
-        Ok(_) => Ok(true),
-        Err(ScheduleFault::Memory) => Err(AllocError),
-        Err(ScheduleFault::Form) => Ok(false),
-        Err(ScheduleFault::Number) => Ok(false),
-        Err(ScheduleFault::Limit) => Ok(false),
-    }
+    Ok(schedule_in(alloc, line)?.is_some())
 }
 
 /// Whether a line is of this form.
@@ -120,13 +117,13 @@ pub(crate) fn is_right(alloc: Global, form: LineForm, line: &[u8]) -> Result<boo
         LineForm::Version => Ok(is_version(line)),
         LineForm::Bound => Ok(is_number(line, "bound ", 0, MOST_MOVES as u64)),
         LineForm::Serial => Ok(is_number(line, "serial ", 1, MOST_MOVES as u64)),
-        LineForm::Local => Ok(is_number(line, "local ", 1, 16)),
-        LineForm::AnyLocal => Ok(is_number(line, "local ", 0, 16)),
+        LineForm::Local => Ok(is_number(line, "local ", 1, MOST_LOCAL as u64)),
+        LineForm::AnyLocal => Ok(is_number(line, "local ", 0, MOST_LOCAL as u64)),
         LineForm::Finding => Ok(is_finding(line)),
         LineForm::Judgement => Ok(is_judgement(line)),
         LineForm::Schedule => is_schedule(alloc, line),
         LineForm::ConflictSchedule => is_schedule(alloc, line),
-        LineForm::Before => Ok(is_number(line, "before ", 0, 15)),
+        LineForm::Before => Ok(is_number(line, "before ", 0, MOST_CALLS as u64 - 1)),
         LineForm::Earlier => Ok(is_earlier(line)),
         LineForm::Complete => Ok(is_number(line, "complete ", 0, u64::MAX)),
         LineForm::Stuck => Ok(is_number(line, "stuck ", 0, u64::MAX)),

@@ -1,18 +1,15 @@
 //! The lines of reports.
 
-ghost use Rattle.std.specs.Prelude.{◌≡◌, ◌≤◌, ℕ, IfSome, IfNone, IsTrue, ◌↔◌};
-ghost use Rattle.lu_history.specs.declared.serial.SerialOutcome.{SerialOutcome};
-ghost use Rattle.lu_witness.specs.declared.judgement.Why.{Why};
-ghost use Rattle.lu_report.specs.declared.version.Version.{Version as AVersion};
-ghost use Rattle.lu_report.specs.Parts.{IsThreadOf};
-ghost use Rattle.lu_report.specs.Text as spec;
-ghost use Rattle.lu_report.specs.Text.{fail_line, number_line};
-ghost use Rattle.lu_report.specs.Forms.{SaysEarlier};
+ghost use Rattle.std.specs.Prelude.{◌≡◌, ◌≤◌, ℕ, IfNone, IfOk, IfSome, IsTrue, ◌↔◌};
+ghost use Rattle.lu_report.specs.Text.{number_line};
+ghost use Rattle.lu_report.specs.Forms.{Reads, SaysEarlier, SaysFail, SaysNumber, SaysSchedule, SaysVersion};
 
 use crate::version::Version;
 use lu_history::SerialOutcome;
+use lu_test::{MOST_THREADS, Schedule, ScheduleFault, read_schedule};
 use lu_text::number_up_to;
 use lu_witness::Why;
+use std::alloc::{AllocError, Global};
 
 /// Whether the line is this one.
 pub(crate) fn is_line(line: &[u8], text: &str) -> bool
@@ -23,9 +20,7 @@ pub(crate) fn is_line(line: &[u8], text: &str) -> bool
 
 /// The version that the first line of a report says.
 pub(crate) fn version_in(line: &[u8]) -> Option<Version>
-    ensures some { IfSome result (λ version. line.now ≡ spec.version_line version) }
-    ensures none { IfNone result ((version : AVersion) →
-        line.now ≡ spec.version_line version → ⊥) }
+    ensures { Reads (SaysVersion line.now) result }
 {
     if is_line(line, "lineup report 1\n") {
         return Some(Version::One);
@@ -40,7 +35,7 @@ pub(crate) fn version_in(line: &[u8]) -> Option<Version>
 }
 
 /// The number of a line that has one of at most `most` after this front.
-pub(crate) fn number_after(line: &[u8], front: &str, most: u64) -> Option<u64>
+fn number_after(line: &[u8], front: &str, most: u64) -> Option<u64>
     ensures some { IfSome result (λ n. (n ≤ most) × (line.now ≡ number_line front.now n)) }
     ensures none { IfNone result ((n : ℕ) →
         n ≤ most → line.now ≡ number_line front.now n → ⊥) }
@@ -49,11 +44,33 @@ pub(crate) fn number_after(line: &[u8], front: &str, most: u64) -> Option<u64>
     number_up_to(word, most)
 }
 
+/// The number of a line that has one within these limits after this front.
+pub(crate) fn number_within(line: &[u8], front: &str, least: u64, most: u64) -> Option<u64>
+    ensures { Reads (SaysNumber front.now least most line.now) result }
+{
+    let number = number_after(line, front, most)?;
+    if number < least {
+        return None;
+    }
+    Some(number)
+}
+
+/// The schedule that a line says.
+pub(crate) fn schedule_in(alloc: Global, line: &[u8]) -> Result<Option<Schedule>, AllocError>
+    ensures { IfOk result (Reads (SaysSchedule line.now)) }
+{
+    match read_schedule(alloc, line) {
+        Ok(schedule) => Ok(Some(schedule)),
+        Err(ScheduleFault::Memory) => Err(AllocError),
+        Err(ScheduleFault::Form) => Ok(None),
+        Err(ScheduleFault::Number) => Ok(None),
+        Err(ScheduleFault::Limit) => Ok(None),
+    }
+}
+
 /// The outcome that a line `earlier ..` says.
 pub(crate) fn earlier_in(line: &[u8]) -> Option<SerialOutcome>
-    ensures some { IfSome result (SaysEarlier line.now) }
-    ensures none { IfNone result ((earlier : SerialOutcome) →
-        SaysEarlier line.now earlier → ⊥) }
+    ensures { Reads (SaysEarlier line.now) result }
 {
     if is_line(line, "earlier trap\n") {
         return Some(SerialOutcome::Trap);
@@ -61,19 +78,17 @@ pub(crate) fn earlier_in(line: &[u8]) -> Option<SerialOutcome>
     if is_line(line, "earlier stuck\n") {
         return Some(SerialOutcome::Stuck);
     }
-    let number = number_after(line, "earlier ret ", 4_294_967_295)?;
+    let number = number_after(line, "earlier ret ", u32::MAX as u64)?;
     Some(SerialOutcome::Ret(number as u32))
 }
 
 /// The reason that a line `fail ..` says.
 pub(crate) fn why_in(line: &[u8]) -> Option<Why>
-    ensures some { IfSome result (λ why. IsThreadOf why × (line.now ≡ fail_line why)) }
-    ensures none { IfNone result ((why : Why) →
-        IsThreadOf why → line.now ≡ fail_line why → ⊥) }
+    ensures { Reads (SaysFail line.now) result }
 {
     if is_line(line, "fail complete\n") {
         return Some(Why::Complete);
     }
-    let thread = number_after(line, "fail stuck ", 7)?;
+    let thread = number_after(line, "fail stuck ", MOST_THREADS as u64 - 1)?;
     Some(Why::Stuck(thread as u8))
 }

@@ -122,7 +122,7 @@ fn put_local(text: &mut String, version: Version, local: u8) -> Result<(), Alloc
 ///
 /// Where local instructions run with a move, the first line is `lineup report 2`, and the fourth
 /// `local` with how many at most. Of a check against a specification the first line is `lineup
-/// report 3`, and the third `local` with how many at most, in the place of `serial`.
+/// report 3`, and the third `local` with how many at most, instead of `serial`.
 ///
 /// It is the one spelling of the report, which [`crate::read_report`] reads as the report again.
 ///
