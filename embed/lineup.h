@@ -71,7 +71,7 @@ uint8_t lineup_answer(const uint8_t *words, size_t words_length,
  *   then for each call and return so far 4 numbers: LINEUP_CALL, LINEUP_RETURN or LINEUP_TRAP, the
  *      thread, the number of the call in its thread, and the value that was returned
  *
- * Returns 1 where a move is not feasible where it stands, and its place from 0 is the one number;
+ * Returns 1 where a move is not feasible where it stands, and its number from 0 is the one number;
  * 2 where a text is refused (`lineup_answer` with "replay" or "lint" says why); 4 where there was
  * no memory. There are at most LINEUP_MOST_NUMBERS numbers. */
 uint8_t lineup_state(const uint8_t *component, size_t component_length,

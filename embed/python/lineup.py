@@ -29,7 +29,7 @@ class Refused(Exception):
 
 
 class Infeasible(Exception):
-    """A move is not feasible where it stands; the argument is its place, from 0."""
+    """A move is not feasible where it stands; the argument is its number, from 0."""
 
 
 class Answer(NamedTuple):

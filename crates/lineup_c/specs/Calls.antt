@@ -48,8 +48,8 @@ abbrev pub IsAnswerToLine : List ℕ → List ℕ → ℕ → Answer → Type 0
 IsAnswerToLine line bundle stack answer =
     All IsUtf8 (words_of line) → IsAnswerToWords (words_of line) bundle stack answer
 
--- The answer to the line, by a stack of so many bytes, or that memory was refused: its text fills
--- the room, and its length and its status are told.
+-- The answer to the line, by a stack of this many bytes, or that memory was refused: its text fills
+-- the room, and its length and its status are reported.
 pub record TellsAnswer (line bundle : List ℕ) (stack : ℕ) (old new : List ℕ)
     (len status : ℕ) : Type 0 where
   pub answer : Answer
@@ -60,7 +60,7 @@ pub record TellsAnswer (line bundle : List ℕ) (stack : ℕ) (old new : List �
 
 -- ---- states
 
--- from the start the moves, of a schedule of so many, lead to a state of which these are the
+-- from the start the moves, of a schedule of this many, lead to a state of which these are the
 -- numbers
 abbrev pub AreNumbersAfter : Component → Matrix → List Move → ℕ → List ℕ → Type 0
 AreNumbersAfter c matrix u all numbers =
@@ -68,20 +68,21 @@ AreNumbersAfter c matrix u all numbers =
     × Plays c matrix u end history × HasStatus end status
     × (numbers ≡ run_numbers end status (number_of (length u)) (number_of all) history)
 
--- these are the numbers of the state to which the first moves of the schedule lead, at most so many
+-- these are the numbers of the state to which the first moves of the schedule lead, at most this
+-- many
 abbrev pub IsStateOf : List ℕ → List ℕ → List ℕ → ℕ → List ℕ → Type 0
 IsStateOf component matrix schedule most numbers =
     (c : Component) × (m : Matrix) × (u : List Move)
     × AreSettled component matrix c m × IsTextOfSchedule schedule u
     × AreNumbersAfter c m (take most u) (length u) numbers
 
--- these fill the room, and how many they are is told
+-- these fill the room, and how many they are is reported
 abbrev pub TellsState : List ℕ → List ℕ → List ℕ → ℕ → List ℕ → List ℕ → ℕ → Type 0
 TellsState component matrix schedule most old new count =
     (numbers : List ℕ) × IsStateOf component matrix schedule most numbers
     × (new ≡ filled numbers old) × (count ≡ length numbers)
 
--- with the status 0 these are told of the run
+-- with the status 0 these are reported of the run
 abbrev pub TellsRun : ℕ → List ℕ → List ℕ → List ℕ → ℕ → List ℕ → List ℕ → ℕ → Type 0
 TellsRun status component matrix schedule most old new count =
     status ≡ 0 → TellsState component matrix schedule most old new count

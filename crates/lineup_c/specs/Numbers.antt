@@ -104,7 +104,7 @@ status_number Running = 0
 status_number Complete = 1
 status_number Stuck = 2
 
--- the event at this place, where there is one
+-- the event at this index, where there is one
 abbrev pub event_at : List Event → ℕ → List ℕ
 event_at events i = option_map_or event_numbers (slice_get events i) []
 

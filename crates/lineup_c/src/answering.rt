@@ -42,7 +42,7 @@ fn refuse_stack(alloc: Global) -> Result<Answer, AllocError>
     })
 }
 
-/// What the program answers to a request and a bundle, where a stack of so many bytes suffices.
+/// What the program answers to a request and a bundle, where a stack of this many bytes suffices.
 fn answer_within(
     alloc: Global,
     request: Request,
@@ -74,8 +74,8 @@ fn answer_words(
     }
 }
 
-/// What the program answers to the words of a line and to a bundle, where a stack of so many bytes
-/// suffices.
+/// What the program answers to the words of a line and to a bundle, where a stack of this many
+/// bytes suffices.
 pub(crate) fn answer_line(
     alloc: Global,
     line: &[u8],

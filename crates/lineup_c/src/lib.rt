@@ -51,10 +51,10 @@ pub extern "C" fn lineup_answer(
     }
 }
 
-/// Says where the first moves of a schedule lead, at most so many: `shown` is the text of a
+/// Says where the first moves of a schedule lead, at most this many: `shown` is the text of a
 /// schedule, or of a report that shows one. Puts the numbers into the room, as many of them as fit,
 /// and how many they are into `count`. Returns 0; or 1 where a move is not feasible,
-/// whose place from 0 is then the one number; or 2 where a text is refused, without a number
+/// whose number from 0 is then the one number; or 2 where a text is refused, without a number
 /// (`lineup_answer` with `replay` says why); or 4 where memory was refused.
 #[unsafe(no_mangle)]
 pub extern "C" fn lineup_state(
@@ -74,8 +74,8 @@ pub extern "C" fn lineup_state(
             *count = fill_numbers(room, &state);
             0
         }
-        Err(StateFault::Infeasible(place)) => {
-            *count = fill_numbers(room, &[number_of(place)]);
+        Err(StateFault::Infeasible(number)) => {
+            *count = fill_numbers(room, &[number_of(number)]);
             1
         }
         Err(StateFault::Refused) => 2,

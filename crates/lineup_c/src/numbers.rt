@@ -109,7 +109,7 @@ fn push_cell(
 {
     match machine.cell(array, u32::from(index)) {
         None => Ok(()),
-        Some(place) => push(numbers, machine.value_at(place)),
+        Some(cell) => push(numbers, machine.value_at(cell)),
     }
 }
 
@@ -201,11 +201,11 @@ fn push_event(numbers: &mut Vec<u32>, event: Event) -> Result<(), AllocError>
     }
 }
 
-/// Adds the event at this place, where there is one.
-fn push_event_at(numbers: &mut Vec<u32>, events: &[Event], place: usize) -> Result<(), AllocError>
-    ensures { Adds result numbers.old numbers.new (spec.event_at events.now place) }
+/// Adds the event at this index, where there is one.
+fn push_event_at(numbers: &mut Vec<u32>, events: &[Event], index: usize) -> Result<(), AllocError>
+    ensures { Adds result numbers.old numbers.new (spec.event_at events.now index) }
 {
-    match events.get(place) {
+    match events.get(index) {
         None => Ok(()),
         Some(event) => push_event(numbers, *event),
     }
@@ -215,8 +215,8 @@ fn push_event_at(numbers: &mut Vec<u32>, events: &[Event], place: usize) -> Resu
 pub(crate) fn push_events(numbers: &mut Vec<u32>, events: &[Event]) -> Result<(), AllocError>
     ensures { Adds result numbers.old numbers.new (spec.events_numbers events.now) }
 {
-    for place in 0..events.len() {
-        push_event_at(numbers, events, place)?;
+    for index in 0..events.len() {
+        push_event_at(numbers, events, index)?;
     }
     Ok(())
 }
@@ -244,7 +244,7 @@ fn cells_of_first(component: &Component, count: u8) -> u32
     cells
 }
 
-/// Adds how the state stands, which is told, how many moves were made of how many, and how many
+/// Adds how the state stands, which is reported, how many moves were made of how many, and how many
 /// threads, cells and locks there are.
 pub(crate) fn push_shape(
     numbers: &mut Vec<u32>,

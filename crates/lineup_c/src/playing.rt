@@ -18,7 +18,7 @@ use std::alloc::{AllocError, Global};
 /// Why there are no numbers.
 #[derive(Clone, Copy)]
 pub(crate) enum StateFault {
-    /// The move at this place, from 0, is not feasible where it stands.
+    /// The move of this number, from 0, is not feasible where it stands.
     Infeasible(usize),
 
     /// A text is refused, or the setup does not settle.
@@ -93,9 +93,9 @@ fn play(alloc: Global, machine: &mut Machine<'_>, moves: &[Move]) -> Result<Vec<
     ensures { IfOk result (λ events. Leads machine.old moves.now machine.new events.items) }
 {
     let mut events = Vec::new(alloc);
-    for (place, next) in moves.iter().enumerate() {
+    for (number, next) in moves.iter().enumerate() {
         if !machine.feasible(*next) {
-            return Err(StateFault::Infeasible(place));
+            return Err(StateFault::Infeasible(number));
         }
         let event = machine.step(*next);
         extend(&mut events, event)?;
@@ -138,7 +138,7 @@ fn numbers_after(
     Ok(numbers_of(alloc, &machine, &events, status, made, all)?)
 }
 
-/// The numbers of the state to which the first moves of the schedule lead, at most so many.
+/// The numbers of the state to which the first moves of the schedule lead, at most this many.
 pub(crate) fn state_of(
     alloc: Global,
     component: &[u8],

@@ -3,7 +3,7 @@
 use lu_text::{
     Fault, Name, are_allowed, before_comment, cut_line, exactly_five, exactly_four, exactly_one,
     exactly_three, exactly_two, has_name_form, is_long, is_number, lines_of, number_up_to,
-    parts_of, place_of, value_in, words_of,
+    parts_of, position_of, value_in, words_of,
 };
 use std::alloc::{AllocError, Global};
 use std::process::Abort;
@@ -76,7 +76,7 @@ fn assert_three(rt: &impl Abort, words: &[&[u8]], expected: (&[u8], &[u8], &[u8]
 #[test]
 fn words(rt: HostRuntime) -> Result<(), Fail> {
     assert!(rt; before_comment(b"return 0#x") == b"return 0".as_slice());
-    assert!(rt; place_of(b'x', b"a xx") == Some(2));
+    assert!(rt; position_of(b'x', b"a xx") == Some(2));
     let words = words_of(rt.alloc(), b"\tjz r2\r L0 # back")?;
     assert_three(&rt, &words, (b"jz", b"r2", b"L0"));
     Ok(())

@@ -21,8 +21,8 @@ pub record ViewFits (n next best : ℕ) (v : View) : Type 0 where
   -- and one that was taken in has nothing left
   pub blank : v.weight ≡ 0 → v ≡ blank
 
--- the views of all seats fit a board of n pieces and so many workers, with this next piece and this
--- best one
+-- the views of all seats fit a board of n pieces and this many workers, with this next piece and
+-- this best one
 pub record FitsBoard (n workers next best : ℕ) (views : List View) : Type 0 where
   -- each piece below the lesser of next and n is in exactly one set of one view, and no other piece
   -- is in any

@@ -5,7 +5,7 @@ use Rattle.lu_board.specs.declared.board_core.CoreEvent.{CoreEvent}
 use Rattle.lu_board.specs.Fit.{FitsBoard}
 use Rattle.lu_board.specs.Core.{CoreState, AgreesWith, AllDone, IsLeastBad, after_events, all_legal, best_piece, given_in, start}
 
--- the state m is reached by legal events, on a new board of n pieces and so many workers
+-- the state m is reached by legal events, on a new board of n pieces and this many workers
 pub record IsReached (n workers : ℕ) (bad : List Bool) (m : CoreState) : Type 0 where
   pub covers : (n ≤ MAX_PIECES) × (length bad ≡ n)
   pub within : (0 < workers) × (workers ≤ MAX_WORKERS)

@@ -23,7 +23,7 @@ pub record Seat : Type 0 where
 abbrev pub unused_seat : TableId → ℕ → Seat
 unused_seat board n = record { board = board; view = newcomer n 1 }
 
--- so many of them
+-- this many of them
 abbrev pub unused_seats : ℕ → TableId → ℕ → List Seat
 unused_seats many board n = replicate many (unused_seat board n)
 

@@ -278,9 +278,7 @@ impl Board {
         ensures given_up { IsTrue result.given_up ↔ (0 < length (given_by seats.items)) }
     {
         let Board { table } = self;
-        let Some(last) = seats.pop() else {
-            unreachable!()
-        };
+        let last = seats.pop().unwrap();
         let Seat {
             pieces,
             spent: _,

@@ -81,10 +81,10 @@ fn take_out(pieces: &mut Vec<u64>, piece: u64) -> bool
     ensures taken { result ≡ is_in piece pieces.old.items }
     ensures left { pieces.new.items ≡ without_first piece pieces.old.items }
 {
-    let Some(place) = pieces.iter().position(|held| *held == piece) else {
+    let Some(position) = pieces.iter().position(|held| *held == piece) else {
         return false;
     };
-    pieces.remove(place);
+    pieces.remove(position);
     true
 }
 

@@ -100,7 +100,7 @@ impl About for Brand {
     ghost pieces = { 0 };
 }
 
-/// A claim, on a board of so many pieces.
+/// A claim, on a board of this many pieces.
 pub(crate) struct Claims<J> {
     about: PhantomData<J>,
 }

@@ -18,7 +18,7 @@ use Rattle.lu_replay.specs.Reports.{IsFinding, IsReport}
 use Rattle.lu_replay.proofs.Determined.{one_report}
 use Rattle.lu_certify.specs.declared.limits.Limits.{Limits}
 use Rattle.lu_certify.specs.Certificates.{Fails, FailsAfter, IsClear, IsFailingReport, IsFailure, IsFullPass}
-use Rattle.lu_certify.specs.Places.{IsLeftOpen}
+use Rattle.lu_certify.specs.Cuts.{IsLeftOpen}
 use Rattle.lu_certify.proofs.Linear.{clear_at, clear_not_failing, never_bad, never_good}
 
 -- ---- one state

@@ -31,7 +31,7 @@ use Rattle.lu_certify.specs.declared.judged.Standing.TheVariants.{FullPass, Open
 use Rattle.lu_certify.specs.declared.so_far.SoFar.{SoFar}
 use Rattle.lu_certify.specs.declared.so_far.SoFar.TheVariants.{Clear, Lost, Unclear}
 use Rattle.lu_certify.specs.Certificates.{HasNoLivelock, HasReport, IsFullPass, IsProved}
-use Rattle.lu_certify.specs.Places.{IsFirstLostOf, IsLivelockIfAny, IsLost, IsNext, IsStanding, so_far_after}
+use Rattle.lu_certify.specs.Cuts.{IsFirstLostOf, IsLivelockIfAny, IsLost, IsNext, IsStanding, so_far_after}
 use Rattle.lu_certify.proofs.Linear.{full_at}
 use Rattle.lu_certify.proofs.Within.{cut_there, none_of}
 

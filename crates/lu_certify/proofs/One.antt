@@ -18,7 +18,7 @@ use Rattle.lu_certify.specs.Laws.{CertificateDecides, Decides}
 use Rattle.lu_certify.proofs.Behind.{clear_never_fails, failing_is, one_failing}
 use Rattle.lu_certify.proofs.Linear.{begun_deterministic, clear_at, clear_cut, clear_linearizes}
 use Rattle.lu_certify.proofs.Livelocks.{one_lost}
-use Rattle.lu_certify.proofs.Ordered.{lengths_compare}
+use Rattle.lu_certify.proofs.CutLengths.{lengths_compare}
 use Rattle.lu_certify.proofs.Refuted.{none_serves}
 
 module _ (c : Component) (matrix : Matrix) (limits : Limits) (settles : Settles c matrix) where
@@ -47,14 +47,14 @@ module _ (c : Component) (matrix : Matrix) (limits : Limits) (settles : Settles 
   unclear_same : (a b : Matrix) (r q : Report) → IsFirstUnclear c matrix limits a r → IsFirstUnclear c matrix limits b q → (a ≡ b) × (r ≡ q)
   unclear_same a b r q x y =
       elim (lengths_compare matrix x.lengths y.lengths x.are y.are) as (λ _. (a ≡ b) × (r ≡ q)) [
-        | inl z ↦ elim z as (λ _. (a ≡ b) × (r ≡ q)) [
-          | inl less ↦ absurd (here_unclear a r x (y.before x.lengths x.are less))
-          | inr more ↦ absurd (here_unclear b q y (x.before y.lengths y.are more))
+        | inl less ↦ absurd (here_unclear a r x (y.before x.lengths x.are less))
+        | inr others ↦ elim others as (λ _. (a ≡ b) × (r ≡ q)) [
+          | inl more ↦ absurd (here_unclear b q y (x.before y.lengths y.are more))
+          | inr same ↦
+              (let one_cut : a ≡ b = x.is ∙ (ap (λ (l : List ℕ). cut matrix l) same ∙ sym y.is) in
+              let settled : Settles c b = subst (Settles c) (sym y.is) (cut_settles y.lengths) in
+              (one_cut, one_report c b limits.bound limits.serial r q settled (subst (λ m. IsReport c m limits.bound limits.serial r) one_cut x.report) y.report))
         ]
-        | inr same ↦
-            (let one_cut : a ≡ b = x.is ∙ (ap (λ (l : List ℕ). cut matrix l) same ∙ sym y.is) in
-            let settled : Settles c b = subst (Settles c) (sym y.is) (cut_settles y.lengths) in
-            (one_cut, one_report c b limits.bound limits.serial r q settled (subst (λ m. IsReport c m limits.bound limits.serial r) one_cut x.report) y.report))
       ]
 
   none_lost : NoLivelocks c matrix limits → (smaller : Matrix) (u : List Move) → IsFirstLivelock c matrix limits smaller u → ⊥
@@ -63,29 +63,29 @@ module _ (c : Component) (matrix : Matrix) (limits : Limits) (settles : Settles 
   livelock_same : (a b : Matrix) (u v : List Move) → IsFirstLivelock c matrix limits a u → IsFirstLivelock c matrix limits b v → (a ≡ b) × (u ≡ v)
   livelock_same a b u v x y =
       elim (lengths_compare matrix x.lengths y.lengths x.are y.are) as (λ _. (a ≡ b) × (u ≡ v)) [
-        | inl z ↦ elim z as (λ _. (a ≡ b) × (u ≡ v)) [
-          | inl less ↦ absurd (y.before x.lengths x.are less u (subst (λ m. IsLivelock c limits m u) x.is x.livelock))
-          | inr more ↦ absurd (x.before y.lengths y.are more v (subst (λ m. IsLivelock c limits m v) y.is y.livelock))
+        | inl less ↦ absurd (y.before x.lengths x.are less u (subst (λ m. IsLivelock c limits m u) x.is x.livelock))
+        | inr others ↦ elim others as (λ _. (a ≡ b) × (u ≡ v)) [
+          | inl more ↦ absurd (x.before y.lengths y.are more v (subst (λ m. IsLivelock c limits m v) y.is y.livelock))
+          | inr same ↦
+              (let one_cut : a ≡ b = x.is ∙ (ap (λ (l : List ℕ). cut matrix l) same ∙ sym y.is) in
+              let there = start_there c b (subst (Settles c) (sym y.is) (cut_settles y.lengths)) in
+              let here : IsLivelock c limits b u = subst (λ m. IsLivelock c limits m u) one_cut x.livelock in
+              (one_cut, one_lost there.0 u v (here there.0 there.1).2 (y.livelock there.0 there.1).2))
         ]
-        | inr same ↦
-            (let one_cut : a ≡ b = x.is ∙ (ap (λ (l : List ℕ). cut matrix l) same ∙ sym y.is) in
-            let there = start_there c b (subst (Settles c) (sym y.is) (cut_settles y.lengths)) in
-            let here : IsLivelock c limits b u = subst (λ m. IsLivelock c limits m u) one_cut x.livelock in
-            (one_cut, one_lost there.0 u v (here there.0 there.1).2 (y.livelock there.0 there.1).2))
       ]
 
   first_same : (a b : Matrix) (r q : Report) → IsFirstFailing c matrix limits a r → IsFirstFailing c matrix limits b q → (a ≡ b) × (r ≡ q)
   first_same a b r q x y =
       elim (lengths_compare matrix x.lengths y.lengths x.are y.are) as (λ _. (a ≡ b) × (r ≡ q)) [
-        | inl z ↦ elim z as (λ _. (a ≡ b) × (r ≡ q)) [
-          | inl less ↦ absurd (y.before x.lengths x.are less (has_it a r x))
-          | inr more ↦ absurd (x.before y.lengths y.are more (has_it b q y))
+        | inl less ↦ absurd (y.before x.lengths x.are less (has_it a r x))
+        | inr others ↦ elim others as (λ _. (a ≡ b) × (r ≡ q)) [
+          | inl more ↦ absurd (x.before y.lengths y.are more (has_it b q y))
+          | inr same ↦
+              (let here : IsFailingReport c limits (cut matrix y.lengths) r = subst (λ (l : List ℕ). IsFailingReport c limits (cut matrix l) r) same (its a r x) in (
+                x.is ∙ (ap (λ (l : List ℕ). cut matrix l) same ∙ sym y.is),
+                one_failing c (cut matrix y.lengths) limits (cut_settles y.lengths) r q here (its b q y),
+              ))
         ]
-        | inr same ↦
-            (let here : IsFailingReport c limits (cut matrix y.lengths) r = subst (λ (l : List ℕ). IsFailingReport c limits (cut matrix l) r) same (its a r x) in (
-              x.is ∙ (ap (λ (l : List ℕ). cut matrix l) same ∙ sym y.is),
-              one_failing c (cut matrix y.lengths) limits (cut_settles y.lengths) r q here (its b q y),
-            ))
       ]
 
   one : (a b : Certificate) → IsCertificate c matrix limits a → IsCertificate c matrix limits b → AreSame a b

@@ -19,7 +19,7 @@ use Rattle.lu_certify.specs.declared.limits.Limits.{Limits}
 use Rattle.lu_certify.specs.declared.told.Told.{Told}
 use Rattle.lu_certify.specs.declared.told.Told.TheVariants.{AllGood, BadAfter, Nothing}
 use Rattle.lu_certify.specs.Certificates.{FailsAfter, IsProved}
-use Rattle.lu_certify.specs.Places.{IsLeftOpen, IsTold, IsToldBy}
+use Rattle.lu_certify.specs.Cuts.{IsLeftOpen, IsTold, IsToldBy}
 use Rattle.lu_certify.proofs.Behind.{one_length}
 use Rattle.lu_certify.proofs.Linear.{never_bad}
 

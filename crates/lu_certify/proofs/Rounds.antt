@@ -1,8 +1,10 @@
--- What is known of the cuts before a place.
+-- What is known of the cuts before a number.
 use Rattle.std.proofs.Common.{arith, ◌≡◌, ◌<◌, ◌≤◌, ◌+◌, ℕ, zero, suc, List, [], ◌∷◌, ◌++◌, Result, Ok, Err, refl, sym, ap, subst, inl, inr}
-use Rattle.std.specs.Prelude.{All, IfOk}
+use Rattle.std.specs.Prelude.{All, IfErr, IfOk, IsOk}
 use Rattle.std.proofs.lemmas.Bool.{cases_lt}
 use Rattle.std.proofs.lemmas.List.Elements.{All-take}
+use Rattle.lu_choices.specs.Choices.{IsBefore}
+use Rattle.lu_choices.proofs.Numbered.{before_less, number_below, same_choice}
 use Rattle.lu_component.specs.Component.{Component}
 use Rattle.lu_test.specs.declared.matrix.Call.{Call}
 use Rattle.lu_test.specs.declared.schedule.Move.{Move}
@@ -11,8 +13,11 @@ use Rattle.lu_machine.specs.States.{State}
 use Rattle.lu_machine.specs.Starts.{CanRun, IsStart, Settles}
 use Rattle.lu_machine.proofs.Starting.{can_run_too, settles_too}
 use Rattle.lu_history.specs.declared.serial.SerialOp.{SerialOp}
+use Rattle.lu_report.specs.declared.report.Finding.{Finding}
+use Rattle.lu_report.specs.declared.report.Finding.TheVariants.{Fail, Nondeterministic, Pass, SerialCut}
 use Rattle.lu_report.specs.declared.report.Report.{Report}
-use Rattle.lu_replay.specs.Reports.{IsReport}
+use Rattle.lu_report.specs.Parts.{IsOfOffence}
+use Rattle.lu_replay.specs.Reports.{IsFinding, IsReport}
 use Rattle.lu_serial.specs.Offences.{IsSetOf, NoOffence}
 use Rattle.lu_spec.specs.Beginnings.{IsClosureOf}
 use Rattle.lu_refute.specs.Linearizable.{AreLengths}
@@ -28,8 +33,8 @@ use Rattle.lu_certify.specs.declared.so_far.SoFar.TheVariants.{Clear, Lost, Uncl
 use Rattle.lu_certify.specs.declared.judged.Standing.{Standing}
 use Rattle.lu_certify.specs.declared.judged.Standing.TheVariants.{FullPass, Open, Proved}
 use Rattle.lu_certify.specs.Certificates.{AllClear, AreBeginnings, Fails, HasNoLivelock, IsCertificate, IsClear, IsFailingReport, IsFirstFailing, IsFirstLivelock, IsFirstUnclear, IsLivelock, NamesCutOf, NoneFails, NoLivelocks}
-use Rattle.lu_certify.specs.Places.{IsConcluded, IsCutAtPlace, IsNext, IsStanding, IsWithoutOffence, cut_count, place_of_lengths}
-use Rattle.lu_certify.proofs.Counted.{earlier, place_below, place_same}
+use Rattle.lu_certify.specs.Cuts.{IsConcluded, IsCutAt, IsNext, IsStanding, IsWithoutOffence, cut_count, cut_number, length_counts}
+use Rattle.lu_certify.proofs.CutLengths.{chosen}
 use Rattle.lu_certify.proofs.Behind.{clear_never_fails}
 use Rattle.lu_certify.proofs.Linear.{clear_at, clear_cut}
 
@@ -40,26 +45,26 @@ standing_never_fails c matrix limits settles Proved stands = clear_never_fails c
 standing_never_fails c matrix limits settles (Open r) stands = stands.2
 
 module _ (c : Component) (matrix : Matrix) (limits : Limits) where
-  -- the cuts of all places before this one are clear
+  -- the cuts of all numbers before this one are clear
   abbrev pub ClearBefore : ℕ → Type 0
-  ClearBefore place =
-      (other : List ℕ) → AreLengths matrix other → place_of_lengths matrix.threads other < place → IsClear c limits (cut matrix other)
+  ClearBefore number =
+      (other : List ℕ) → AreLengths matrix other → cut_number matrix other < number → IsClear c limits (cut matrix other)
 
   -- none of them fails
   abbrev pub NoneFailsBefore : ℕ → Type 0
-  NoneFailsBefore place =
-      (other : List ℕ) → AreLengths matrix other → place_of_lengths matrix.threads other < place → Fails c limits (cut matrix other) → ⊥
+  NoneFailsBefore number =
+      (other : List ℕ) → AreLengths matrix other → cut_number matrix other < number → Fails c limits (cut matrix other) → ⊥
 
   -- none of them has a livelock
   abbrev pub NoLivelockBefore : ℕ → Type 0
-  NoLivelockBefore place =
-      (other : List ℕ) → AreLengths matrix other → place_of_lengths matrix.threads other < place → HasNoLivelock c limits (cut matrix other)
+  NoLivelockBefore number =
+      (other : List ℕ) → AreLengths matrix other → cut_number matrix other < number → HasNoLivelock c limits (cut matrix other)
 
   -- what is known of them, none of which fails
   abbrev pub IsKnown : ℕ → SoFar → Type 0
-  IsKnown place Clear = ClearBefore place × NoLivelockBefore place
-  IsKnown place (Unclear smaller r) = IsFirstUnclear c matrix limits smaller r × NoLivelockBefore place
-  IsKnown place (Lost smaller u) = IsFirstLivelock c matrix limits smaller u
+  IsKnown number Clear = ClearBefore number × NoLivelockBefore number
+  IsKnown number (Unclear smaller r) = IsFirstUnclear c matrix limits smaller r × NoLivelockBefore number
+  IsKnown number (Lost smaller u) = IsFirstLivelock c matrix limits smaller u
 
   pub none_yet : NoneFailsBefore 0
   none_yet other are less has = absurd (omega arith)
@@ -67,110 +72,111 @@ module _ (c : Component) (matrix : Matrix) (limits : Limits) where
   pub none_known : IsKnown 0 Clear
   none_known = ((λ other are less. absurd (omega arith)), (λ other are less. absurd (omega arith)))
 
-  -- the cut at this place
-  module _ (settles : Settles c matrix) (place : ℕ) (smaller : Matrix) (at : IsCutAtPlace matrix place smaller) where
-    -- a cut before the next place is before this one, or it is this one
-    this_or_before : (P : List ℕ → Type 0) → ((other : List ℕ) → AreLengths matrix other → place_of_lengths matrix.threads other < place → P other) → P at.0 → (other : List ℕ) → AreLengths matrix other → place_of_lengths matrix.threads other < place + 1 → P other
+  -- the cut with this number
+  module _ (settles : Settles c matrix) (number : ℕ) (smaller : Matrix) (at : IsCutAt matrix number smaller) where
+    -- a cut before the next number is before this one, or it is this one
+    this_or_before : (P : List ℕ → Type 0) → ((other : List ℕ) → AreLengths matrix other → cut_number matrix other < number → P other) → P at.lengths → (other : List ℕ) → AreLengths matrix other → cut_number matrix other < number + 1 → P other
     this_or_before P before here other are less =
-        elim (cases_lt (place_of_lengths matrix.threads other) place) as (λ _. P other) [
+        elim (cases_lt (cut_number matrix other) number) as (λ _. P other) [
           | inl lt ↦ before other are lt
           | inr least ↦
-              (let there = at.1.at in
-              let same : other ≡ at.0 = place_same matrix other at.0 are at.1.are (omega (arith, least, less, there)) in
+              (let there = at.is_at in
+              let same : other ≡ at.lengths = same_choice (length_counts matrix) other at.lengths (chosen matrix other are) (chosen matrix at.lengths at.are) (omega (arith, least, less, there)) in
               subst P (sym same) here)
         ]
 
-    clear_more : ClearBefore place → IsClear c limits smaller → ClearBefore (place + 1)
-    clear_more before clear = this_or_before (λ other. IsClear c limits (cut matrix other)) before (subst (IsClear c limits) at.2 clear)
+    -- and what comes before this one has a lesser number
+    number_less : (other : List ℕ) → AreLengths matrix other → IsBefore other at.lengths → cut_number matrix other < number
+    number_less other are sooner =
+        let less = before_less (length_counts matrix) other at.lengths (chosen matrix other are) (chosen matrix at.lengths at.are) sooner in
+        let there = at.is_at in
+        omega (arith, less, there)
 
-    pub none_more : NoneFailsBefore place → (standing : Standing) → IsStanding c limits smaller standing → NoneFailsBefore (place + 1)
+    clear_more : ClearBefore number → IsClear c limits smaller → ClearBefore (number + 1)
+    clear_more before clear = this_or_before (λ other. IsClear c limits (cut matrix other)) before (subst (IsClear c limits) at.is clear)
+
+    pub none_more : NoneFailsBefore number → (standing : Standing) → IsStanding c limits smaller standing → NoneFailsBefore (number + 1)
     none_more before standing stands =
-        let there : Settles c (cut matrix at.0) = settles_too c matrix (cut matrix at.0) settles refl in
+        let there : Settles c (cut matrix at.lengths) = settles_too c matrix (cut matrix at.lengths) settles refl in
         this_or_before (λ other. Fails c limits (cut matrix other) → ⊥) before
-        (standing_never_fails c (cut matrix at.0) limits there standing (subst (λ (m : Matrix). IsStanding c limits m standing) at.2 stands))
+        (standing_never_fails c (cut matrix at.lengths) limits there standing (subst (λ (m : Matrix). IsStanding c limits m standing) at.is stands))
 
     -- the first that fails
-    pub first_here : (r : Report) → NoneFailsBefore place → IsFailingReport c limits smaller r → IsFirstFailing c matrix limits smaller r
+    pub first_here : (r : Report) → NoneFailsBefore number → IsFailingReport c limits smaller r → IsFirstFailing c matrix limits smaller r
     first_here r before fails = record {
-      lengths = at.0;
-      are = at.1.are;
-      is = at.2;
+      lengths = at.lengths;
+      are = at.are;
+      is = at.is;
       fails = fails;
-      before = λ other are less.
-          (let lt = earlier matrix other at.0 are at.1.are less in
-          let there = at.1.at in
-          before other are (omega (arith, lt, there)));
+      before = λ other are sooner. before other are (number_less other are sooner);
     }
 
-    none_lost_more : NoLivelockBefore place → HasNoLivelock c limits smaller → NoLivelockBefore (place + 1)
-    none_lost_more before none = this_or_before (λ other. HasNoLivelock c limits (cut matrix other)) before (subst (HasNoLivelock c limits) at.2 none)
+    none_lost_more : NoLivelockBefore number → HasNoLivelock c limits smaller → NoLivelockBefore (number + 1)
+    none_lost_more before none = this_or_before (λ other. HasNoLivelock c limits (cut matrix other)) before (subst (HasNoLivelock c limits) at.is none)
 
-    first_lost : (u : List Move) → IsLivelock c limits smaller u → NoLivelockBefore place → IsFirstLivelock c matrix limits smaller u
+    first_lost : (u : List Move) → IsLivelock c limits smaller u → NoLivelockBefore number → IsFirstLivelock c matrix limits smaller u
     first_lost u livelock before = record {
-      lengths = at.0;
-      are = at.1.are;
-      is = at.2;
+      lengths = at.lengths;
+      are = at.are;
+      is = at.is;
       livelock = livelock;
-      before = λ other are less.
-          (let lt = earlier matrix other at.0 are at.1.are less in
-          let there = at.1.at in
-          before other are (omega (arith, lt, there)));
+      before = λ other are sooner. before other are (number_less other are sooner);
     }
 
     -- the first that is not clear
-    first_left : (r : Report) → IsReport c smaller limits.bound limits.serial r → (IsClear c limits smaller → ⊥) → ClearBefore place → IsFirstUnclear c matrix limits smaller r
+    first_left : (r : Report) → IsReport c smaller limits.bound limits.serial r → (IsClear c limits smaller → ⊥) → ClearBefore number → IsFirstUnclear c matrix limits smaller r
     first_left r report unclear before = record {
-      lengths = at.0;
-      are = at.1.are;
-      is = at.2;
+      lengths = at.lengths;
+      are = at.are;
+      is = at.is;
       report = report;
       unclear = unclear;
-      before = λ other are less.
-          (let lt = earlier matrix other at.0 are at.1.are less in
-          let there = at.1.at in
-          before other are (omega (arith, lt, there)));
+      before = λ other are sooner. before other are (number_less other are sooner);
     }
 
-    pub known_next : (old new : SoFar) → IsNext c limits old smaller new → IsKnown place old → IsKnown (place + 1) new
-    known_next (Lost one u) new is known = subst (IsKnown (place + 1)) (sym is) known
+    pub known_next : (old new : SoFar) → IsNext c limits old smaller new → IsKnown number old → IsKnown (number + 1) new
+    known_next (Lost one u) new is known = subst (IsKnown (number + 1)) (sym is) known
     known_next (Unclear one r) Clear is known = absurd is
-    known_next (Unclear one r) (Unclear other q) is known = subst (IsKnown (place + 1)) (sym is.0) (known.0, none_lost_more known.1 is.1)
+    known_next (Unclear one r) (Unclear other q) is known = subst (IsKnown (number + 1)) (sym is.0) (known.0, none_lost_more known.1 is.1)
     known_next (Unclear one r) (Lost other u) is known = subst (λ (x : Matrix). IsFirstLivelock c matrix limits x u) (sym is.0) (first_lost u is.1 known.1)
     known_next Clear Clear is known = (clear_more known.0 is.1, none_lost_more known.1 is.0)
     known_next Clear (Unclear other r) is known = (subst (λ (x : Matrix). IsFirstUnclear c matrix limits x r) (sym is.0) (first_left r is.2 is.3 known.0), none_lost_more known.1 is.1)
     known_next Clear (Lost other u) is known = subst (λ (x : Matrix). IsFirstLivelock c matrix limits x u) (sym is.0) (first_lost u is.1 known.1)
 
   -- at the end
-  none_all : (place : ℕ) → cut_count matrix.threads ≤ place → NoneFailsBefore place → NoneFails c matrix limits
-  none_all place all before lengths are has = (let below = place_below matrix lengths are in before lengths are (omega (arith, below, all)) has)
+  among_all : (number : ℕ) → cut_count matrix ≤ number → (lengths : List ℕ) → AreLengths matrix lengths → cut_number matrix lengths < number
+  among_all number all lengths are = let below = number_below (length_counts matrix) lengths (chosen matrix lengths are) in omega (arith, below, all)
 
-  all_known : (place : ℕ) → cut_count matrix.threads ≤ place → IsKnown place Clear → AllClear c matrix limits
-  all_known place all known lengths are = (let below = place_below matrix lengths are in known.0 lengths are (omega (arith, below, all)))
+  none_all : (number : ℕ) → cut_count matrix ≤ number → NoneFailsBefore number → NoneFails c matrix limits
+  none_all number all before lengths are has = before lengths are (among_all number all lengths are) has
 
-  none_lost_all : (place : ℕ) → cut_count matrix.threads ≤ place → NoLivelockBefore place → NoLivelocks c matrix limits
-  none_lost_all place all none lengths are = (let below = place_below matrix lengths are in none lengths are (omega (arith, below, all)))
+  all_known : (number : ℕ) → cut_count matrix ≤ number → IsKnown number Clear → AllClear c matrix limits
+  all_known number all known lengths are = known.0 lengths are (among_all number all lengths are)
+
+  none_lost_all : (number : ℕ) → cut_count matrix ≤ number → NoLivelockBefore number → NoLivelocks c matrix limits
+  none_lost_all number all none lengths are = none lengths are (among_all number all lengths are)
 
   -- no serial run of the whole matrix offends
   all_without : AllClear c matrix limits → IsWithoutOffence c matrix limits.serial
   all_without all s is = (clear_at c matrix limits (clear_cut c matrix limits all matrix (whole_cut matrix)) s is).none
 
-  pub none_offends : (place : ℕ) (so_far : SoFar) → cut_count matrix.threads ≤ place → IsKnown place so_far → so_far ≡ Clear → IsWithoutOffence c matrix limits.serial
-  none_offends place so_far all known clear = all_without (all_known place all (subst (IsKnown place) clear known))
+  pub none_offends : (number : ℕ) (so_far : SoFar) → cut_count matrix ≤ number → IsKnown number so_far → so_far ≡ Clear → IsWithoutOffence c matrix limits.serial
+  none_offends number so_far all known clear = all_without (all_known number all (subst (IsKnown number) clear known))
 
   -- what is concluded is the certificate
-  pub concluded : (place : ℕ) (so_far : SoFar) → cut_count matrix.threads ≤ place → NoneFailsBefore place → IsKnown place so_far → (certificate : Certificate) → IsConcluded c matrix so_far certificate → IsCertificate c matrix limits certificate
-  concluded place Clear all before known (Linearizable members) is = (all_known place all known, none_lost_all place all known.1, is)
-  concluded place Clear all before known (NotLinearizable smaller r) is = absurd is
-  concluded place Clear all before known (Livelock smaller u) is = absurd is
-  concluded place Clear all before known (Undecided smaller r) is = absurd is
-  concluded place (Unclear smaller r) all before known certificate is =
-      subst (IsCertificate c matrix limits) (sym is) (none_all place all before, none_lost_all place all known.1, known.0)
-  concluded place (Lost smaller u) all before known certificate is =
-      subst (IsCertificate c matrix limits) (sym is) (none_all place all before, known)
+  pub concluded : (number : ℕ) (so_far : SoFar) → cut_count matrix ≤ number → NoneFailsBefore number → IsKnown number so_far → (certificate : Certificate) → IsConcluded c matrix so_far certificate → IsCertificate c matrix limits certificate
+  concluded number Clear all before known (Linearizable members) is = (all_known number all known, none_lost_all number all known.1, is)
+  concluded number Clear all before known (NotLinearizable smaller r) is = absurd is
+  concluded number Clear all before known (Livelock smaller u) is = absurd is
+  concluded number Clear all before known (Undecided smaller r) is = absurd is
+  concluded number (Unclear smaller r) all before known certificate is =
+      subst (IsCertificate c matrix limits) (sym is) (none_all number all before, none_lost_all number all known.1, known.0)
+  concluded number (Lost smaller u) all before known certificate is =
+      subst (IsCertificate c matrix limits) (sym is) (none_all number all before, known)
 
-  pub concluded_where : {E : Type 0} (place : ℕ) (so_far : SoFar) → cut_count matrix.threads ≤ place → NoneFailsBefore place → IsKnown place so_far → (result : Result Certificate E) → IfOk result (IsConcluded c matrix so_far) → IfOk result (IsCertificate c matrix limits)
-  concluded_where place so_far all before known (Ok certificate) is = concluded place so_far all before known certificate is
-  concluded_where place so_far all before known (Err e) is = tt
+  pub concluded_where : {E : Type 0} (number : ℕ) (so_far : SoFar) → cut_count matrix ≤ number → NoneFailsBefore number → IsKnown number so_far → (result : Result Certificate E) → IfOk result (IsConcluded c matrix so_far) → IfOk result (IsCertificate c matrix limits)
+  concluded_where number so_far all before known (Ok certificate) is = concluded number so_far all before known certificate is
+  concluded_where number so_far all before known (Err e) is = tt
 
 -- ---- the cut runs
 
@@ -180,9 +186,9 @@ rows_of c (row ∷ rows) [] all k d h = absurd (omega arith)
 rows_of c (row ∷ rows) (n ∷ lengths) all zero d h = All-take (IsCallOf c) n row (all zero d (omega arith))
 rows_of c (row ∷ rows) (n ∷ lengths) all (suc k) d h = rows_of c rows lengths (λ j e w. all (suc j) e (omega arith)) k d (omega arith)
 
-pub cut_runs : (c : Component) (matrix : Matrix) (place : ℕ) (smaller : Matrix) → CanRun c matrix → IsCutAtPlace matrix place smaller → CanRun c smaller
-cut_runs c matrix place smaller runs at =
-    subst (CanRun c) (sym at.2) (can_run_too c matrix (cut matrix at.0) runs (runs.of.0, rows_of c matrix.threads at.0 runs.of.1) refl)
+pub cut_runs : (c : Component) (matrix : Matrix) (number : ℕ) (smaller : Matrix) → CanRun c matrix → IsCutAt matrix number smaller → CanRun c smaller
+cut_runs c matrix number smaller runs at =
+    subst (CanRun c) (sym at.is) (can_run_too c matrix (cut matrix at.lengths) runs (runs.of.0, rows_of c matrix.threads at.lengths runs.of.1) refl)
 
 -- so is the first that is not clear
 unclear_of : (c : Component) (matrix smaller : Matrix) (limits : Limits) (r : Report) → IsOf matrix c → IsFirstUnclear c matrix limits smaller r → IsOf smaller c
@@ -224,3 +230,11 @@ closure_begins c matrix s serial set members is of closure q = (
   ]),
   (λ begins. (closure q).1 (inr (begins.0, begins.1, (of.are begins.0).1 begins.2))),
 )
+
+-- where no serial run offends, no offence is found
+pub none_found : {M : Type 0} (s : State) (serial : ℕ) (result : Result M Finding) → NoOffence s serial → IfErr result (IsFinding s 0 serial) → IfErr result IsOfOffence → IsOk result
+none_found s serial (Ok set) none is of = refl
+none_found s serial (Err (SerialCut u)) none is of = absurd (none u is.0.kind)
+none_found s serial (Err (Nondeterministic u before earlier)) none is of = absurd (none u is.0.kind)
+none_found s serial (Err (Fail u why)) none is of = absurd of
+none_found s serial (Err (Pass counts)) none is of = absurd of

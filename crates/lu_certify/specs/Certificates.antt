@@ -1,5 +1,6 @@
 -- Certificates: what the reports of all cuts of a matrix say together.
-use Rattle.std.specs.Prelude.{◌≡◌, ◌↔◌, ◌<◌, ◌≤◌, ◌⊎◌, ℕ, List, [], ◌∷◌}
+use Rattle.std.specs.Prelude.{◌≡◌, ◌↔◌, ◌<◌, ◌≤◌, ◌⊎◌, ℕ, List}
+use Rattle.lu_choices.specs.Choices.{IsBefore}
 use Rattle.lu_component.specs.Component.{Component}
 use Rattle.lu_test.specs.declared.schedule.Move.{Move}
 use Rattle.lu_test.specs.Matrix.{IsOf, Matrix, cut}
@@ -48,7 +49,7 @@ IsClear c limits matrix =
     HasReport IsFullPass c limits.bound limits.serial matrix ⊎ IsProved c matrix limits
 
 -- No serial run offends, there are no more nodes than the limit, and the shortest schedule that
--- ends badly has so many moves: more than the bound, and at most 256.
+-- ends badly has this many moves: more than the bound, and at most 256.
 abbrev pub FailsAfter : Component → Limits → Matrix → ℕ → Type 0
 FailsAfter c limits matrix moves =
     (limits.bound < moves) × (moves ≤ most_moves)
@@ -93,12 +94,6 @@ abbrev pub NoLivelocks : Component → Matrix → Limits → Type 0
 NoLivelocks c matrix limits =
     (lengths : List ℕ) → AreLengths matrix lengths
     → HasNoLivelock c limits (cut matrix lengths)
-
--- lexicographic order: the first place where they differ decides
-abbrev pub IsBefore : List ℕ → List ℕ → Type 0
-IsBefore [] v = ⊥
-IsBefore (m ∷ u) [] = ⊥
-IsBefore (m ∷ u) (n ∷ v) = (m < n) ⊎ (m ≡ n) × IsBefore u v
 
 -- r shows that this cut fails; none before it does, in the lexicographic order of lengths, thread
 -- 0's first
@@ -155,7 +150,7 @@ IsCertificate c matrix limits (Undecided smaller r) =
     NoneFails c matrix limits × NoLivelocks c matrix limits
     × IsFirstUnclear c matrix limits smaller r
 
--- the bounds of a check's options, and so many nodes
+-- the bounds of a check's options, and this many nodes
 abbrev pub limits_of : Options → ℕ → Limits
 limits_of choice nodes =
     record { bound = choice.bound; serial = choice.serial; nodes = nodes }

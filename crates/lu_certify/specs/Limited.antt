@@ -17,7 +17,7 @@ use Rattle.lu_certify.specs.declared.looked.Found.{Found}
 use Rattle.lu_certify.specs.declared.looked.FoundAt.{FoundAt}
 use Rattle.lu_certify.specs.Certificates.{AreBeginnings, IsCertificate, IsCertificateWithin, limits_of}
 use Rattle.lu_certify.specs.Looking.{AreAllFoundAt, AreFoundAt, AreKnown, IsFoundAt, IsLooked}
-use Rattle.lu_certify.specs.Places.{IsWithoutOffence}
+use Rattle.lu_certify.specs.Cuts.{IsWithoutOffence}
 
 -- what is said of its component, its limits and its matrix
 abbrev pub OfTest : {X : Type 1} → (Component → Limits → Matrix → X) → LimitedTest → X
@@ -43,12 +43,12 @@ IsCertificateOf test certificate =
 
 -- ---- of its cuts
 
--- so it is found of the one at this place
+-- so it is found of the one with this number
 abbrev pub IsFoundIn : LimitedTest → ℕ → Found → Type 0
-IsFoundIn test place found =
-    IsFoundAt test.component.now test.matrix.now test.limits place found
+IsFoundIn test number found =
+    IsFoundAt test.component.now test.matrix.now test.limits number found
 
--- so of each of these, at its place
+-- so of each of these, by its number
 abbrev pub AreFoundIn : {A : Type 0} → LimitedTest → Vec FoundAt A → Type 0
 AreFoundIn test found =
     AreFoundAt test.component.now test.matrix.now test.limits found.items
@@ -58,7 +58,7 @@ abbrev pub AreAllFoundIn : {A B : Type 0} → LimitedTest → Vec (Vec FoundAt A
 AreAllFoundIn test found =
     AreAllFoundAt test.component.now test.matrix.now test.limits found.items
 
--- this is known of them, each at its place
+-- this is known of them, in the order of their numbers
 abbrev pub AreKnownIn : {A : Type 0} → LimitedTest → Vec Found A → Type 0
 AreKnownIn test known =
     AreKnown test.component.now test.matrix.now test.limits known.items

@@ -9,7 +9,7 @@ use Rattle.lu_certify.specs.declared.looked.Looked.TheVariants.{Failing, Stands}
 use Rattle.lu_certify.specs.declared.looked.Found.{Found}
 use Rattle.lu_certify.specs.declared.looked.FoundAt.{FoundAt}
 use Rattle.lu_certify.specs.Certificates.{IsFailingReport}
-use Rattle.lu_certify.specs.Places.{IsCutAtPlace, IsFirstLostOf, IsJudged, IsLivelockIfAny, IsStanding}
+use Rattle.lu_certify.specs.Cuts.{IsCutAt, IsFirstLostOf, IsJudged, IsLivelockIfAny, IsStanding}
 
 -- the report that shows that the cut fails; or how it stands, and its livelock, or none, where one
 -- was sought
@@ -25,15 +25,15 @@ IsFound c limits smaller found =
     IfSome found.judged (IsJudged c limits smaller)
     × IfSome found.lost (IsFirstLostOf c limits smaller)
 
--- so it is of the cut of the matrix at this place
+-- so it is of the cut of the matrix with this number
 abbrev pub IsFoundAt : Component → Matrix → Limits → ℕ → Found → Type 0
-IsFoundAt c matrix limits place found =
-    (smaller : Matrix) → IsCutAtPlace matrix place smaller → IsFound c limits smaller found
+IsFoundAt c matrix limits number found =
+    (smaller : Matrix) → IsCutAt matrix number smaller → IsFound c limits smaller found
 
--- so it is of each of them, at its place
+-- so it is of each of them, by its number
 pub record AreFoundAt (c : Component) (matrix : Matrix) (limits : Limits) (found : List FoundAt) :
     Type 0 where
-  pub each : All (λ one. IsFoundAt c matrix limits one.place one.found) found
+  pub each : All (λ one. IsFoundAt c matrix limits one.number one.found) found
 
 -- and of each in the lists of all workers
 abbrev pub AreAllFoundAt : {A : Type 0} → Component → Matrix → Limits → List (Vec FoundAt A)
@@ -41,11 +41,11 @@ abbrev pub AreAllFoundAt : {A : Type 0} → Component → Matrix → Limits → 
 AreAllFoundAt c matrix limits found =
     All (λ list. AreFoundAt c matrix limits list.items) found
 
--- what is known of cuts, each at its place
+-- what is known of cuts, in the order of their numbers
 abbrev pub AreKnown : Component → Matrix → Limits → List Found → Type 0
 AreKnown c matrix limits known =
-    (place : ℕ) (found : Found) → slice_get known place ≡ Some found
-    → IsFoundAt c matrix limits place found
+    (number : ℕ) (found : Found) → slice_get known number ≡ Some found
+    → IsFoundAt c matrix limits number found
 
 -- ---- how that changes, whatever is certified, and within which limits
 
@@ -64,7 +64,7 @@ KnowsNone known =
 abbrev pub KnowsOneMore : List Found → FoundAt → List Found → Type 0
 KnowsOneMore old one new =
     (c : Component) (matrix : Matrix) (limits : Limits) → AreKnown c matrix limits old
-    → IsFoundAt c matrix limits one.place one.found → AreKnown c matrix limits new
+    → IsFoundAt c matrix limits one.number one.found → AreKnown c matrix limits new
 
 -- after what a worker found
 abbrev pub KnowsMore : List Found → List FoundAt → List Found → Type 0
@@ -84,8 +84,8 @@ KnowsLess old new =
     (c : Component) (matrix : Matrix) (limits : Limits) → AreKnown c matrix limits old
     → AreKnown c matrix limits new
 
--- what was taken out is found of the cut at this place
+-- what was taken out is found of the cut with this number
 abbrev pub IsTakenAt : List Found → ℕ → Found → Type 0
-IsTakenAt known place taken =
+IsTakenAt known number taken =
     (c : Component) (matrix : Matrix) (limits : Limits) → AreKnown c matrix limits known
-    → IsFoundAt c matrix limits place taken
+    → IsFoundAt c matrix limits number taken

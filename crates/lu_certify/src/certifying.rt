@@ -7,7 +7,7 @@ ghost use Rattle.lu_certify.specs.declared.so_far.SoFar.TheVariants.{Clear};
 ghost use Rattle.lu_certify.specs.Certificates.{IsCertificate, NamesCutOf};
 ghost use Rattle.lu_certify.specs.Laws.{Decides};
 ghost use Rattle.lu_certify.specs.Limited.{AreKnownIn, IsCertificateOf, IsOwnSpec, NoneOffends};
-ghost use Rattle.lu_certify.specs.Places.{IsConcluded};
+ghost use Rattle.lu_certify.specs.Cuts.{IsConcluded};
 
 use crate::certificate::Certificate;
 use crate::cuts::{count_cuts, cut_at};
@@ -20,7 +20,8 @@ use crate::looking::look_further;
 use crate::progress::{Progress, Untold};
 use crate::so_far::SoFar;
 use lu_component::Component;
-use lu_serial::{Learnt, learn};
+use lu_replay::set_or_offence;
+use lu_serial::learn;
 use lu_spec::Spec;
 use lu_test::Matrix;
 use std::alloc::{AllocError, Global};
@@ -31,11 +32,9 @@ fn own_spec(alloc: Global, test: LimitedTest<'_>) -> Result<Spec, AllocError>
     ensures { IfOk result (IsOwnSpec test.entry) }
 {
     let serial = test.limits.serial;
-    match learn(alloc, alloc, test.component, test.matrix, serial)? {
-        Learnt::Set(set) => Spec::closure(alloc, test.matrix, &set),
-        Learnt::Cut(_) => unreachable!(),
-        Learnt::Conflict { .. } => unreachable!(),
-    }
+    let learnt = learn(alloc, alloc, test.component, test.matrix, serial)?;
+    let set = set_or_offence(learnt).unwrap();
+    Spec::closure(alloc, test.matrix, &set)
 }
 
 /// The certificate where no cut fails: the first livelock, or the first cut that is not clear; or,
@@ -58,8 +57,8 @@ pub(crate) fn conclude(
     }
 }
 
-/// The certificate of the component on the matrix, where this is known of some cuts already, each
-/// at its place. The others are looked at on the calling thread.
+/// The certificate of the component on the matrix, where this is known of some cuts already, in
+/// the order of their numbers. The others are looked at on the calling thread.
 pub(crate) fn certify_knowing<P: Progress>(
     alloc: Global,
     test: LimitedTest<'_>,
@@ -74,14 +73,14 @@ pub(crate) fn certify_knowing<P: Progress>(
     let cuts = count_cuts(test.matrix);
     let spins = may_spin(test.component);
     let mut so_far = SoFar::Clear;
-    for place in 0..cuts {
-        let matrix = cut_at(alloc, test.matrix, place)?;
+    for number in 0..cuts {
+        let matrix = cut_at(alloc, test.matrix, number)?;
         let cut = LimitedTest {
             component: test.component,
             matrix: &matrix,
             limits: test.limits,
         };
-        let found = take(&mut known, place);
+        let found = take(&mut known, number);
         let is_sought = !so_far.is_lost();
         match look_further(alloc, cut, found, spins, is_sought, progress)? {
             Looked::Failing(report) => {

@@ -36,21 +36,21 @@ pub(crate) enum Part {
     Lost,
 }
 
-/// What a worker takes: this part of the cut at this place.
+/// What a worker takes: this part of the cut with this number.
 #[derive(Clone, Copy)]
 pub(crate) struct Task {
-    pub(crate) place: u64,
+    pub(crate) number: u64,
     pub(crate) part: Part,
 }
 
 impl Task {
-    /// Its place among what is wanted: a lost schedule comes after its cut, as it is not wanted
+    /// Its position among what is wanted: a lost schedule comes after its cut, as it is not wanted
     /// where that fails.
-    pub(crate) fn order(&self) -> u64 {
+    pub(crate) fn position(&self) -> u64 {
         match self.part {
-            Part::Both => self.place,
-            Part::Judged => self.place,
-            Part::Lost => self.place.saturating_add(1),
+            Part::Both => self.number,
+            Part::Judged => self.number,
+            Part::Lost => self.number.saturating_add(1),
         }
     }
 }
@@ -82,9 +82,9 @@ impl Claims {
         }
     }
 
-    /// What is to do next from this end, of so many cuts, if both ends have not met.
+    /// What is to do next from this end, of this many cuts, if both ends have not met.
     pub(crate) fn next(&self, end: End, cuts: u64) -> Option<Task>
-        ensures { IfSome result (λ task. task.place < cuts) }
+        ensures { IfSome result (λ task. task.number < cuts) }
     {
         let (mine, others) = match end {
             End::First => (&self.first, &self.last),
@@ -102,7 +102,7 @@ impl Claims {
         };
         if number < last {
             return Some(Task {
-                place: number,
+                number,
                 part: Part::Both,
             });
         }
@@ -111,24 +111,24 @@ impl Claims {
         } else {
             Part::Judged
         };
-        Some(Task { place: last, part })
+        Some(Task { number: last, part })
     }
 
-    /// Notes that nothing is wanted after the cut at this place. Where two are noted at once, the
-    /// greater may stay, which costs some work and no more.
-    fn end_after(&self, place: u64) {
-        if place < self.last_wanted.load(Ordering::SeqCst) {
-            self.last_wanted.store(place, Ordering::SeqCst);
+    /// Notes that nothing is wanted after the cut with this number. Where two are noted at once,
+    /// the greater may stay, which costs some work and no more.
+    fn end_after(&self, number: u64) {
+        if number < self.last_wanted.load(Ordering::SeqCst) {
+            self.last_wanted.store(number, Ordering::SeqCst);
         }
     }
 
-    /// Notes what was found of the cut at this place, of so many. Where it fails, nothing after it
-    /// is wanted. Where it asks for no lost schedule, mostly since a serial run offends, the last
-    /// cut will ask for none either.
-    pub(crate) fn note(&self, place: u64, cuts: u64, found: &Found) {
+    /// Notes what was found of the cut with this number, of this many cuts. Where it fails, nothing
+    /// after it is wanted. Where it asks for no lost schedule, mostly since a serial run offends,
+    /// the last cut will ask for none either.
+    pub(crate) fn note(&self, number: u64, cuts: u64, found: &Found) {
         match &found.judged {
             None => {}
-            Some(Judged::Failing(_)) => self.end_after(place),
+            Some(Judged::Failing(_)) => self.end_after(number),
             Some(Judged::Stands(standing)) => {
                 if !standing.asks_for_lost() {
                     self.end_after(cuts.saturating_sub(1));
@@ -137,7 +137,7 @@ impl Claims {
         }
     }
 
-    /// Tells that a cut is done, with this part, for which so many nodes were kept: the last cut
+    /// Tells that a cut is done, with this part, for which this many nodes were kept: the last cut
     /// when both parts of it are.
     pub(crate) fn tell<P: Progress>(&self, progress: &P, part: Part, nodes: u64) {
         if matches!(part, Part::Both) {

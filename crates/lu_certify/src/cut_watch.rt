@@ -51,22 +51,22 @@ impl<'a, P: Progress> Watch for NodeCount<'a, P> {
 pub(crate) struct CutWatch<'a, P> {
     count: NodeCount<'a, P>,
 
-    /// After which place nothing is wanted, and that of what is sought.
+    /// After which position nothing is wanted, and that of what is sought.
     last_wanted: &'a AtomicU64,
-    place: u64,
+    position: u64,
     stopped: bool,
 }
 
 impl<'a, P: Progress> CutWatch<'a, P> {
-    /// Nothing is kept of a cut, of which something is sought that has this place among what is
-    /// wanted.
-    pub(crate) fn new(progress: &'a P, last_wanted: &'a AtomicU64, place: u64) -> CutWatch<'a, P>
+    /// Nothing is kept of a cut, of which something is sought that has this position among what
+    /// is wanted.
+    pub(crate) fn new(progress: &'a P, last_wanted: &'a AtomicU64, position: u64) -> CutWatch<'a, P>
         ensures running { result.stopped ≡ false }
     {
         CutWatch {
             count: NodeCount::new(progress),
             last_wanted,
-            place,
+            position,
             stopped: false,
         }
     }
@@ -87,7 +87,7 @@ impl<'a, P: Progress> Watch for CutWatch<'a, P> {
     fn stop(&mut self) -> bool {
         self.count.nodes = self.count.nodes.saturating_add(1);
         self.count.progress.keep();
-        self.stopped = self.last_wanted.load(Ordering::Relaxed) < self.place;
+        self.stopped = self.last_wanted.load(Ordering::Relaxed) < self.position;
         self.stopped
     }
 

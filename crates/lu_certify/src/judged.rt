@@ -26,7 +26,7 @@ pub(crate) enum Standing {
 }
 
 impl Standing {
-    ghost use Rattle.lu_certify.specs.Places.{AsksForLost};
+    ghost use Rattle.lu_certify.specs.Cuts.{AsksForLost};
 
     /// Whether it asks for the first lost schedule, which is its livelock then: no serial run
     /// offends. Else it has none.

@@ -3,7 +3,7 @@
 ghost use Rattle.std.specs.Prelude.{◌≡◌, false, true, IfErr, IfOk, OnOk};
 ghost use Rattle.lu_graph.specs.declared.halted.Halted.TheVariants.{Stopped};
 ghost use Rattle.lu_certify.specs.Limited.{IsReportAtBounds, OfTest};
-ghost use Rattle.lu_certify.specs.Places.{IsJudged, IsJudgedFirst, IsLeftOpen, IsTold};
+ghost use Rattle.lu_certify.specs.Cuts.{IsJudged, IsJudgedFirst, IsLeftOpen, IsTold};
 
 use crate::judged::{Judged, Standing};
 use crate::limited::LimitedTest;

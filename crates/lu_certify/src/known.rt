@@ -1,4 +1,4 @@
-//! What is known of cuts, each at its place.
+//! What is known of cuts, in the order of their numbers.
 
 ghost use Rattle.std.specs.Prelude.{IfOk};
 ghost use Rattle.lu_certify.specs.Looking.{IsTakenAt, KnowsAll, KnowsLess, KnowsMore, KnowsNone, KnowsOneMore};
@@ -7,18 +7,18 @@ use crate::looked::{Found, FoundAt};
 use std::alloc::{AllocError, Global};
 use std::mem;
 
-/// Puts what was found of a cut at its place, with what is there.
+/// Puts what was found of a cut where its number says, with what is there.
 fn put(known: &mut Vec<Found>, one: FoundAt)
     ensures { KnowsOneMore known.old.items one known.new.items }
 {
-    let place = one.place as usize;
-    if place < known.len() {
-        let before = mem::replace(&mut known[place], Found::nothing());
-        known[place] = before.with(one.found);
+    let number = one.number as usize;
+    if number < known.len() {
+        let before = mem::replace(&mut known[number], Found::nothing());
+        known[number] = before.with(one.found);
     }
 }
 
-/// Puts what a worker found of each cut at its place.
+/// Puts what a worker found of each cut where its number says.
 fn put_all(known: &mut Vec<Found>, found: Vec<FoundAt>)
     ensures { KnowsMore known.old.items found.items known.new.items }
 {
@@ -27,7 +27,7 @@ fn put_all(known: &mut Vec<Found>, found: Vec<FoundAt>)
     }
 }
 
-/// Nothing is known of so many cuts.
+/// Nothing is known of this many cuts.
 fn none_known(alloc: Global, cuts: u64) -> Result<Vec<Found>, AllocError>
     ensures { IfOk result (λ known. KnowsNone known.items) }
 {
@@ -38,7 +38,7 @@ fn none_known(alloc: Global, cuts: u64) -> Result<Vec<Found>, AllocError>
     Ok(known)
 }
 
-/// What is known of so many cuts by what workers found.
+/// What is known of this many cuts by what workers found.
 pub(crate) fn known_by(
     alloc: Global,
     cuts: u64,
@@ -53,13 +53,13 @@ pub(crate) fn known_by(
     Ok(known)
 }
 
-/// Takes out what is known of the cut at this place.
-pub(crate) fn take(known: &mut Vec<Found>, place: u64) -> Found
+/// Takes out what is known of the cut with this number.
+pub(crate) fn take(known: &mut Vec<Found>, number: u64) -> Found
     ensures known { KnowsLess known.old.items known.new.items }
-    ensures taken { IsTakenAt known.old.items place result }
+    ensures taken { IsTakenAt known.old.items number result }
 {
-    if place as usize >= known.len() {
+    if number as usize >= known.len() {
         return Found::nothing();
     }
-    mem::replace(&mut known[place as usize], Found::nothing())
+    mem::replace(&mut known[number as usize], Found::nothing())
 }

@@ -23,7 +23,7 @@ pub struct Limits {
 impl Limits {
     ghost use Rattle.lu_certify.specs.Certificates.{limits_of};
 
-    /// The bounds of a check's options, and so many nodes.
+    /// The bounds of a check's options, and this many nodes.
     pub fn of(options: Options, nodes: u32) -> Limits
         ensures limits { result ≡ limits_of options nodes }
         ensures bound { result.bound ≤ most_moves }

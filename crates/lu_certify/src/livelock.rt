@@ -3,7 +3,7 @@
 ghost use Rattle.std.specs.Prelude.{◌≡◌, IfErr, IfOk, IfSome, false, true};
 ghost use Rattle.lu_graph.specs.declared.halted.Halted.TheVariants.{Stopped};
 ghost use Rattle.lu_certify.specs.Limited.{OfTest};
-ghost use Rattle.lu_certify.specs.Places.{IsFirstLostOf, SeeksLivelock};
+ghost use Rattle.lu_certify.specs.Cuts.{IsFirstLostOf, SeeksLivelock};
 
 use crate::judged::Standing;
 use crate::limited::LimitedTest;

@@ -30,10 +30,10 @@ pub(crate) struct Found {
     pub(crate) lost: Option<Option<Schedule>>,
 }
 
-/// The same, with the place of the cut.
+/// The same, with the number of the cut.
 #[derive(Drop)]
 pub(crate) struct FoundAt {
-    pub(crate) place: u64,
+    pub(crate) number: u64,
     pub(crate) found: Found,
 }
 

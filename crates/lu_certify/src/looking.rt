@@ -1,10 +1,10 @@
 //! Cuts that are looked at.
 
-ghost use Rattle.std.specs.Prelude.{◌≡◌, ◌≢◌, Ok, ◌<◌, IfErr, IfOk, IfSome, OnOk, false, true};
+ghost use Rattle.std.specs.Prelude.{◌≡◌, ◌<◌, IfErr, IfOk, IfSome, OnOk, false, true};
 ghost use Rattle.lu_graph.specs.declared.halted.Halted.TheVariants.{Stopped};
 ghost use Rattle.lu_certify.specs.Limited.{AreFoundIn, IsFoundIn, IsReportAtBounds, OfTest};
 ghost use Rattle.lu_certify.specs.Looking.{IsFound, IsLooked};
-ghost use Rattle.lu_certify.specs.Places.{IsFirstLostOf, IsJudged, cut_count};
+ghost use Rattle.lu_certify.specs.Cuts.{IsFirstLostOf, IsJudged, cut_count};
 
 use crate::claims::{Claims, End, Part, Task};
 use crate::cut_watch::{CutWatch, NodeCount};
@@ -15,7 +15,7 @@ use crate::limited::LimitedTest;
 use crate::livelock::{find_lost, seek_livelock};
 use crate::looked::{Found, FoundAt, Looked};
 use crate::progress::Progress;
-use lu_graph::{Alone, Expanders, Halted, Watch};
+use lu_graph::{Alone, Expanders, Halted, Watch, unhalted};
 use lu_report::Report;
 use lu_test::Schedule;
 use std::alloc::{AllocError, Global};
@@ -105,18 +105,6 @@ fn look_checked<W: Watch, E: Expanders>(
 {
     let judged = judge_checked(alloc, cut, report, false, watch, expanders)?;
     with_livelock(alloc, cut, judged, None, is_sought, watch)
-}
-
-/// What was found, where no watch stopped the look.
-fn unhalted(found: Result<Looked, Halted>) -> Result<Looked, AllocError>
-    requires { IfErr found (λ halted. halted ≢ Stopped) }
-    ensures { IfOk result (λ looked. found ≡ Ok looked) }
-{
-    match found {
-        Ok(looked) => Ok(looked),
-        Err(Halted::Memory) => Err(AllocError),
-        Err(Halted::Stopped) => unreachable!(),
-    }
 }
 
 /// Looks at a cut of which this was found already, on the calling thread.
@@ -231,11 +219,11 @@ fn find_at<W: Watch, E: Expanders>(
     watch: &mut W,
     expanders: &E,
 ) -> Result<Found, Halted>
-    requires place { task.place < cut_count test.matrix.now.threads }
+    requires number { task.number < cut_count test.matrix.now }
     requires running { W.is_stopped watch.old ≡ false }
-    ensures { IfOk result (IsFoundIn test.entry task.place) }
+    ensures { IfOk result (IsFoundIn test.entry task.number) }
 {
-    let matrix = cut_at(alloc, test.matrix, task.place)?;
+    let matrix = cut_at(alloc, test.matrix, task.number)?;
     let cut = LimitedTest {
         component: test.component,
         matrix: &matrix,
@@ -264,17 +252,17 @@ pub(crate) fn look_at_cuts<P: Progress, E: Expanders>(
             claims.rest();
             return list;
         };
-        let mut watch = CutWatch::new(progress, &claims.last_wanted, task.order());
+        let mut watch = CutWatch::new(progress, &claims.last_wanted, task.position());
         let result = find_at(alloc, test, task, &mut watch, expanders);
         claims.tell(progress, task.part, watch.nodes());
         match result {
             Ok(found) => {
-                let place = task.place;
-                claims.note(place, cuts, &found);
+                let number = task.number;
+                claims.note(number, cuts, &found);
                 if list.reserve(1).is_err() {
                     return list;
                 }
-                list.push_reserved(FoundAt { place, found });
+                list.push_reserved(FoundAt { number, found });
             }
             Err(Halted::Stopped) => {}
             Err(Halted::Memory) => return list,

@@ -34,10 +34,10 @@ fn join_each<R: Threads>(rt: &R, children: Vec<PromisedHandle<Vec<FoundAt>, Limi
     }
 }
 
-/// Runs so many workers: all but one in threads of this scope, which take tasks from the first on,
-/// and one on the calling thread, which takes them from the last on, and whose searches are helped
-/// by the threads of those that have nothing left to take. Each that was started is joined, also
-/// where a start was refused.
+/// Runs this many workers: all but one in threads of this scope, which take tasks from the first
+/// on, and one on the calling thread, which takes them from the last on, and whose searches are
+/// helped by the threads of those that have nothing left to take. Each that was started is joined,
+/// also where a start was refused.
 fn run_in<'s, E, R: Threads + Wait, P: Progress>(
     scope: &Scope<'s, E>,
     rt: &R,
@@ -96,7 +96,7 @@ fn run_in<'s, E, R: Threads + Wait, P: Progress>(
     }
 }
 
-/// Runs so many workers in threads of their own.
+/// Runs this many workers in threads of their own.
 fn run_workers<R: Threads + Wait, P: Progress>(
     rt: &R,
     alloc: Global,
@@ -130,8 +130,8 @@ fn run_workers<R: Threads + Wait, P: Progress>(
     )
 }
 
-/// What so many workers find of the cuts of the matrix, each at its place. Where there are too many
-/// cuts, nothing is known.
+/// What this many workers find of the cuts of the matrix, in the order of their numbers. Where
+/// there are too many cuts, nothing is known.
 pub(crate) fn look_by_workers<R: Threads + Wait, P: Progress>(
     rt: &R,
     alloc: Global,

@@ -20,7 +20,7 @@ pub(crate) enum SoFar {
 }
 
 impl SoFar {
-    ghost use Rattle.lu_certify.specs.Places.{IsLost, so_far_after};
+    ghost use Rattle.lu_certify.specs.Cuts.{IsLost, so_far_after};
 
     /// Whether one has a livelock.
     pub(crate) fn is_lost(&self) -> bool

@@ -10,8 +10,8 @@ pub(crate) enum Told {
     /// There are few, no serial run offends, and each ended schedule is good, of any length.
     AllGood,
 
-    /// There are few, no serial run offends, and the shortest schedule that ends badly has so many
-    /// moves: more than the bound, and at most 256.
+    /// There are few, no serial run offends, and the shortest schedule that ends badly has this
+    /// many moves: more than the bound, and at most 256.
     BadAfter(u16),
 
     /// Neither.
@@ -19,7 +19,7 @@ pub(crate) enum Told {
 }
 
 impl Told {
-    ghost use Rattle.lu_certify.specs.Places.{IsToldBy};
+    ghost use Rattle.lu_certify.specs.Cuts.{IsToldBy};
 
     /// What it tells of a cut that all its schedules end so, searched up to the bound.
     pub(crate) fn by(ending: Ending, bound: u16) -> Told

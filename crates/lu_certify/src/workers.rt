@@ -78,8 +78,8 @@ fn certify_cuts<R: Threads + Wait, G: Gate, P: Progress>(
     }
     let cuts = count_cuts(test.matrix);
     let mut so_far = SoFar::Clear;
-    for place in 0..cuts {
-        let matrix = cut_at(alloc, test.matrix, place)?;
+    for number in 0..cuts {
+        let matrix = cut_at(alloc, test.matrix, number)?;
         let cut = Test {
             component: test.component,
             matrix: &matrix,
@@ -133,8 +133,8 @@ pub fn certify_with_progress<R: Threads + Wait, G: Gate, P: Progress>(
     answer
 }
 
-/// The same certificate as by [`certify`](crate::certify), where so many workers as the options say
-/// go through the cuts, each of which has at most so many nodes: it is the same for any number of
+/// The same certificate as by [`certify`](crate::certify), where as many workers as the options say
+/// go through the cuts, each of which has at most this many nodes: it is the same for any number of
 /// workers and any depth. With one worker all is done on the calling thread. More of them share the
 /// cuts where threads may spin, each cut as a whole, and there may be as many nodes of each; else
 /// they share the pieces of each cut, one cut after the other, and pass the gate at each piece. The

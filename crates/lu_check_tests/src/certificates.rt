@@ -58,8 +58,8 @@ impl Progress for Tally {
     }
 }
 
-/// The certificate of the matrix by so many workers. All nodes that were kept are let go of at the
-/// end, which is told.
+/// The certificate of the matrix by this many workers. All nodes that were kept are let go of at
+/// the end, which is told.
 fn certified<R: AllocGlobal + Abort + Threads + Wait>(
     rt: &R,
     matrix: &[u8],

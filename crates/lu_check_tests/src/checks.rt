@@ -56,7 +56,7 @@ fn is_failure(rt: &impl AllocGlobal, report: &Report, text: &str) -> Result<bool
     }
 }
 
-/// The report is a pass with so many complete schedules, and none that is stuck or cut.
+/// The report is a pass with this many complete schedules, and none that is stuck or cut.
 fn is_pass(report: &Report, complete: u64) -> bool {
     match report.finding() {
         Finding::Pass(counts) => {
@@ -205,7 +205,7 @@ fn the_least_failure_comes_last(rt: HostRuntime) -> Result<(), Fail> {
     Ok(())
 }
 
-/// A gate that holds each worker's first piece until so many workers have come, at most a million
+/// A gate that holds each worker's first piece until this many workers have come, at most a million
 /// turns, and counts its calls.
 #[derive(Drop)]
 struct Meeting {
@@ -399,7 +399,7 @@ fn is_bad(rt: &impl AllocGlobal, found: &Option<Found>, text: &str) -> Result<bo
     }
 }
 
-/// What is found is clean, with so many complete schedules, and none that is stuck.
+/// What is found is clean, with this many complete schedules, and none that is stuck.
 fn is_clean(found: &Option<Found>, complete: u64) -> bool {
     match found {
         Some(Found::Clean(counts)) => counts.complete == complete && counts.stuck == 0,

@@ -118,7 +118,7 @@ IsProgramOf rows options = IsApp (table_app (commands_said rows) (options_said o
 
 -- ---- what words ask for
 
--- the number of so many bits that a word says, where it says one
+-- the number of this many bits that a word says, where it says one
 abbrev pub number_by : ℕ → Text → Option ℕ
 number_by bits digits =
     if nat_lt 0 (length digits) &&
@@ -161,7 +161,7 @@ limits_in rows =
 abbrev pub head_start : ℕ
 head_start = 16777216
 
--- pieces of so many moves at once; where that is not said, a head start, and then pieces of 4
+-- pieces of this many moves at once; where that is not said, a head start, and then pieces of 4
 abbrev pub choice_for : ℕ → ℕ → ℕ → Option ℕ → Options
 choice_for bound serial workers None = with_head_start head_start (choice bound serial workers 4)
 choice_for bound serial workers (Some depth) = choice bound serial workers depth
@@ -240,7 +240,7 @@ explain_in rows =
     option_map (explain_command (flag_in (codes "spec") rows))
     (limits_with (Some 0) (number_named (codes "serial") rows))
 
--- so many threads, where the number is one of 8 bits
+-- this many threads, where the number is one of 8 bits
 abbrev pub alike : ℕ → Option CampaignThreads
 alike threads = if nat_lt threads 256 then Some (Alike threads) else None
 

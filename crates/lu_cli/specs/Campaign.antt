@@ -39,7 +39,7 @@ use Rattle.lu_cli.specs.declared.request.CampaignTrial.TheVariants.{Checked, Cer
 
 -- ---- where all matrices are checked
 
--- all matrices pass, and there are so many
+-- all matrices pass, and there are this many
 abbrev pub all_pass : ℕ → Answer
 all_pass count = record { text = codes "campaign pass " ++ decimal count ++ codes "\n"; status = 0 }
 
@@ -86,7 +86,7 @@ IsCheckedPart Count asked = IsCountAnswer asked.candidates asked.calls
 
 -- ---- where they are certified
 
--- on all matrices the component is linearizable, and there are so many
+-- on all matrices the component is linearizable, and there are this many
 abbrev pub all_linearizable : ℕ → Answer
 all_linearizable count =
     record { text = codes "campaign linearizable " ++ decimal count ++ codes "\n"; status = 0 }
@@ -194,7 +194,7 @@ IsAnswerToTrial Surveyed = IsSurveyedPart
 abbrev pub asked_with : Component → List Call → List (List Call) → CampaignOptions → Asked
 asked_with c setup lists o = asked_for c setup lists o.calls o.bounds.bound o.bounds.serial
 
--- so many threads draw from the one line of a matrix
+-- this many threads draw from the one line of a matrix
 abbrev pub ToAlike : ℕ → List (List Call) → (List (List Call) → Answer → Type 0) → Answer → Type 0
 ToAlike threads (candidates ∷ []) IsAnswer answer = IsAnswer (replicate threads candidates) answer
 ToAlike threads lines IsAnswer answer = answer ≡ refused (codes "G2")
@@ -230,7 +230,7 @@ abbrev pub TriesLists : Test → List (List Call) → CampaignOptions → Result
 TriesLists test lists o =
     Answered (IsListsAnswer o test.component.now test.matrix.now.setup lists)
 
--- where so many threads draw from the one line of the matrix
+-- where this many threads draw from the one line of the matrix
 abbrev pub TriesAlike : Test → ℕ → CampaignOptions → Result Answer Refusal → Type 0
 TriesAlike test threads o =
     Answered (ToAlike threads test.matrix.now.threads

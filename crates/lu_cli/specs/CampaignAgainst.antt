@@ -35,7 +35,7 @@ use Rattle.lu_cli.specs.declared.request.CampaignPart.TheVariants.{Whole, Slice,
 
 -- ---- what is found
 
--- on all matrices the component agrees with the trusted one, and there are so many
+-- on all matrices the component agrees with the trusted one, and there are this many
 abbrev pub all_agree : ℕ → Answer
 all_agree count =
     record { text = codes "campaign agrees " ++ decimal count ++ codes "\n"; status = 0 }
@@ -126,7 +126,7 @@ abbrev pub ComparesLists : Component → Test → List (List Call) → CampaignO
 ComparesLists trusted test lists o =
     Answered (IsComparedLists trusted o test.component.now test.matrix.now.setup lists)
 
--- where so many threads draw from the one line of the matrix
+-- where this many threads draw from the one line of the matrix
 abbrev pub ComparesAlike : Component → Test → ℕ → CampaignOptions → Result Answer Refusal → Type 0
 ComparesAlike trusted test threads o =
     Answered (ToAlike threads test.matrix.now.threads

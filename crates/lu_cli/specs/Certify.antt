@@ -17,7 +17,7 @@ use Rattle.lu_cli.specs.declared.request.CertifyOptions.{CertifyOptions}
 abbrev pub certified_local : CertifyOptions → Component → ℕ
 certified_local asked c = max (min asked.local 16) c.local
 
--- the certificate of the component with so many local instructions to a move, whatever the number
+-- the certificate of the component with this many local instructions to a move, whatever the number
 -- of workers and the depth; or, with more than one worker, that a thread could not start
 abbrev pub IsCertified : Component → Matrix → CertifyOptions → Answer → Type 0
 IsCertified c matrix asked answer =

@@ -20,7 +20,7 @@ use Rattle.lu_cli.specs.Reading.{ToRecorded, ToParts, ToTexts}
 use Rattle.lu_cli.specs.declared.request.Showing.{Showing}
 use Rattle.lu_cli.specs.declared.request.Showing.TheVariants.{Count, Schedules}
 
--- so many histories are shown
+-- this many histories are shown
 abbrev pub passes : ℕ → List ℕ
 passes count = codes "conform pass " ++ decimal count ++ codes "\n"
 
@@ -28,7 +28,7 @@ passes count = codes "conform pass " ++ decimal count ++ codes "\n"
 abbrev pub schedule_parts : List (List Move) → List ℕ
 schedule_parts schedules = flat_map (λ u. codes "---\n" ++ schedule_text u) schedules
 
--- that so many histories are shown; with the schedules, if these are asked for
+-- that this many histories are shown; with the schedules, if these are asked for
 abbrev pub all_shown : Showing → List (List Move) → Answer
 all_shown Count schedules = record { text = passes (length schedules); status = 0 }
 all_shown Schedules schedules =

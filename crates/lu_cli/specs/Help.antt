@@ -12,7 +12,7 @@ use Rattle.lu_cli.specs.Args.{most_long}
 use Rattle.lu_cli.specs.Outcomes.{Answer}
 use Rattle.lu_cli.specs.Table.{TableCommand, TableOption, command_said, commands, commands_said, option_said, options, options_said}
 
--- so many blanks
+-- this many blanks
 abbrev pub blanks : ℕ → Text
 blanks count = replicate count 32
 

@@ -24,7 +24,7 @@ use Rattle.lu_cli.specs.Outcomes.{Answer}
 use Rattle.lu_cli.specs.Reading.{ToRecorded, ToParts, ToTexts, ToGiven}
 use Rattle.lu_cli.specs.Serial.{AreSerial, IsOffenceReported}
 
--- so many histories have their witnesses
+-- this many histories have their witnesses
 abbrev pub all_witnessed : ℕ → Answer
 all_witnessed count =
     record { text = codes "judge pass " ++ decimal count ++ codes "\n"; status = 0 }

@@ -35,7 +35,7 @@ remarked remarks = record {
 -- what there is to say of a bundle, in the order of its lines
 abbrev pub AreRemarksOn : Bounds → List ℕ → List Remark → Type 0
 AreRemarksOn limits bundle remarks =
-    IsSaidOf limits.serial bundle (said_of remarks) × IsNonDecreasingBy (λ r. r.said.place) remarks
+    IsSaidOf limits.serial bundle (said_of remarks) × IsNonDecreasingBy (λ r. r.said.line) remarks
 
 abbrev pub IsLinted : Bounds → List ℕ → Answer → Type 0
 IsLinted limits bundle answer =
@@ -73,11 +73,11 @@ IsFaulted source answer =
 -- what is said of a line after the first `above` of a bundle, where `now` lines stand in their
 -- place
 abbrev pub on_line : ℕ → Remark → Remark
-on_line n r = record { said = record { place = n; cause = r.said.cause }; words = r.words }
+on_line n r = record { said = record { line = n; cause = r.said.cause }; words = r.words }
 
 abbrev pub moved : ℕ → ℕ → Remark → Option Remark
 moved above now r =
-    if nat_lt above r.said.place then Some (on_line (line_below now (r.said.place - above)) r)
+    if nat_lt above r.said.line then Some (on_line (line_below now (r.said.line - above)) r)
     else None
 
 abbrev pub remarks_below : ℕ → ℕ → List Remark → List Remark
@@ -93,7 +93,7 @@ abbrev pub below_source : List ℕ → Component → List Remark → List Remark
 below_source source c remarks =
     remarks_below (length (lines_of (component_text c))) (length (lines_of source)) remarks
 
--- what there is to say of these parts after a source of so many lines with this component
+-- what there is to say of these parts after a source of this many lines with this component
 abbrev pub AreRemarksAfter : {Z : Type 0} → Bounds → Component → ℕ → List (List ℕ)
     → Vec Remark Z → Type 0
 AreRemarksAfter limits c now parts remarks =

@@ -87,12 +87,12 @@ abbrev pub TellsOf : {W : Type 0} → Answer → (W → Option (List ℕ)) → L
 TellsOf answer contents output status =
     Tells answer (contents (old_of output).inner) (contents (new_of output).inner) status
 
--- where no write failed, a read that failed is told
+-- where no write failed, a read that failed is reported
 abbrev pub TellsUnread : {R W : Type 0} → (W → Option (List ℕ)) → Lent R → Lent W → ℕ → Type 0
 TellsUnread contents input output status =
     GoesWell output → GoesWell input ⊎ TellsOf no_device contents output status
 
--- where no write and no read failed, something else is told
+-- where no write and no read failed, something else is reported
 abbrev pub TellsElse : {R W : Type 0} → (W → Option (List ℕ)) → Lent R → Lent W → ℕ → Type 0
 TellsElse contents input output status =
     GoesWell output → GoesWell input

@@ -34,7 +34,7 @@ use Rattle.lu_cli.specs.Telling.{IsWordingOf}
 use Rattle.lu_cli.specs.Refusals.{refused_in_history}
 use Rattle.lu_cli.specs.Outcomes.{Answer, refused, refused_on_line, unsettled}
 
--- what is answered to the parts of a bundle, where it has so many and no more
+-- what is answered to the parts of a bundle, where it has this many and no more
 abbrev pub ToParts : {A : Type 0} → Option A → (A → Answer → Type 0) → Answer → Type 0
 ToParts None IsAnswer answer = answer ≡ refused (codes "B1")
 ToParts (Some parts) IsAnswer answer = IsAnswer parts answer
@@ -103,7 +103,7 @@ ToTexts component matrix IsAnswer =
     (λ c. ToMatrix c matrix (λ m. ToSettled c m (IsAnswer c m)))
 
 -- A component, or a source, whose component is taken, is read first, and then the matrix, whose
--- setup is run. What a source does is told in its own words.
+-- setup is run. What a source does is shown in its own words.
 abbrev pub ToComponent : List ℕ → (Component → Answer → Type 0) → Answer → Type 0
 ToComponent text IsAnswer answer =
     MatchBool (is_source text) (ToValue source_code_of (component_meant text) IsAnswer answer)

@@ -81,7 +81,7 @@ abbrev pub Answered : (Answer → Type 0) → Result Answer Refusal → Type 0
 Answered IsAnswer (Ok answer) = IsAnswer answer
 Answered IsAnswer (Err refusal) = IfSome (refusal_answer refusal) IsAnswer
 
--- what is told of it: the answer, or the refusal's line
+-- what is reported of it: the answer, or the refusal's line
 abbrev pub SaysResult : Result Answer Refusal → Answer → Type 0
 SaysResult (Ok answer) told = told ≡ answer
 SaysResult (Err refusal) told = refusal_answer refusal ≡ Some told

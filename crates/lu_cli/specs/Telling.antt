@@ -1,4 +1,4 @@
--- What is told of a component or of a source, and in which words.
+-- What is shown of a component or of a source, and in which words.
 use Rattle.std.specs.Prelude.{◌≡◌, ◌⊎◌, ℕ, true, false, List, MatchBool, Ok}
 use Rattle.lu_text.specs.declared.fault.Fault.{Fault}
 use Rattle.lu_text.specs.Faults.{IsUnlessMemory}
@@ -21,8 +21,8 @@ use Rattle.lu_cli.specs.declared.told.Words.TheVariants as told_by
 use Rattle.lu_cli.specs.declared.told.Told.{Told}
 use Rattle.lu_cli.specs.Texts.{AreSettled, IsFaultOfMatrix, IsFaultOfTexts, IsSettledMatrix}
 
--- A component is told in its own words, with the labels of its text, and one that was compiled from
--- a source by the source's lines, and where its instructions come from in them.
+-- A component is shown in its own words, with the labels of its text, and one that was compiled
+-- from a source by the source's lines, and where its instructions come from in them.
 abbrev pub IsWordingOf : List ℕ → Wording → Type 0
 IsWordingOf text Component = ⊥
 IsWordingOf text (Labelled labels) = (is_source text ≡ false) × (labels.now ≡ labels_of text)
@@ -43,7 +43,7 @@ abbrev pub AreWordsOf : List ℕ → SourceWords → Type 0
 AreWordsOf text words =
     (texts words.lines.items ≡ lines_of text) × AreOrigins (lines_of text) words.origins
 
--- the words in which it is told
+-- the words in which it is shown
 abbrev pub TellsBy : Words → Wording → Type 0
 TellsBy (told_by.Labels labels) Component = ⊥
 TellsBy (told_by.Labels labels) (Labelled told) = told.now ≡ labels
@@ -76,7 +76,7 @@ IsComponentOf text matrix told =
     × IsSettledMatrix told.component matrix told.matrix)
     (AreSettled text matrix told.component told.matrix)
 
--- and the words in which it is told
+-- and the words in which it is shown
 abbrev pub IsToldOf : List ℕ → List ℕ → Told → Type 0
 IsToldOf text matrix told = IsComponentOf text matrix told × AreTextWords text told.words
 

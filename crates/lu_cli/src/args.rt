@@ -156,7 +156,7 @@ fn bounds_in(given: &ArgMatches<'_>) -> Option<Bounds>
     Bounds::new(bound, serial)
 }
 
-/// The options with pieces of so many moves. Where that is not said, one worker has a head start,
+/// The options with pieces of this many moves. Where that is not said, one worker has a head start,
 /// and then pieces have 4.
 fn options_with(bound: u16, serial: u16, workers: u16, depth: Option<u16>) -> Option<Options>
     ensures { result ≡ choice_of (spec.choice_for bound serial workers depth) }
@@ -180,7 +180,7 @@ fn options_in(given: &ArgMatches<'_>) -> Option<Options>
     options_with(bound, serial, workers, number_named(given, "depth"))
 }
 
-/// So many threads.
+/// This many threads.
 fn alike(threads: u16) -> Option<CampaignThreads>
     ensures { result ≡ spec.alike threads }
 {

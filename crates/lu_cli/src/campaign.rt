@@ -322,7 +322,7 @@ fn try_lists<'a>(
     }
 }
 
-/// What is answered where so many threads draw from the one line of the matrix.
+/// What is answered where this many threads draw from the one line of the matrix.
 fn try_alike(
     alloc: Global,
     test: Test<'_>,

@@ -157,7 +157,7 @@ fn compare_lists<'a>(
     compare_part(alloc, roles_of(test, lists, options), trusted, part)
 }
 
-/// What is answered against a trusted component, where so many threads draw from the one line of
+/// What is answered against a trusted component, where this many threads draw from the one line of
 /// the matrix.
 fn compare_alike(
     alloc: Global,

@@ -29,7 +29,7 @@ These and lint take a source in the component's place.
 
 ";
 
-/// Adds so many blanks.
+/// Adds this many blanks.
 fn push_blanks(text: &mut String, count: usize) -> Result<(), AllocError>
     ensures { Writes result text.old text.new (spec.blanks count) }
 {

@@ -19,7 +19,7 @@ use lu_spec::{Spec, read_given_spec};
 use lu_trie::SerialTree;
 use std::alloc::{AllocError, Global};
 
-/// That so many histories have their witnesses.
+/// That this many histories have their witnesses.
 fn all_witnessed(alloc: Global, count: usize) -> Result<Answer, AllocError>
     ensures { IfOk result (λ answer. answer ≡ spec.all_witnessed count) }
 {

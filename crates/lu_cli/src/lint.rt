@@ -102,23 +102,23 @@ fn push_parts(bundle: &mut Vec<u8>, parts: &[&[u8]]) -> Result<(), AllocError>
 }
 
 /// The remark, where it is of a line after the first `above`: on the line that it has where `now`
-/// lines stand in their place.
+/// lines stand in their stead.
 fn moved(remark: Remark, above: usize, now: usize) -> Option<Remark>
     ensures { result ≡ spec.moved above now remark }
 {
     let Remark { said, words } = remark;
-    let Said { place, cause } = said;
-    if place <= above {
+    let Said { line, cause } = said;
+    if line <= above {
         return None;
     }
-    let place = now.saturating_add(place - above);
+    let line = now.saturating_add(line - above);
     Some(Remark {
-        said: Said { place, cause },
+        said: Said { line, cause },
         words,
     })
 }
 
-/// What is said of lines after the first `above`, where `now` lines stand in their place.
+/// What is said of lines after the first `above`, where `now` lines stand in their stead.
 fn remarks_below(
     alloc: Global,
     remarks: Vec<Remark>,

@@ -162,9 +162,9 @@ pub fn run_with_progress<X: AllocGlobal + Threads + Wait, P: Progress, S: AsStr,
     ensures idle { request_said S.text words.now ≡ Some Help → input.new ≡ input.old }
     // A write that failed shows in the status.
     ensures unwritten { output.old.failures < output.new.failures → result ≡ 4 }
-    // A read that failed is told.
+    // A read that failed is reported.
     ensures unread { TellsUnread W.contents input output result }
-    // And it is told only then.
+    // And it is reported only then.
     ensures blamed { TellsElse W.contents input output result }
 {
     match answer_for(rt, progress, words, input) {

@@ -6,7 +6,7 @@ use lu_report::Bounds;
 /// Which threads the matrices of a campaign have, and what each takes its calls from.
 #[derive(Clone, Copy, Debug, PartialEq, Eq)]
 pub enum CampaignThreads {
-    /// So many threads; each takes its calls from the one list of candidates.
+    /// This many threads; each takes its calls from the one list of candidates.
     Alike(u8),
 
     /// Those of the bundle's matrix; each takes its calls from its own line.

@@ -1,4 +1,4 @@
-//! What a component or a source does, and the words in which it is told.
+//! What a component or a source does, and the words in which it is shown.
 
 ghost use Rattle.std.specs.Prelude.{◌≡◌, IfErr, IfOk};
 ghost use Rattle.lu_machine.specs.Starts.{CanRun};
@@ -23,7 +23,7 @@ pub(crate) struct SourceWords<'a> {
     origins: Origins,
 }
 
-/// What a component is told by.
+/// What a component is shown by.
 #[derive(Drop)]
 pub(crate) enum Words<'a> {
     /// The labels of its text.
@@ -33,7 +33,7 @@ pub(crate) enum Words<'a> {
     Source(SourceWords<'a>),
 }
 
-/// A component and a matrix of it, and what the component is told by.
+/// A component and a matrix of it, and what the component is shown by.
 #[derive(Drop)]
 pub(crate) struct Told<'a> {
     pub(crate) component: Component,
@@ -42,7 +42,7 @@ pub(crate) struct Told<'a> {
 }
 
 impl<'a> Told<'a> {
-    /// How instructions of the component are told.
+    /// How instructions of the component are shown.
     pub(crate) fn wording(&self) -> Wording<'_>
         ensures { TellsBy self.now.words result }
     {

@@ -39,7 +39,7 @@ abbrev pub IsOperand : Operand → Type 0
 IsOperand (Reg r) = IsRegister r
 IsOperand (Num n) = n < 2 ^ 32
 
--- Among so many arrays and locks, and code of this length: what the instruction names is there.
+-- Among this many arrays and locks, and code of this length: what the instruction names is there.
 abbrev pub IsInstr : ℕ → ℕ → ℕ → Instr → Type 0
 IsInstr arrays locks places (Set to v) = IsRegister to × IsOperand v
 IsInstr arrays locks places (Compute by to a b) = IsRegister to × IsOperand a × IsOperand b
@@ -66,7 +66,7 @@ abbrev pub EndsWell : Option Instr → Type 0
 EndsWell None = ⊥
 EndsWell (Some instr) = IsLast instr
 
--- Among so many arrays and locks: 1 to 64 instructions, and the last is `return` or `jump`.
+-- Among this many arrays and locks: 1 to 64 instructions, and the last is `return` or `jump`.
 pub record IsCode (arrays locks : ℕ) (code : List Instr) : Type 0 where
   pub few : length code ≤ 64
   pub ends : EndsWell (slice_get code (length code - 1))

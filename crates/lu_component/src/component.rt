@@ -86,7 +86,7 @@ pub struct Op {
     pub code: Code,
 }
 
-/// The place of the operation of this name, from 0, where there is one.
+/// The number of the operation of this name, from 0, where there is one.
 pub fn operation_number(operations: &[Op], name: &[u8]) -> Option<usize>
     ensures { result ≡ spec.operation_number operations.now name.now }
 {

@@ -63,8 +63,8 @@ impl Arithmetic {
     }
 }
 
-/// An instruction. Arrays, locks and jump targets go by their places in the component and in the
-/// operation's code, from 0. Operands are read before a register is written.
+/// An instruction. Arrays and locks go by their numbers in the component, jump targets by their
+/// places in the operation's code, all from 0. Operands are read before a register is written.
 #[derive(Clone, Copy, Debug, PartialEq, Eq)]
 pub enum Instr {
     /// `set rD v`: register `to` is the value.

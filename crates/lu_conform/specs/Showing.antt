@@ -38,12 +38,12 @@ pub record IsShortest (c : Component) (matrix : Matrix) (recorded : Recorded)
   pub shows : IsShownBy c matrix recorded u
   pub shortest : (v : List Move) → IsShownBy c matrix recorded v → length u ≤ length v
 
--- there are more stages than so many
+-- there are more stages than this many
 abbrev pub HasManyStages : Component → Matrix → Recorded → ℕ → Type 0
 HasManyStages c matrix recorded most =
     FromEachStart c matrix (λ s. HasFewStages s recorded.history most → ⊥)
 
--- the shortest schedule that shows it has more moves than so many
+-- the shortest schedule that shows it has more moves than this many
 abbrev pub IsShownLate : Component → Matrix → Recorded → ℕ → Type 0
 IsShownLate c matrix recorded most =
     (u : List Move) × IsShortest c matrix recorded u × (most < length u)

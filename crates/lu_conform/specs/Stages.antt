@@ -13,8 +13,8 @@ pub record Stage : Type 0 where
 abbrev pub stage_of : State → ℕ → Stage
 stage_of s seen = record { state = s; seen = seen }
 
--- A move with this event, or none, follows the history h, of which so many events were seen: it has
--- none, or the one that comes next. Then `after` are seen.
+-- A move with this event, or none, follows the history h, of which this many events were seen: it
+-- has none, or the one that comes next. Then `after` are seen.
 abbrev pub Follows : List Event → ℕ → Option Event → ℕ → Type 0
 Follows h seen None after = after ≡ seen
 Follows h seen (Some event) after = (slice_get h seen ≡ Some event) × (after ≡ seen + 1)
@@ -41,7 +41,7 @@ pub record HasAllStages (s : State) (h : List Event) (stages : List Stage) : Typ
   pub start : IsAmong stages (stage_of s 0)
   pub closed : IsClosed h stages
 
--- a list of no more than so many stages has all of them
+-- a list of no more than this many stages has all of them
 abbrev pub HasFewStages : State → List Event → ℕ → Type 0
 HasFewStages s h most =
     (stages : List Stage) × HasAllStages s h stages × (length stages ≤ most)

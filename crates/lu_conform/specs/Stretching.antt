@@ -20,7 +20,7 @@ MayStretch (Call t k) (Return u l outcome) = ⊥
 MayStretch (Return t k outcome) (Call u l) = t ≢ u
 MayStretch (Return t k outcome) (Return u l other) = t ≢ u
 
--- two such events that stand beside one another have changed places
+-- two such events that stand beside one another were exchanged
 pub record IsStretchedOnce (h k : List Event) : Type 0 where
   pub front : List Event
   pub back : List Event
@@ -30,7 +30,7 @@ pub record IsStretchedOnce (h k : List Event) : Type 0 where
   pub before : h ≡ front ++ first ∷ second ∷ back
   pub after : k ≡ front ++ second ∷ first ∷ back
 
--- by so many such changes, one after the other
+-- by this many such changes, one after the other
 abbrev pub IsStretchedBy : ℕ → List Event → List Event → Type 0
 IsStretchedBy zero h k = h ≡ k
 IsStretchedBy (suc n) h k = (g : List Event) × IsStretchedOnce h g × IsStretchedBy n g k

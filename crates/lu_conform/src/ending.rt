@@ -32,7 +32,7 @@ fn is_stuck(machine: &Machine<'_>) -> bool
     }
 }
 
-/// Whether a schedule that leads where the machine stands, with the first so many events of the
+/// Whether a schedule that leads where the machine stands, with this many first events of the
 /// history, shows it: all were seen, and the machine is stuck where the recorded run was.
 pub(crate) fn is_end(machine: &Machine<'_>, recorded: &Recorded, seen: usize) -> bool
     ensures { IsTrue result ↔ IsEndOf recorded.now (stage_of machine.now seen) }

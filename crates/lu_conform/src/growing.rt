@@ -18,7 +18,7 @@ pub(crate) struct SoFar<'a> {
     pub(crate) moves: &'a [Move],
 }
 
-/// Adds the stage at which the machine stands, after so many events, unless it is there. This way
+/// Adds the stage at which the machine stands, after this many events, unless it is there. This way
 /// leads to it.
 pub(crate) fn add(
     alloc: Global,

@@ -19,7 +19,7 @@ pub enum Shown {
 /// Whether schedules of a component show each of some recorded histories.
 #[derive(Debug, Drop)]
 pub enum Conformance {
-    /// Each history is shown by the schedule in its place, and by no shorter one.
+    /// Each history is shown by the schedule of its number, and by no shorter one.
     Conforms(Vec<Schedule>),
 
     /// The number of the first history that is not shown, from 0: no schedule shows it, of any

@@ -55,24 +55,24 @@ Blocks h q i b a = IsBlocker h (take i q) b a
 
 module _ (h : List Event) (q : List SerialOp) where
   -- what is broken at a place is out of order there
-  not_in_order : (x : Precedence) (is : IsFirstBroken h q x) (n : ℕ) → is.place < n → IsInOrder h q n → ⊥
-  not_in_order x is n lt in_order = blocker_out h (take is.place q) x.second x.first is.first (in_order is.place x.second lt is.second x.first is.first.precedes)
+  not_in_order : (x : Precedence) (is : IsFirstBroken h q x) (n : ℕ) → is.position < n → IsInOrder h q n → ⊥
+  not_in_order x is n lt in_order = blocker_out h (take is.position q) x.second x.first is.first (in_order is.position x.second lt is.second x.first is.first.precedes)
 
-  place_within : (x : Precedence) (is : IsFirstBroken h q x) → is.place < length q
-  place_within x is = slice_get_within q is.place is.second.0 is.second.1
+  place_within : (x : Precedence) (is : IsFirstBroken h q x) → is.position < length q
+  place_within x is = slice_get_within q is.position is.second.0 is.second.1
 
   one_broken : (x y : Precedence) → IsFirstBroken h q x → IsFirstBroken h q y → x ≡ y
   one_broken x y is also =
-      let place : is.place ≡ also.place = elim (cases_lt is.place also.place) as (λ _. is.place ≡ also.place) [
-        | inl lt ↦ absurd (not_in_order x is also.place lt also.before)
-        | inr le ↦ elim (cases_lt also.place is.place) as (λ _. is.place ≡ also.place) [
-          | inl lt ↦ absurd (not_in_order y also is.place lt is.before)
+      let place : is.position ≡ also.position = elim (cases_lt is.position also.position) as (λ _. is.position ≡ also.position) [
+        | inl lt ↦ absurd (not_in_order x is also.position lt also.before)
+        | inr le ↦ elim (cases_lt also.position is.position) as (λ _. is.position ≡ also.position) [
+          | inl lt ↦ absurd (not_in_order y also is.position lt is.before)
           | inr ge ↦ omega arith
         ]
       ] in
-      let second : x.second ≡ y.second = same_entry q also.place x.second y.second (subst (λ i. IsEntryAt q i x.second) place is.second) also.second in
+      let second : x.second ≡ y.second = same_entry q also.position x.second y.second (subst (λ i. IsEntryAt q i x.second) place is.second) also.second in
       let there = subst (λ i. Blocks h q i x.second x.first) place is.first in
-      let first : x.first ≡ y.first = one_blocker h (take also.place q) y.second x.first y.first (subst (λ b. Blocks h q also.place b x.first) second there) also.first in
+      let first : x.first ≡ y.first = one_blocker h (take also.position q) y.second x.first y.first (subst (λ b. Blocks h q also.position b x.first) second there) also.first in
       ap (λ a. let z : Precedence = record { first = a; second = x.second } in z) first ∙ ap (λ b. let z : Precedence = record { first = y.first; second = b } in z) second
 
   abbrev Breaks : Option Precedence → Type 0
@@ -118,9 +118,9 @@ witness_unbroken : (h : List Event) (q : List SerialOp) (found : Option Preceden
 witness_unbroken h q None is witness = refl
 witness_unbroken h q (Some x) is witness =
     let stands = witness.order x.first x.second is.first.precedes in
-    let place = one_place q x.second stands.1 is.place stands.4 is.second in
+    let place = one_place q x.second stands.1 is.position stands.4 is.second in
     let left = ap (λ (a : OpId). a.k) is.first.left in
-    absurd (omega (arith, counted_entry q x.first stands.0 is.place (omega (arith, stands.2)) stands.3, left))
+    absurd (omega (arith, counted_entry q x.first stands.0 is.position (omega (arith, stands.2)) stands.3, left))
 
 unbroken_order : (h : List Event) (q : List SerialOp) (found : Option Precedence) → Breaks h q found → found ≡ None → IsInOrder h q (length q)
 unbroken_order h q None is e = is

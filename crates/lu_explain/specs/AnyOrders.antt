@@ -28,17 +28,17 @@ abbrev pub TellsLeast : (List SerialOp → Type 0) → Option (List SerialOp) �
 TellsLeast Kind found =
     MatchOption found ((q : List SerialOp) → Kind q → ⊥) (IsLeast Kind)
 
--- before place n of q, what precedes an operation stands before it
+-- before position n of q, what precedes an operation stands before it
 abbrev pub IsInOrder : List Event → List SerialOp → ℕ → Type 0
 IsInOrder h q n = (i : ℕ) (b : OpId) → i < n → IsEntryAt q i b → IsFree h (take i q) b
 
--- At this place q breaks the precedence: the second operation stands there, and the first does not
--- stand before it. Before that place nothing is out of order.
+-- At this position q breaks the precedence: the second operation stands there, and the first does
+-- not stand before it. Before that one nothing is out of order.
 pub record IsFirstBroken (h : List Event) (q : List SerialOp) (broken : Precedence) : Type 0 where
-  pub place : ℕ
-  pub second : IsEntryAt q place broken.second
-  pub first : IsBlocker h (take place q) broken.second broken.first
-  pub before : IsInOrder h q place
+  pub position : ℕ
+  pub second : IsEntryAt q position broken.second
+  pub first : IsBlocker h (take position q) broken.second broken.first
+  pub before : IsInOrder h q position
 
 -- the first precedence of h that q breaks, or none
 abbrev pub TellsFirstBroken : List Event → List SerialOp → Option Precedence → Type 0

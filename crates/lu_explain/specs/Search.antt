@@ -26,7 +26,7 @@ AreFewTaken taken = (length taken ≡ 8) × ((t : ℕ) → get_or taken t 0 ≤ 
 abbrev pub GoesOnBy : List (List SerialOp) → List Event → List SerialOp → List SerialOp → Type 0
 GoesOnBy members h p q = IsBeginningInSet (IsMember members) q × IsBeginning h (p ++ q)
 
--- by the order p goes on as far as it can; so many operations are then taken, and this is what
+-- by the order p goes on as far as it can; this many operations are then taken, and this is what
 -- follows the order in the members
 pub record IsLongestFrom (members : List (List SerialOp)) (h : List Event) (p order : List SerialOp)
     (taken : List ℕ) (rest : List (List SerialOp)) : Type 0 where
@@ -34,7 +34,7 @@ pub record IsLongestFrom (members : List (List SerialOp)) (h : List Event) (p or
   pub taken_are : AreTaken (p ++ order) taken
   pub rest_is : (q : List SerialOp) → contains rest q ≡ contains members (order ++ q)
 
--- the same of each beginning of which so many operations are taken
+-- the same of each beginning of which this many operations are taken
 abbrev pub FindsLongest : List (List SerialOp) → List Event → List ℕ → List SerialOp → List ℕ
     → List (List SerialOp) → Type 0
 FindsLongest members h taken order more rest =
@@ -47,12 +47,12 @@ abbrev pub IsLongestWay : {Place : Type 0} → (Place → List (List SerialOp)) 
 IsLongestWay below place h taken way =
     FindsLongest (below place) h taken way.order way.taken (below way.place)
 
--- the operation has its thread's next outcome, where so many are taken
+-- the operation has its thread's next outcome, where this many are taken
 abbrev pub IsNextOutcome : List ℕ → List Event → SerialOp → Type 0
 IsNextOutcome taken h op =
     slice_get (part op.thread h) (get_or taken op.thread 0) ≡ Some op.outcome
 
--- each thread has the outcomes that are left of its part, where so many are taken
+-- each thread has the outcomes that are left of its part, where this many are taken
 abbrev pub HasRestOfParts : List Event → List ℕ → List SerialOp → Type 0
 HasRestOfParts h taken q = (t : ℕ) → entries t q ≡ drop (get_or taken t 0) (part t h)
 
@@ -83,7 +83,7 @@ abbrev pub TellsOutcome : (List SerialOp → Type 0) → ℕ → Option SerialOu
 TellsOutcome Set t found =
     MatchOption found ((o : SerialOutcome) → HasFirst Set t o → ⊥) (IsLeastOutcome Set t)
 
--- how thread t stands after a beginning of which so many operations are taken
+-- how thread t stands after a beginning of which this many operations are taken
 abbrev pub TellsStanding : (List SerialOp → Type 0) → List ℕ → List Event → ℕ → Option Reason
     → Type 0
 TellsStanding Rest taken h t found =

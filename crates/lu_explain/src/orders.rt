@@ -81,7 +81,7 @@ fn first_broken(history: &History, order: &[SerialOp]) -> Option<Precedence>
 pub fn any_order<T: SerialTree>(tree: &T, history: &History) -> Option<AnyOrder>
     ensures { TellsAnyOrder (IsMember (T.members tree.now)) history.now result }
 {
-    // For the proof: a history's own rule is told by its calls, and no other call comes before.
+    // For the proof: a history's own rule is known from its calls, and no other call comes before.
     let _events = history.events();
     let order = least(tree, tree.root(), history, &[0; MOST_THREADS])?;
     let broken = first_broken(history, order.as_slice());

@@ -30,7 +30,7 @@ use Rattle.lu_grain.specs.Grains.{grained, with_local}
 
 -- ---- schedules
 
--- With `local n` a schedule of at most so many moves leads from s to the same end, with the same
+-- With `local n` a schedule of at most this many moves leads from s to the same end, with the same
 -- history.
 pub record LeadsToo (s : State) (n : ℕ) (end : State) (history : List Event) (most : ℕ)
     : Type 0 where

@@ -74,7 +74,7 @@ module _ (members : List (Vec SerialOp)) (c : Component) (matrix : Matrix) (from
     such_there : (e : Expansion) (rows : List Row) → IsBetween from end e → IsExpandedIn members c matrix old.parts list e rows → All HasSuch rows
     such_there e rows between it =
         All-weaker (IsRowOfSuch (IsNextThere members (state_of c matrix it.kept) it.kept.alive) old.parts) HasSuch
-        (λ row is. (is.0, is.1, (is.2.0, (e.place, it.kept, between.0, between.1, it.there, is.2.1)))) rows it.is.next.such
+        (λ row is. (is.0, is.1, (is.2.0, (e.number, it.kept, between.0, between.1, it.there, is.2.1)))) rows it.is.next.such
 
     all_such : (es : List Expansion) (rows : List Row) → length rows ≡ count_all es → All (IsBetween from end) es → AreExpandedIn members c matrix old.parts list es rows → All HasSuch rows
     all_such [] rows many between none = subst (All HasSuch) (sym (nothing_left rows many)) (All-nil HasSuch)
@@ -95,7 +95,7 @@ module _ (members : List (Vec SerialOp)) (c : Component) (matrix : Matrix) (from
           let s = state_of c matrix it.kept in
           record {
             kept = it.kept;
-            there = subst (λ x. slice_get x e.place ≡ Some it.kept) (sym is) (at_left list more e.place it.kept it.there);
+            there = subst (λ x. slice_get x e.number ≡ Some it.kept) (sym is) (at_left list more e.number it.kept it.there);
             is = record {
               good_is = it.is.good_is;
               next = record {
@@ -118,7 +118,7 @@ module _ (members : List (Vec SerialOp)) (c : Component) (matrix : Matrix) (from
         let rows = before.rows.items in
         let all = found.are.each list hold known in
         let Such : Kept → Type 0 = IsNextBetween members c matrix list from end in
-        let so_far = puts_all members c matrix Such list old.parts rows old.rows.keys (rows_of_hold members old list hold) (all_such es rows found.many found.places all) in
+        let so_far = puts_all members c matrix Such list old.parts rows old.rows.keys (rows_of_hold members old list hold) (all_such es rows found.many found.within all) in
         let held = put_hold members c matrix Such list rows old new puts so_far in (
           record { now = so_far.now; hold = held; grows = so_far.grows; parts = puts.parts },
           found_for c matrix members new ahead so_far.now held

@@ -122,7 +122,7 @@ module _ (c : Component) (matrix : Matrix) (settles : Settles c matrix) where
         let told : AreEnded s found.positions.keys (length found.positions.keys) ended = subst (λ (n : ℕ). AreEnded s found.positions.keys n ended) whole x.marks in (
           has_few s found place ended x most past few,
           record {
-            place = place;
+            number = place;
             all = subst (λ (f : Discovered). length f.positions.keys ≤ place) (sym same) past;
             searched = subst (λ (f : Discovered). IsSearched s f place first_move) (sym same) x.searched;
             ended = subst (λ (f : Discovered). AreEnded s f.positions.keys (length f.positions.keys) graph.ended.items) (sym same)

@@ -151,7 +151,7 @@ module _ (members : List (Vec SerialOp)) (c : Component) (matrix : Matrix) (old 
       let next = it.is.next in
       record {
         kept = it.kept;
-        there = subst (λ x. slice_get x e.place ≡ Some it.kept) (sym is) (at_left list extra e.place it.kept it.there);
+        there = subst (λ x. slice_get x e.number ≡ Some it.kept) (sym is) (at_left list extra e.number it.kept it.there);
         is = record {
           good_is = it.is.good_is;
           next = record {
@@ -189,7 +189,7 @@ module _ (members : List (Vec SerialOp)) (c : Component) (matrix : Matrix) (part
   all_one e rows many it = (subst (IsExpandedIn members c matrix parts list e) (sym (take_all e.count rows (omega (arith, many)))) it, tt)
 
   -- what was found of the node at this place is found of the state where a machine stands there
-  pub expanded_here : (e : Expansion) (rows : List Row) → IsExpandedIn members c matrix parts list e rows → (place : ℕ) → e.place ≡ place → (kept : Kept) → slice_get list place ≡ Some kept → IsExpansion members (state_of c matrix kept) kept.alive parts list e.is_good rows
+  pub expanded_here : (e : Expansion) (rows : List Row) → IsExpandedIn members c matrix parts list e rows → (place : ℕ) → e.number ≡ place → (kept : Kept) → slice_get list place ≡ Some kept → IsExpansion members (state_of c matrix kept) kept.alive parts list e.is_good rows
   expanded_here e rows it place here kept at =
       let same : it.kept ≡ kept = same_Some it.kept kept (sym it.there ∙ (ap (slice_get list) here ∙ at)) in
       subst (λ (k : Kept). IsExpansion members (state_of c matrix k) k.alive parts list e.is_good rows) same it.is
@@ -210,7 +210,7 @@ found_nothing c matrix members nodes found none = record {
 pub between_nothing : (c : Component) (matrix : Matrix) (members : List (Vec SerialOp)) (nodes : Nodes) (from end : ℕ) (found : Expansions) → found.nodes.items ≡ [] → found.rows.items ≡ [] → AreFoundBetween c matrix members nodes from end found
 between_nothing c matrix members nodes from end found none empty = record {
   are = found_nothing c matrix members nodes found none;
-  places = subst (All (IsBetween from end)) (sym none) (All-nil (IsBetween from end));
+  within = subst (All (IsBetween from end)) (sym none) (All-nil (IsBetween from end));
   many = ap length empty ∙ sym (ap count_all none);
 }
 
@@ -226,7 +226,7 @@ found_joined c matrix members nodes from end one other all nodes_are rows_are fi
         (subst (AreExpandedIn members c matrix nodes.parts list (one.nodes.items ++ other.nodes.items)) (sym rows_are)
         (all_append members c matrix nodes.parts list one.nodes.items other.nodes.items one.rows.items other.rows.items first.many (first.are.each list hold known) (second.are.each list hold known)));
   };
-  places = subst (All (IsBetween from end)) (sym nodes_are) (All-append (IsBetween from end) one.nodes.items other.nodes.items first.places second.places);
+  within = subst (All (IsBetween from end)) (sym nodes_are) (All-append (IsBetween from end) one.nodes.items other.nodes.items first.within second.within);
   many =
       (let long = ap length rows_are ∙ length-append one.rows.items other.rows.items in
       let sum = ap count_all nodes_are ∙ count_append one.nodes.items other.nodes.items in
@@ -239,7 +239,7 @@ found_joined c matrix members nodes from end one other all nodes_are rows_are fi
 module _ (members : List (Vec SerialOp)) (m : State) (nodes : Nodes) (place : ℕ) (row : Row) (at : slice_get nodes.rows.keys place ≡ Some row) (now : State) (stands : StandsAtRow nodes.parts row m now) (bits : List Bool) (gives : Gives nodes.parts.alive row.alive bits) (good : Bool) (judges : JudgesGood members now bits good) where
   pub found_more : (old new : Expansions) (rows : List Row) → AreNextOf now row nodes rows → HasMore place good rows old new → FindsMore m members nodes place old new
   found_more old new rows next more from end after before_end before =
-      let e : Expansion = record { place = place; is_good = good; count = length rows } in
+      let e : Expansion = record { number = place; is_good = good; count = length rows } in
       record {
         are = record {
           each = λ list hold known.
@@ -261,7 +261,7 @@ module _ (members : List (Vec SerialOp)) (m : State) (nodes : Nodes) (place : �
               (subst (AreExpandedIn members m.component m.matrix nodes.parts list (old.nodes.items ++ e ∷ [])) (sym more.rows)
               (all_append members m.component m.matrix nodes.parts list old.nodes.items (e ∷ []) old.rows.items rows before.many (before.are.each list hold known) (all_one members m.component m.matrix nodes.parts list e rows refl one))));
         };
-        places = subst (All (IsBetween from end)) (sym more.nodes) (All-push (IsBetween from end) old.nodes.items e before.places (after, before_end));
+        within = subst (All (IsBetween from end)) (sym more.nodes) (All-push (IsBetween from end) old.nodes.items e before.within (after, before_end));
         many =
             (let long = ap length more.rows ∙ length-append old.rows.items rows in
             let sum = ap count_all more.nodes ∙ count_append old.nodes.items (e ∷ []) in

@@ -32,7 +32,7 @@ abbrev pub path_of : Entry → List Move
 path_of entry = entry.path
 
 module _ (s : State) (graph : StateGraph) (is : IsStateGraph s graph) where
-  abbrev known : IsSearched s graph.found is.place first_move
+  abbrev known : IsSearched s graph.found is.number first_move
   known = is.searched
 
   abbrev edges : List Edge
@@ -44,7 +44,7 @@ module _ (s : State) (graph : StateGraph) (is : IsStateGraph s graph) where
   pub many : length graph.found.positions.keys ≡ length known.entries
   many = ap (λ (xs : List Position). length xs) known.positions ∙ length-map known.entries position_of
 
-  past : (i : ℕ) (entry : Entry) → slice_get known.entries i ≡ Some entry → i < is.place
+  past : (i : ℕ) (entry : Entry) → slice_get known.entries i ≡ Some entry → i < is.number
   past i entry at = let within = slice_get_within known.entries i entry at in let all = is.all in let m = many in omega (arith, within, all, m)
 
   key_at : (i : ℕ) (entry : Entry) → slice_get known.entries i ≡ Some entry → slice_get graph.found.positions.keys i ≡ Some entry.position

@@ -10,7 +10,7 @@ use Rattle.std.proofs.lemmas.List.Folds.{list_any_at}
 use Rattle.std.proofs.lemmas.Option.{slice_get_within}
 use Rattle.indexmap.specs.IndexSet.{insert_all, insert_key}
 use Rattle.lu_graph.specs.declared.row.Row.{Row}
-use Rattle.lu_graph.specs.declared.row_table.RowPlace.{RowPlace}
+use Rattle.lu_graph.specs.declared.row_table.RowIndex.{RowIndex}
 use Rattle.lu_graph.specs.declared.row_table.Table.{Table}
 use Rattle.lu_graph.specs.InTables.{AreCounts, AreLengths, HasTaken, HaveAll, HaveNext, HaveTaken, IsOrdered, PutsEach, PutsInOrder, is_of, is_row, row_eq, rows_at, rows_in, rows_of, table_of}
 use Rattle.lu_graph.proofs.Among.{at_left}
@@ -86,7 +86,7 @@ length_more counts lists i many lt is before n below = elim (cases_lt n i) as (�
 ]
 
 -- the tables have the rows in order, and so as many
-pub counted : (old new : List (List Row)) (order : List RowPlace) (counts : List ℕ) → HaveAll old order → rows_at new order ≡ rows_at old order → AreLengths counts old → AreCounts counts (rows_at new order)
+pub counted : (old new : List (List Row)) (order : List RowIndex) (counts : List ℕ) → HaveAll old order → rows_at new order ≡ rows_at old order → AreLengths counts old → AreCounts counts (rows_at new order)
 counted old new order counts have same many n lt =
     many n lt ∙ (ap length (have.own n lt) ∙ ap (λ xs. length (filter (is_of n) xs)) (sym same))
 
@@ -117,7 +117,7 @@ at_seam : (xs : List Row) (row : Row) (more : List Row) → slice_get (xs ++ row
 at_seam [] row more = refl
 at_seam (x ∷ xs) row more = at_seam xs row more
 
-module _ (lists : List (List Row)) (order : List RowPlace) (counts : List ℕ) (row : Row) (n count : ℕ) (is : n ≡ table_of row) (small : n < 4) (at : count ≡ slice_index counts n) where
+module _ (lists : List (List Row)) (order : List RowIndex) (counts : List ℕ) (row : Row) (n count : ℕ) (is : n ≡ table_of row) (small : n < 4) (at : count ≡ slice_index counts n) where
   abbrev keys : List Row
   keys = rows_at lists order
 
@@ -155,7 +155,7 @@ module _ (lists : List (List Row)) (order : List RowPlace) (counts : List ℕ) (
             let yes : is_row row (slice_get (rows_of lists n) count) ≡ true = ap (is_row row) here ∙ same_itself row in
             absurd (cc)
 
-  pub puts_new : (p : RowPlace) → is_row row (slice_get (rows_of lists n) count) ≡ true → IsDistinct row_eq (rows_of lists n) → length counts ≡ 4 → p.table ≡ n → p.index ≡ count → PutsInOrder lists row counts (set counts n (count + 1)) order (order ++ p ∷ [])
+  pub puts_new : (p : RowIndex) → is_row row (slice_get (rows_of lists n) count) ≡ true → IsDistinct row_eq (rows_of lists n) → length counts ≡ 4 → p.table ≡ n → p.index ≡ count → PutsInOrder lists row counts (set counts n (count + 1)) order (order ++ p ∷ [])
   puts_new p here distinct four table index next have many =
       let absent = absent_so next have many here distinct in
       let done = placed lists order row next have (subst (λ m. m < 4) is small) p (table ∙ is) (index ∙ as_many next have many) absent in
@@ -171,7 +171,7 @@ module _ (lists : List (List Row)) (order : List RowPlace) (counts : List ℕ) (
       record { have = done.0; keys = done.1; many = many }
 
 -- one after the other, to the last
-pub ordered_more : (lists : List (List Row)) (rows first : List Row) (old new : List RowPlace) (counts new_counts : List ℕ) (i : ℕ) (d : Row) → i < length rows → PutsInOrder lists (get_or rows i d) counts new_counts old new → HaveNext lists old (drop i rows) → AreCounts counts (rows_at lists old) → insert_all row_eq (rows_at lists old) (drop i rows) ≡ insert_all row_eq first rows
+pub ordered_more : (lists : List (List Row)) (rows first : List Row) (old new : List RowIndex) (counts new_counts : List ℕ) (i : ℕ) (d : Row) → i < length rows → PutsInOrder lists (get_or rows i d) counts new_counts old new → HaveNext lists old (drop i rows) → AreCounts counts (rows_at lists old) → insert_all row_eq (rows_at lists old) (drop i rows) ≡ insert_all row_eq first rows
     → IsOrdered lists (get_or rows i d) (drop (i + 1) rows) old new new_counts × (insert_all row_eq (rows_at lists new) (drop (i + 1) rows) ≡ insert_all row_eq first rows)
 ordered_more lists rows first old new counts new_counts i d lt puts have many is =
     let front = drop_first rows i d lt in

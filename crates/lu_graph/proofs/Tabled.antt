@@ -14,9 +14,9 @@ use Rattle.std.proofs.lemmas.Map.Views.{any-filter_same}
 use Rattle.std.proofs.lemmas.Option.{slice_get-get_or, slice_get_within, get_or_from_slice_get}
 use Rattle.indexmap.specs.IndexSet.{insert_all, insert_key}
 use Rattle.lu_graph.specs.declared.row.Row.{Row}
-use Rattle.lu_graph.specs.declared.row_table.RowPlace.{RowPlace}
+use Rattle.lu_graph.specs.declared.row_table.RowIndex.{RowIndex}
 use Rattle.lu_graph.specs.declared.row_table.Table.{Table}
-use Rattle.lu_graph.specs.InTables.{HaveAll, HaveNext, IsPlace, PutsEach, is_of, no_row, row_eq, rows_at, rows_in, rows_of, table_of}
+use Rattle.lu_graph.specs.InTables.{HaveAll, HaveNext, IsThere, PutsEach, is_of, no_row, row_eq, rows_at, rows_in, rows_of, table_of}
 use Rattle.lu_graph.proofs.Same.{same_row}
 
 pub same_itself : (a : Row) → row_eq a a ≡ true
@@ -115,8 +115,8 @@ still_distinct rows row unique = by (list_any (row_eq row) rows) refl
 -- ---- places
 
 -- where each table has more behind, each place has the row that it had
-stay_at : (old new : List (List Row)) → ((n : ℕ) → n < length old → (more : List Row) × (rows_of new n ≡ rows_of old n ++ more)) → (p : RowPlace) → IsPlace old p → IsPlace new p × (get_or (rows_of new p.table) p.index no_row ≡ get_or (rows_of old p.table) p.index no_row)
-stay_at old new longer p at = elim (cases_lt p.table (length old)) as (λ _. IsPlace new p × (get_or (rows_of new p.table) p.index no_row ≡ get_or (rows_of old p.table) p.index no_row)) [
+stay_at : (old new : List (List Row)) → ((n : ℕ) → n < length old → (more : List Row) × (rows_of new n ≡ rows_of old n ++ more)) → (p : RowIndex) → IsThere old p → IsThere new p × (get_or (rows_of new p.table) p.index no_row ≡ get_or (rows_of old p.table) p.index no_row)
+stay_at old new longer p at = elim (cases_lt p.table (length old)) as (λ _. IsThere new p × (get_or (rows_of new p.table) p.index no_row ≡ get_or (rows_of old p.table) p.index no_row)) [
   | inl lt ↦
       (let more = longer p.table lt in
       let long = ap length more.1 in
@@ -130,37 +130,37 @@ stay_at old new longer p at = elim (cases_lt p.table (length old)) as (λ _. IsP
       absurd (omega arith))
 ]
 
-pub stay : (old new : List (List Row)) → ((n : ℕ) → n < length old → (more : List Row) × (rows_of new n ≡ rows_of old n ++ more)) → (order : List RowPlace) → All (IsPlace old) order → All (IsPlace new) order × (rows_at new order ≡ rows_at old order)
-stay old new longer [] at = (All-nil (IsPlace new), refl)
+pub stay : (old new : List (List Row)) → ((n : ℕ) → n < length old → (more : List Row) × (rows_of new n ≡ rows_of old n ++ more)) → (order : List RowIndex) → All (IsThere old) order → All (IsThere new) order × (rows_at new order ≡ rows_at old order)
+stay old new longer [] at = (All-nil (IsThere new), refl)
 stay old new longer (p ∷ order) at =
-    let here = stay_at old new longer p (All-head (IsPlace old) p order at) in
-    let rest = stay old new longer order (All-tail (IsPlace old) p order at) in (
-      All-cons (IsPlace new) p order here.0 rest.0,
+    let here = stay_at old new longer p (All-head (IsThere old) p order at) in
+    let rest = stay old new longer order (All-tail (IsThere old) p order at) in (
+      All-cons (IsThere new) p order here.0 rest.0,
       ap (λ x. x ∷ rows_at new order) here.1 ∙ ap (λ xs. get_or (rows_of old p.table) p.index no_row ∷ xs) rest.1,
     )
 
 -- a place tells its row
-pub row_there : (lists : List (List Row)) (order : List RowPlace) (place : ℕ) (p : RowPlace) → All (IsPlace lists) order → slice_get order place ≡ Some p → slice_get (rows_of lists p.table) p.index ≡ slice_get (rows_at lists order) place
+pub row_there : (lists : List (List Row)) (order : List RowIndex) (place : ℕ) (p : RowIndex) → All (IsThere lists) order → slice_get order place ≡ Some p → slice_get (rows_of lists p.table) p.index ≡ slice_get (rows_at lists order) place
 row_there lists order place p at is =
     let lt = slice_get_within order place p is in
     let same : get_or order place p ≡ p = get_or_from_slice_get order place p p is in
-    let f : RowPlace → Row = λ q. get_or (rows_of lists q.table) q.index no_row in
+    let f : RowIndex → Row = λ q. get_or (rows_of lists q.table) q.index no_row in
     let long = length-map order f in
-    slice_get-get_or (rows_of lists p.table) p.index no_row (subst (IsPlace lists) same (at place p lt))
+    slice_get-get_or (rows_of lists p.table) p.index no_row (subst (IsThere lists) same (at place p lt))
     ∙ (ap Some (sym (get_or-map f order place p no_row lt ∙ ap f same)) ∙ sym (slice_get-get_or (map f order) place no_row (omega arith)))
 
 -- ---- all tables
 
 -- each table takes its own of more rows
-pub filled : (old new : List (List Row)) (order : List RowPlace) (rows : List Row) → HaveAll old order → PutsEach rows old new → HaveNext new order rows × (rows_at new order ≡ rows_at old order)
+pub filled : (old new : List (List Row)) (order : List RowIndex) (rows : List Row) → HaveAll old order → PutsEach rows old new → HaveNext new order rows × (rows_at new order ≡ rows_at old order)
 filled old new order rows have puts =
     let longer : (n : ℕ) → n < length old → (more : List Row) × (rows_of new n ≡ rows_of old n ++ more) = (λ n lt.
     let more = more_behind (rows_of old n) (filter (is_of n) rows) in (more.0, puts.own n lt ∙ more.1)) in
-    let still = stay old new longer order have.places in
+    let still = stay old new longer order have.there in
     let four = have.four in (
       record {
         four = puts.many ∙ four;
-        places = still.0;
+        there = still.0;
         own = λ n lt.
             puts.own n (omega arith) ∙ (ap (λ xs. insert_all row_eq xs (filter (is_of n) rows)) (have.own n lt)
             ∙ ap (λ xs. insert_all row_eq (filter (is_of n) xs) (filter (is_of n) rows)) (sym still.1));
@@ -169,7 +169,7 @@ filled old new order rows have puts =
       still.1,
     )
 
-module _ (lists : List (List Row)) (order : List RowPlace) (row : Row) (next : List Row) (have : HaveNext lists order (row ∷ next)) where
+module _ (lists : List (List Row)) (order : List RowIndex) (row : Row) (next : List Row) (have : HaveNext lists order (row ∷ next)) where
   abbrev keys : List Row
   keys = rows_at lists order
 
@@ -183,7 +183,7 @@ module _ (lists : List (List Row)) (order : List RowPlace) (row : Row) (next : L
         let same = key_old keys row known in (
           record {
             four = have.four;
-            places = have.places;
+            there = have.there;
             own = λ n lt. have.own n lt ∙ (own_step n keys next row ∙ ap (λ xs. insert_all row_eq (filter (is_of n) xs) (filter (is_of n) next)) same);
             unique = have.unique;
           },
@@ -204,10 +204,10 @@ module _ (lists : List (List Row)) (order : List RowPlace) (row : Row) (next : L
         )
 
     -- and gets a place
-    pub placed : (p : RowPlace) → p.table ≡ table_of row → p.index ≡ length own_keys → list_any (row_eq row) keys ≡ false → HaveNext lists (order ++ p ∷ []) next × (rows_at lists (order ++ p ∷ []) ≡ insert_key row_eq keys row)
+    pub placed : (p : RowIndex) → p.table ≡ table_of row → p.index ≡ length own_keys → list_any (row_eq row) keys ≡ false → HaveNext lists (order ++ p ∷ []) next × (rows_at lists (order ++ p ∷ []) ≡ insert_key row_eq keys row)
     placed p table index new =
         let behind = new_behind new in
-        let f : RowPlace → Row = λ q. get_or (rows_of lists q.table) q.index no_row in
+        let f : RowIndex → Row = λ q. get_or (rows_of lists q.table) q.index no_row in
         let its : rows_of lists p.table ≡ own_keys ++ row ∷ behind.0 = ap (rows_of lists) table ∙ behind.1 in
         let here : f p ≡ row =
         ap (λ xs. get_or xs p.index no_row) its ∙ (ap (λ i. get_or (own_keys ++ row ∷ behind.0) i no_row) index ∙ get_or-append_seam own_keys row behind.0 no_row) in
@@ -217,7 +217,7 @@ module _ (lists : List (List Row)) (order : List RowPlace) (row : Row) (next : L
         map-append f order (p ∷ []) ∙ (ap (λ r. keys ++ r ∷ []) here ∙ sym (key_new keys row new)) in (
           record {
             four = have.four;
-            places = All-push (IsPlace lists) order p have.places (omega arith);
+            there = All-push (IsThere lists) order p have.there (omega arith);
             own = λ n lt. have.own n lt ∙ (own_step n keys next row ∙ ap (λ xs. insert_all row_eq (filter (is_of n) xs) (filter (is_of n) next)) (sym all));
             unique = subst (IsDistinct row_eq) (sym all) (still_distinct keys row have.unique);
           },
@@ -265,11 +265,11 @@ unfolding IsDistinct
 distinct_none = tt
 
 -- no rows stand in tables that have none
-pub none_there : (lists : List (List Row)) (order : List RowPlace) → length lists ≡ 4 → All (λ l. l ≡ []) lists → order ≡ [] → HaveAll lists order
+pub none_there : (lists : List (List Row)) (order : List RowIndex) → length lists ≡ 4 → All (λ l. l ≡ []) lists → order ≡ [] → HaveAll lists order
 none_there lists order four empty none =
     subst (HaveAll lists) (sym none) (record {
       four = four;
-      places = All-nil (IsPlace lists);
+      there = All-nil (IsThere lists);
       own = λ n lt. empty n [] (omega arith);
       unique = distinct_none;
     })
@@ -280,7 +280,7 @@ none_each {a} {b} {c} {d} p q r s =
     All-cons IsNone a (b ∷ c ∷ d ∷ []) p (All-cons IsNone b (c ∷ d ∷ []) q (All-cons IsNone c (d ∷ []) r (All-cons IsNone d [] s (All-nil IsNone))))
 
 -- a row is there where its table has it
-pub known : (lists : List (List Row)) (order : List RowPlace) (row : Row) (n : ℕ) → HaveAll lists order → n ≡ table_of row → n < 4 → list_any (row_eq row) (rows_of lists n) ≡ list_any (row_eq row) (rows_at lists order)
+pub known : (lists : List (List Row)) (order : List RowIndex) (row : Row) (n : ℕ) → HaveAll lists order → n ≡ table_of row → n < 4 → list_any (row_eq row) (rows_of lists n) ≡ list_any (row_eq row) (rows_at lists order)
 known lists order row n have is small =
     ap (list_any (row_eq row)) (have.own n small)
     ∙ (ap (λ m. list_any (row_eq row) (filter (is_of m) (rows_at lists order))) is ∙ any_own row (rows_at lists order))
@@ -293,7 +293,7 @@ is_there : (there added : Bool) → added ≡ not there → added ≡ false → 
 is_there true added is so = refl
 is_there false added is so = absurd (cc)
 
-module _ (old new : List (List Row)) (order : List RowPlace) (row : Row) (n : ℕ) (have : HaveAll old order) (puts : PutsEach (row ∷ []) old new) (is : n ≡ table_of row) (small : n < 4) (added : Bool) (was : added ≡ not (list_any (row_eq row) (rows_of old n))) where
+module _ (old new : List (List Row)) (order : List RowIndex) (row : Row) (n : ℕ) (have : HaveAll old order) (puts : PutsEach (row ∷ []) old new) (is : n ≡ table_of row) (small : n < 4) (added : Bool) (was : added ≡ not (list_any (row_eq row) (rows_of old n))) where
   filled_one : HaveNext new order (row ∷ []) × (rows_at new order ≡ rows_at old order)
   filled_one = filled old new order (row ∷ []) have puts
 
@@ -303,19 +303,19 @@ module _ (old new : List (List Row)) (order : List RowPlace) (row : Row) (n : �
   pub was_new : added ≡ not (list_any (row_eq row) (rows_at old order))
   was_new = was ∙ ap not (known old order row n have is small)
 
-  pub inserted_new : (p : RowPlace) (after : List RowPlace) → added ≡ true → p.table ≡ n → p.index ≡ length (rows_of old n) → after ≡ order ++ p ∷ [] → HaveAll new after × (rows_at new after ≡ insert_key row_eq (rows_at old order) row)
+  pub inserted_new : (p : RowIndex) (after : List RowIndex) → added ≡ true → p.table ≡ n → p.index ≡ length (rows_of old n) → after ≡ order ++ p ∷ [] → HaveAll new after × (rows_at new after ≡ insert_key row_eq (rows_at old order) row)
   inserted_new p after so table index all =
       let mine : p.index ≡ length (filter (is_of (table_of row)) (rows_at new order)) =
       index ∙ (ap length (have.own n small) ∙ (ap (λ m. length (filter (is_of m) (rows_at old order))) is
       ∙ ap (λ xs. length (filter (is_of (table_of row)) xs)) (sym filled_one.1))) in
       let done = placed new order row [] filled_one.0 (subst (λ m. m < 4) is small) p (table ∙ is) mine
       (there_now false (is_absent (list_any (row_eq row) (rows_of old n)) added was so)) in
-      subst (λ (o : List RowPlace). HaveAll new o × (rows_at new o ≡ insert_key row_eq (rows_at old order) row)) (sym all)
+      subst (λ (o : List RowIndex). HaveAll new o × (rows_at new o ≡ insert_key row_eq (rows_at old order) row)) (sym all)
       (done.0, done.1 ∙ ap (λ xs. insert_key row_eq xs row) filled_one.1)
 
-  pub inserted_old : (after : List RowPlace) → added ≡ false → after ≡ order → HaveAll new after × (rows_at new after ≡ insert_key row_eq (rows_at old order) row)
+  pub inserted_old : (after : List RowIndex) → added ≡ false → after ≡ order → HaveAll new after × (rows_at new after ≡ insert_key row_eq (rows_at old order) row)
   inserted_old after so same =
       let done = passed new order row [] filled_one.0 (subst (λ m. m < 4) is small)
       (there_now true (is_there (list_any (row_eq row) (rows_of old n)) added was so)) in
-      subst (λ (o : List RowPlace). HaveAll new o × (rows_at new o ≡ insert_key row_eq (rows_at old order) row)) (sym same)
+      subst (λ (o : List RowIndex). HaveAll new o × (rows_at new o ≡ insert_key row_eq (rows_at old order) row)) (sym same)
       (done.0, done.1 ∙ ap (λ xs. insert_key row_eq xs row) filled_one.1)

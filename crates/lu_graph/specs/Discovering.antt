@@ -17,11 +17,11 @@ use Rattle.lu_graph.specs.Nodes.{IsAmong}
 
 -- ---- one state
 
--- the edge between these places
+-- the edge between the states of these numbers
 abbrev pub edge : ℕ → ℕ → Edge
 edge from to = record { from = from; to = to }
 
--- discovered from the state at this place, by this move
+-- discovered from the state of this number, by this move
 abbrev pub discovery : ℕ → Move → Discovery
 discovery from made = record { from = from; made = made }
 
@@ -39,7 +39,7 @@ AddsOne s way old new =
     × CanStandAt s.component s.matrix position
     × (at_position s position ≡ s)
 
--- the state s is there, added or not, and an edge leads to it from this place
+-- the state s is there, added or not, and an edge leads to it from this one
 pub record Discovers (s : State) (from : ℕ) (made : Move) (old new : Discovered) : Type 0 where
   pub to : ℕ
   pub position : Position
@@ -91,7 +91,7 @@ HasParent entries i entry =
     × (slice_get entries entry.way.from ≡ Some parent)
     × (entry.path ≡ parent.path ++ entry.way.made ∷ [])
 
--- An edge leads from place i to the place of this state, whose path is no later than that of the
+-- An edge leads from state i to this state, whose path is no later than that of the
 -- entry there with this move.
 abbrev pub LeadsOn : State → List Entry → List Edge → ℕ → Entry → Move → State → Type 0
 LeadsOn s entries edges i entry m next =
@@ -106,14 +106,14 @@ IsMoveAlong s entries e =
     × (slice_get entries e.from ≡ Some before) × (slice_get entries e.to ≡ Some after)
     × Step (state_of s before) m (state_of s after) event
 
--- place i is before this one, or it is this one and the move is below the limit
+-- state i is before this one, or it is this one and the move is below the limit
 abbrev pub IsPast : ℕ → Move → ℕ → Move → Type 0
-IsPast i m place limit = (i < place) ⊎ ((i ≡ place) × IsMoveBelow m limit)
+IsPast i m number limit = (i < number) ⊎ ((i ≡ number) × IsMoveBelow m limit)
 
--- What was discovered from s, once the moves of the states before the place were gone through, and
--- of the one at the place those below the limit: the entries in order, each discovered by the
+-- What was discovered from s, once the moves of the states before this one were gone through, and
+-- of this one those below the limit: the entries in order, each discovered by the
 -- first of all schedules to it.
-pub record IsSearched (s : State) (found : Discovered) (place : ℕ) (limit : Move) : Type 0 where
+pub record IsSearched (s : State) (found : Discovered) (number : ℕ) (limit : Move) : Type 0 where
   pub entries : List Entry
   pub positions : found.positions.keys ≡ map (λ entry. entry.position) entries
   pub discoveries : found.discoveries.items ≡ map (λ entry. entry.way) entries
@@ -125,21 +125,21 @@ pub record IsSearched (s : State) (found : Discovered) (place : ℕ) (limit : Mo
   pub parents : (i : ℕ) (entry : Entry) → 0 < i → slice_get entries i ≡ Some entry
       → HasParent entries i entry
   pub closed : (i : ℕ) (entry : Entry) (m : Move) (next : State) (event : Option Event)
-      → IsPast i m place limit → slice_get entries i ≡ Some entry
+      → IsPast i m number limit → slice_get entries i ≡ Some entry
       → Step (state_of s entry) m next event
       → LeadsOn s entries found.edges.items i entry m next
   pub along : All (IsMoveAlong s entries) found.edges.items
   pub frontier : (i : ℕ) (entry here : Entry) → slice_get entries i ≡ Some entry
-      → slice_get entries place ≡ Some here → IsEarlier entry.path (here.path ++ limit ∷ [])
+      → slice_get entries number ≡ Some here → IsEarlier entry.path (here.path ++ limit ∷ [])
 
 -- the new list is the old one, and more after it
 abbrev pub Extends : {A : Type 0} → List A → List A → Type 0
 Extends {A} old new = (more : List A) × (new ≡ old ++ more)
 
--- The state now stands at this place. With its moves the search from any start has come to the
--- next place.
+-- The state now has this number. With its moves the search from any start has come to the next
+-- state.
 abbrev pub SearchesNext : State → ℕ → Discovered → Discovered → Type 0
-SearchesNext now place old new =
+SearchesNext now number old new =
     (s : State) (position : Position)
-    → slice_get old.positions.keys place ≡ Some position → at_position s position ≡ now
-    → IsSearched s old place first_move → IsSearched s new (place + 1) first_move
+    → slice_get old.positions.keys number ≡ Some position → at_position s position ≡ now
+    → IsSearched s old number first_move → IsSearched s new (number + 1) first_move

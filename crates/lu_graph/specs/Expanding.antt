@@ -46,17 +46,17 @@ pub record AreNext (members : List (Vec SerialOp)) (s : State) (alive : List Boo
       ⊎ ((row : Row) × IsAmong rows row
       × IsRowOfSuch (IsNextBy members s alive made event) parts row)
 
--- so they are, and it is told whether the node of s is good
+-- so they are, and it is said whether the node of s is good
 pub record IsExpansion (members : List (Vec SerialOp)) (s : State) (alive : List Bool)
     (parts : Parts) (list : List Kept) (good : Bool) (rows : List Row) : Type 0 where
   pub good_is : JudgesGood members s alive good
   pub next : AreNext members s alive parts list rows
 
--- so it is of the node at its place of the list
+-- so it is of the node of its number in the list
 pub record IsExpandedIn (members : List (Vec SerialOp)) (c : Component) (matrix : Matrix)
     (parts : Parts) (list : List Kept) (e : Expansion) (rows : List Row) : Type 0 where
   pub kept : Kept
-  pub there : slice_get list e.place ≡ Some kept
+  pub there : slice_get list e.number ≡ Some kept
   pub is : IsExpansion members (state_of c matrix kept) kept.alive parts list e.is_good rows
 
 -- so it is of each, with the first rows, as many as are its own, or all that are left
@@ -72,9 +72,9 @@ abbrev pub count_all : List Expansion → ℕ
 count_all [] = 0
 count_all (e ∷ es) = e.count + count_all es
 
--- it was found of a node from this place on, before the end
+-- it was found of a node from this number on, before the end
 abbrev pub IsBetween : ℕ → ℕ → Expansion → Type 0
-IsBetween from end e = (from ≤ e.place) × (e.place < end)
+IsBetween from end e = (from ≤ e.number) × (e.number < end)
 
 -- ---- what is lent for that
 
@@ -93,11 +93,11 @@ pub record AreFound (c : Component) (matrix : Matrix) (members : List (Vec Seria
   pub each : (list : List Kept) → Hold members nodes list → KnowsDead c nodes.parts.dead
       → AreExpandedIn members c matrix nodes.parts list found.nodes.items found.rows.items
 
--- it was found of nodes from this place on, before the end, and all its rows are there
+-- it was found of nodes from this number on, before the end, and all its rows are there
 pub record AreFoundBetween (c : Component) (matrix : Matrix) (members : List (Vec SerialOp))
     (nodes : Nodes) (from end : ℕ) (found : Expansions) : Type 0 where
   pub are : AreFound c matrix members nodes found
-  pub places : All (IsBetween from end) found.nodes.items
+  pub within : All (IsBetween from end) found.nodes.items
   pub many : length found.rows.items ≡ count_all found.nodes.items
 
 -- it was found of what was lent
@@ -137,21 +137,22 @@ AreNextOf s from nodes rows =
 abbrev pub ListsNext : State → Row → Nodes → List Row → Bool → Type 0
 ListsNext s from nodes rows sure = IsTrue sure → AreNextOf s from nodes rows
 
--- this was added of the node at the place
-pub record HasMore (place : ℕ) (good : Bool) (next : List Row) (old new : Expansions) : Type 0 where
+-- this was added of the node of this number
+pub record HasMore (number : ℕ) (good : Bool) (next : List Row)
+    (old new : Expansions) : Type 0 where
   pub nodes : new.nodes.items
-      ≡ old.nodes.items ++ record { place = place; is_good = good; count = length next } ∷ []
+      ≡ old.nodes.items ++ record { number = number; is_good = good; count = length next } ∷ []
   pub rows : new.rows.items ≡ old.rows.items ++ next
 
 -- they were found of the nodes, in runs of the component and the matrix of m
 abbrev pub WereFound : State → List (Vec SerialOp) → Nodes → Expansions → Type 0
 WereFound m members nodes found = AreFound m.component m.matrix members nodes found
 
--- if the old ones were found of nodes from one place to another, then so were these, where this
--- place is one of them
+-- if the old ones were found of nodes from one number to another, then so were these, where this
+-- number is one of them
 abbrev pub FindsMore : State → List (Vec SerialOp) → Nodes → ℕ → Expansions → Expansions → Type 0
-FindsMore m members nodes place old new =
-    (from end : ℕ) → from ≤ place → place < end
+FindsMore m members nodes number old new =
+    (from end : ℕ) → from ≤ number → number < end
     → AreFoundBetween m.component m.matrix members nodes from end old
     → AreFoundBetween m.component m.matrix members nodes from end new
 
@@ -170,12 +171,12 @@ PutsNext rows old new =
     → Hold members old list → AreNext members s alive old.parts list rows
     → HoldMore members (AddsNext members s alive list) old new
 
--- the first was taken out, which is at this place; or nothing
+-- the first was taken out, which is of this number; or nothing
 abbrev pub Takes : ℕ → List Expansion → List Expansion → Option Expansion → Type 0
-Takes place old new None = new ≡ old
-Takes place old new (Some first) = (first.place ≡ place) × (old ≡ first ∷ new)
+Takes number old new None = new ≡ old
+Takes number old new (Some first) = (first.number ≡ number) × (old ≡ first ∷ new)
 
--- a move that goes first leads to it from a node of the list, from this place on, before the end
+-- a move that goes first leads to it from a node of the list, from this number on, before the end
 abbrev pub IsNextBetween : List (Vec SerialOp) → Component → Matrix → List Kept → ℕ → ℕ → Kept
     → Type 0
 IsNextBetween members c matrix list from end kept =
@@ -213,16 +214,16 @@ StayFound m members old new found =
 
 -- ---- going through a node
 
--- it is told whether the node of s is good, and all to which its moves lead that go first are there
+-- it is said whether the node of s is good, and all to which its moves lead that go first are there
 pub record IsGoneThrough (members : List (Vec SerialOp)) (s : State) (alive : List Bool)
     (list : List Kept) (old new : Nodes) (good : Bool) : Type 0 where
   pub good_is : JudgesGood members s alive good
   pub more : HoldMore members (AddsNext members s alive list) old new
 
--- so it is of the node at the place, in runs of the component and the matrix of m
+-- so it is of the node of this number, in runs of the component and the matrix of m
 abbrev pub Visits : List (Vec SerialOp) → State → ℕ → Row → Nodes → Nodes → Bool → Type 0
-Visits members m place row old new good =
-    (list : List Kept) (kept : Kept) → Hold members old list → slice_get list place ≡ Some kept
+Visits members m number row old new good =
+    (list : List Kept) (kept : Kept) → Hold members old list → slice_get list number ≡ Some kept
     → IsRowOf old.parts kept row → KnowsDead m.component old.parts.dead
     → IsGoneThrough members (state_of m.component m.matrix kept) kept.alive list old new good
 

@@ -15,22 +15,22 @@ use Rattle.lu_graph.specs.Discovering.{IsSearched}
 use Rattle.lu_graph.specs.Hopeless.{HasFewStates}
 use Rattle.lu_graph.specs.Marking.{IsMarked}
 
--- so many marks: of the first positions those where a run from s has ended
-pub record AreEnded (s : State) (positions : List Position) (place : ℕ)
+-- this many marks: of the first positions those where a run from s has ended
+pub record AreEnded (s : State) (positions : List Position) (number : ℕ)
     (ended : List Bool) : Type 0 where
-  pub size : length ended ≡ place
-  pub are : (i : ℕ) (position : Position) → i < place → slice_get positions i ≡ Some position
+  pub size : length ended ≡ number
+  pub are : (i : ℕ) (position : Position) → i < number → slice_get positions i ≡ Some position
       → IsMarked ended i ↔ IsEnded (at_position s position)
 
 -- the graph of all states of runs from s
 pub record IsStateGraph (s : State) (graph : StateGraph) : Type 0 where
-  pub place : ℕ
-  pub all : length graph.found.positions.keys ≤ place
-  pub searched : IsSearched s graph.found place first_move
+  pub number : ℕ
+  pub all : length graph.found.positions.keys ≤ number
+  pub searched : IsSearched s graph.found number first_move
   pub ended : AreEnded s graph.found.positions.keys (length graph.found.positions.keys)
       graph.ended.items
 
--- the graph, where there are no more than so many states
+-- the graph, where there are no more than this many states
 abbrev pub IsExplored : ℕ → State → Option StateGraph → Type 0
 IsExplored most s None = HasFewStates s most → ⊥
 IsExplored most s (Some graph) = HasFewStates s most × IsStateGraph s graph
@@ -50,17 +50,17 @@ pub record ArePaths (ways : List Discovery) (paths : List (List Move)) : Type 0 
       → (u : List Move) × (slice_get paths way.from ≡ Some u)
       × (slice_get paths i ≡ Some (u ++ way.made ∷ []))
 
--- each but the first was discovered from an earlier place
+-- each but the first was discovered from an earlier state
 abbrev pub AreInOrder : List Discovery → Type 0
 AreInOrder ways =
     (i : ℕ) (way : Discovery) → 0 < i → slice_get ways i ≡ Some way → way.from < i
 
--- the path to this place; none where it has more than 4,112 moves
+-- the path to the state of this number; none where it has more than 4,112 moves
 abbrev pub IsPathTo : List (List Move) → ℕ → Option (List Move) → Type 0
-IsPathTo paths place None = (u : List Move) × (slice_get paths place ≡ Some u) × (4112 < length u)
-IsPathTo paths place (Some u) = AreMoves u × (slice_get paths place ≡ Some u)
+IsPathTo paths number None = (u : List Move) × (slice_get paths number ≡ Some u) × (4112 < length u)
+IsPathTo paths number (Some u) = AreMoves u × (slice_get paths number ≡ Some u)
 
 -- so it is of the result, if there is one, whatever the paths are
 abbrev pub FindsPath : {E : Type 0} → List Discovery → ℕ → Result (Option (List Move)) E → Type 0
-FindsPath ways place result =
-    (paths : List (List Move)) → ArePaths ways paths → IfOk result (IsPathTo paths place)
+FindsPath ways number result =
+    (paths : List (List Move)) → ArePaths ways paths → IfOk result (IsPathTo paths number)

@@ -54,7 +54,7 @@ AllGoFirst s (m ∷ u) =
     GoesFirst s m
     × ((next : State) (event : Option Event) → Step s m next event → AllGoFirst next u)
 
--- A schedule of so many moves that all go first leads to this state, with a history that is this
+-- A schedule of this many moves that all go first leads to this state, with a history that is this
 -- one in another order, which has no less precedence.
 pub record LeadsFirst (s : State) (moves : ℕ) (end : State) (history : List Event) : Type 0 where
   pub schedule : List Move

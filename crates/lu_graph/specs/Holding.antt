@@ -84,22 +84,22 @@ HoldsStart members s nodes =
     (list : List Kept) × Hold members nodes list × HasStart members s list
     × KnowsDead s.component nodes.parts.dead
 
--- the nodes are those of a list, of which those before the place were gone through, in runs of the
--- component and the matrix of s
+-- the nodes are those of a list, of which those before this number were gone through, in runs of
+-- the component and the matrix of s
 abbrev pub AreVisitedBy : List (Vec SerialOp) → State → Nodes → ℕ → Type 0
-AreVisitedBy members s nodes place =
+AreVisitedBy members s nodes number =
     (list : List Kept) × Hold members nodes list
-    × AreVisitedFrom members s.component s.matrix list place
+    × AreVisitedFrom members s.component s.matrix list number
     × KnowsDead s.component nodes.parts.dead
 
--- ---- what is told of all nodes
+-- ---- what is said of all nodes
 
--- from each start of the component and the matrix of s it is told whether there are so few
+-- from each start of the component and the matrix of s it is said whether there are so few
 abbrev pub AreFewAsTold : {E : Type 0} → List (Vec SerialOp) → ℕ → State → Result Bool E → Type 0
 AreFewAsTold members most s result =
     FromEachStart s.component s.matrix (TellsFewNodes (IsOneOf members) most result)
 
--- and how all schedules end, searched up to a bound and with so many nodes at most
+-- and how all schedules end, searched up to a bound and with this many nodes at most
 abbrev pub EndsSo : {E : Type 0} → List (Vec SerialOp) → ℕ → ℕ → State → Result Ending E → Type 0
 EndsSo members bound most s result =
     FromEachStart s.component s.matrix

@@ -26,7 +26,7 @@ pub record HasAllStates (s : State) (states : List State) : Type 0 where
   pub start : IsAmong states s
   pub closed : NoMoveLeaves states
 
--- a list of no more than so many states has all of them
+-- a list of no more than this many states has all of them
 abbrev pub HasFewStates : State → ℕ → Type 0
 HasFewStates s most = (states : List State) × HasAllStates s states × (length states ≤ most)
 
@@ -50,7 +50,7 @@ pub record IsFirstLost (s : State) (u : List Move) : Type 0 where
   pub least : (v : List Move) → length v ≡ length u → IsSmaller v u → LosesHope s v → ⊥
 
 -- What is found of s: the first schedule that leads to a hopeless state, where there are no more
--- than so many states; none where there are more, or no schedule as short as a text leads to one.
+-- than this many states; none where there are more, or no schedule as short as a text leads to one.
 abbrev pub IsFirstLostIfAny : ℕ → State → Option (List Move) → Type 0
 IsFirstLostIfAny most s None =
     HasFewStates s most → (u : List Move) → AreMoves u → LosesHope s u → ⊥

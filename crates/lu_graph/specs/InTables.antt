@@ -5,7 +5,7 @@ use Rattle.std.specs.List.{IsDistinct, list_any}
 use lib.Pointwise.{pointwise}
 use Rattle.indexmap.specs.IndexSet.{insert_all, insert_key}
 use Rattle.lu_graph.specs.declared.row.Row.{Row}
-use Rattle.lu_graph.specs.declared.row_table.RowPlace.{RowPlace}
+use Rattle.lu_graph.specs.declared.row_table.RowIndex.{RowIndex}
 use Rattle.lu_graph.specs.declared.row_table.Share.{Share}
 use Rattle.lu_graph.specs.declared.row_table.Share.TheVariants.{Filled, Started}
 use Rattle.lu_graph.specs.declared.row_table.Table.{Table}
@@ -45,25 +45,25 @@ has_row lists number row = list_any (row_eq row) (rows_of lists number)
 abbrev pub no_row : Row
 no_row = record { cells = 0; locks = 0; threads = []; alive = 0 }
 
--- the rows that stand at these places of the tables
-abbrev pub rows_at : List (List Row) → List RowPlace → List Row
+-- the rows that stand at these indices of the tables
+abbrev pub rows_at : List (List Row) → List RowIndex → List Row
 rows_at lists order = map (λ p. slice_index_or (rows_of lists p.table) p.index no_row) order
 
--- a row stands at this place of the tables
-abbrev pub IsPlace : List (List Row) → RowPlace → Type 0
-IsPlace lists p = p.index < length (rows_of lists p.table)
+-- a row stands at this index of its table
+abbrev pub IsThere : List (List Row) → RowIndex → Type 0
+IsThere lists p = p.index < length (rows_of lists p.table)
 
 -- each table has its own of the rows in order, and then those that are new among its own of `next`
-pub record HaveNext (lists : List (List Row)) (order : List RowPlace) (next : List Row) : Type 0
+pub record HaveNext (lists : List (List Row)) (order : List RowIndex) (next : List Row) : Type 0
   where
     pub four : length lists ≡ TABLES
-    pub places : All (IsPlace lists) order
+    pub there : All (IsThere lists) order
     pub own : (n : ℕ) → n < TABLES
         → rows_of lists n ≡ with_own n next (filter (is_of n) (rows_at lists order))
     pub unique : IsDistinct row_eq (rows_at lists order)
 
 -- the tables have the rows in order and no others, each once
-abbrev pub HaveAll : List (List Row) → List RowPlace → Type 0
+abbrev pub HaveAll : List (List Row) → List RowIndex → Type 0
 HaveAll lists order = HaveNext lists order []
 
 -- each table has its own of these rows too
@@ -95,11 +95,11 @@ HasShare share table =
     (number : ℕ) (rows : List Row) (old : Table) → IsShare number rows old share
     → HasTaken number rows old table
 
--- the tables have so many rows
+-- the tables have this many rows
 abbrev pub AreLengths : List ℕ → List (List Row) → Type 0
 AreLengths counts lists = (n : ℕ) → n < TABLES → slice_index counts n ≡ length (rows_of lists n)
 
--- so many of the rows are of each table
+-- this many of the rows are of each table
 abbrev pub AreCounts : List ℕ → List Row → Type 0
 AreCounts counts rows =
     (n : ℕ) → n < TABLES → slice_index counts n ≡ length (filter (is_of n) rows)
@@ -111,25 +111,25 @@ is_row row (Some other) = row_eq row other
 
 -- the row is among those in order, as the last where it is new, and then come the others
 pub record IsOrdered (lists : List (List Row)) (row : Row) (next : List Row)
-    (old new : List RowPlace) (counts : List ℕ) : Type 0 where
+    (old new : List RowIndex) (counts : List ℕ) : Type 0 where
   pub have : HaveNext lists new next
   pub keys : rows_at lists new ≡ insert_key row_eq (rows_at lists old) row
   pub many : AreCounts counts (rows_at lists new)
 
 -- so it is, where it came first of those that come next
-abbrev pub PutsInOrder : List (List Row) → Row → List ℕ → List ℕ → List RowPlace → List RowPlace
+abbrev pub PutsInOrder : List (List Row) → Row → List ℕ → List ℕ → List RowIndex → List RowIndex
     → Type 0
 PutsInOrder lists row counts new_counts order new =
     (next : List Row) → HaveNext lists order (row ∷ next) → AreCounts counts (rows_at lists order)
     → IsOrdered lists row next order new new_counts
 
 -- so it is in these tables
-abbrev pub Orders : List Table → Row → List ℕ → List ℕ → Vec RowPlace → Vec RowPlace → Type 0
+abbrev pub Orders : List Table → Row → List ℕ → List ℕ → Vec RowIndex → Vec RowIndex → Type 0
 Orders tables row counts new_counts order new =
     PutsInOrder (rows_in tables) row counts new_counts order.items new.items
 
 -- all the rows are among those in order, and no others come next
-pub record AreOrdered (lists : List (List Row)) (rows : List Row) (old new : List RowPlace)
+pub record AreOrdered (lists : List (List Row)) (rows : List Row) (old new : List RowIndex)
     : Type 0 where
   pub have : HaveAll lists new
   pub keys : rows_at lists new ≡ insert_all row_eq (rows_at lists old) rows

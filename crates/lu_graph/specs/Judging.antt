@@ -52,16 +52,16 @@ abbrev pub AllHaveWhole : State → List (Vec SerialOp) → List Bool → Type 0
 AllHaveWhole s members alive =
     (t : ℕ) → is_waiting s t ≡ true → HasWhole s (Some t) members alive
 
--- the place of entry number `number` of thread t; none where it has no such entry
+-- the position of entry number `number` of thread t; none where it has no such entry
 abbrev pub FindsEntry : List SerialOp → ℕ → ℕ → Option ℕ → Type 0
 FindsEntry q t number None = length (entries t q) ≤ number
-FindsEntry q t number (Some place) = IsEntryAt q place (record { t = t; k = number })
+FindsEntry q t number (Some position) = IsEntryAt q position (record { t = t; k = number })
 
--- of each thread there are no more than so many
+-- of each thread there are no more than this many
 abbrev pub AreCalled : List ℕ → List SerialOp → Type 0
 AreCalled called front = (u : ℕ) → length (entries u front) ≤ slice_index called u
 
--- so many operations of each thread are called in the history
+-- this many operations of each thread are called in the history
 abbrev pub HasCalls : List ℕ → List Event → Type 0
 HasCalls called h = (u : ℕ) → calls u h ≡ slice_index called u
 
@@ -96,13 +96,13 @@ pub record StayTold (members : List (Vec SerialOp)) (at : ReturnAt) (old new : L
 abbrev pub StayToldIn : List (Vec SerialOp) → ReturnAt → List Bool → Vec Bool → Type 0
 StayToldIn members at old new = StayTold members at old new.items
 
--- what is told after one event more, or none, of each history that leads to s with it
+-- what is said after one event more, or none, of each history that leads to s with it
 abbrev pub Follows : List (Vec SerialOp) → State → List Bool → Option Event → List Bool → Type 0
 Follows members s old event new =
     (h : List Event) → Agree (progress s) (longer h event) → AreTold members h old
     → AreTold members (longer h event) new
 
--- whether an ended state is good, of each history that may have led there, of which this is told
+-- whether an ended state is good, of each history that may have led there, of which this is said
 abbrev pub JudgesGood : List (Vec SerialOp) → State → List Bool → Bool → Type 0
 JudgesGood members s alive good =
     (h : List Event) → IsWellFormed h → Agree (progress s) h → AreTold members h alive

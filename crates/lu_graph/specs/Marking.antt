@@ -7,21 +7,21 @@ use Rattle.lu_graph.specs.Nodes.{IsAmong}
 abbrev pub IsMarked : List Bool → ℕ → Type 0
 IsMarked marks i = slice_get marks i ≡ Some true
 
--- edges lead from place i along this way to a place that is marked
+-- edges lead from state i along this way to a state that is marked
 abbrev pub LeadsToMark : List Edge → List Bool → ℕ → List ℕ → Type 0
 LeadsToMark edges marks i [] = IsMarked marks i
 LeadsToMark edges marks i (j ∷ way) = IsAmong edges (edge i j) × LeadsToMark edges marks j way
 
--- a place is marked then exactly where edges lead from it to one that was marked
+-- a state is marked then exactly where edges lead from it to one that was marked
 abbrev pub AreMarkedBack : List Edge → List Bool → List Bool → Type 0
 AreMarkedBack edges old new =
     (i : ℕ) → IsMarked new i ↔ ((way : List ℕ) × LeadsToMark edges old i way)
 
--- both ends are places in a list of this length
+-- both ends are numbers below this one
 abbrev pub IsWithin : ℕ → Edge → Type 0
-IsWithin places e = (e.from < places) × (e.to < places)
+IsWithin count e = (e.from < count) × (e.to < count)
 
--- the place where the edge begins is marked now, and was not, and the one where it ends was
+-- the state where the edge begins is marked now, and was not, and the one where it ends was
 abbrev pub MarksFrom : Edge → List Bool → List Bool → Type 0
 MarksFrom e old new =
     (new ≡ slice_set old e.from true) × IsMarked old e.to × (slice_get old e.from ≡ Some false)
@@ -30,11 +30,11 @@ MarksFrom e old new =
 abbrev pub MarksNone : Edge → List Bool → List Bool → Type 0
 MarksNone e old new = (new ≡ old) × (IsMarked old e.to → IsMarked old e.from)
 
--- and it is told whether anything is changed
+-- and it is said whether anything is changed
 abbrev pub MarksAlong : Edge → List Bool → List Bool → Bool → Type 0
 MarksAlong e old new changed = MatchBool changed (MarksFrom e old new) (MarksNone e old new)
 
--- no edge leads from a place that is not marked to one that is
+-- no edge leads from a state that is not marked to one that is
 abbrev pub AreStable : List Edge → List Bool → Type 0
 AreStable edges marks = (e : Edge) → IsAmong edges e → IsMarked marks e.to → IsMarked marks e.from
 

@@ -57,7 +57,7 @@ HasAllNodes Set s nodes =
     (u : List Move) (end : State) (h : List Event) → AllGoFirst s u → Leads s u end h
     → (node : Node) × IsAmong nodes node × AreAlike Set node (node_of end h)
 
--- so it is of a list of no more than so many nodes
+-- so it is of a list of no more than this many nodes
 abbrev pub HasFewNodes : (List SerialOp → Type 0) → State → ℕ → Type 0
 HasFewNodes Set s most = (nodes : List Node) × HasAllNodes Set s nodes × (length nodes ≤ most)
 
@@ -82,7 +82,7 @@ abbrev pub EndsWell : (List SerialOp → Type 0) → State → Type 0
 EndsWell Set s =
     (u : List Move) → Reaches s u (λ end _. IsEnded end) → Reaches s u (IsGoodAt Set)
 
--- there are no more than so many nodes, and each ended schedule, of any length, is good
+-- there are no more than this many nodes, and each ended schedule, of any length, is good
 abbrev pub EndsWellOnFewNodes : (List SerialOp → Type 0) → State → ℕ → Type 0
 EndsWellOnFewNodes Set s most = HasFewNodes Set s most × EndsWell Set s
 
@@ -90,16 +90,16 @@ EndsWellOnFewNodes Set s most = HasFewNodes Set s most × EndsWell Set s
 abbrev pub EndsBadly : (List SerialOp → Type 0) → State → List Move → Type 0
 EndsBadly Set s u = Reaches s u (IsBadAt Set)
 
--- a schedule of so many moves ends badly, and none of fewer does
+-- a schedule of this many moves ends badly, and none of fewer does
 pub record IsShortestBad (Set : List SerialOp → Type 0) (s : State) (moves : ℕ) : Type 0 where
   pub schedule : List Move
   pub long : length schedule ≡ moves
   pub bad : EndsBadly Set s schedule
   pub shortest : (v : List Move) → length v < moves → EndsBadly Set s v → ⊥
 
--- How all schedules end, of any length, searched up to a bound and with so many nodes at most:
--- well; or the shortest that ends badly has so many moves, and the nodes are few where that is more
--- than the bound; or the nodes are too many.
+-- How all schedules end, of any length, searched up to a bound and with this many nodes at most:
+-- well; or the shortest that ends badly has this many moves, and the nodes are few where that is
+-- more than the bound; or the nodes are too many.
 abbrev pub IsEnding : (List SerialOp → Type 0) → ℕ → ℕ → State → Ending → Type 0
 IsEnding Set bound most s Well = EndsWellOnFewNodes Set s most
 IsEnding Set bound most s (Badly moves) =
@@ -121,7 +121,7 @@ TellsEndings c matrix members bound most result =
 abbrev pub Tells : {E : Type 0} → Type 0 → Result Bool E → Type 0
 Tells P result = IfOk result (λ answer. IsTrue answer ↔ P)
 
--- the answer, if there is one, is whether there are no more than so many nodes
+-- the answer, if there is one, is whether there are no more than this many nodes
 abbrev pub TellsFewNodes : {E : Type 0} → (List SerialOp → Type 0) → ℕ → Result Bool E → State
     → Type 0
 TellsFewNodes Set most result s = Tells (HasFewNodes Set s most) result

@@ -6,7 +6,7 @@ use Rattle.lu_graph.specs.Discovering.{Extends}
 
 -- n is the number of the first of the table that passes the test, from 1
 abbrev pub IsNumber : {A : Type 0} → (A → Bool) → List A → ℕ → Type 0
-IsNumber test table n = (place : ℕ) × (position test table ≡ Some place) × (n ≡ place + 1)
+IsNumber test table n = (index : ℕ) × (position test table ≡ Some index) × (n ≡ index + 1)
 
 -- so it is of the table as it has become, the old one with more after it or nothing
 pub record IsNumbered {A : Type 0} (test : A → Bool) (old new : List A) (n : ℕ) : Type 0 where
@@ -20,4 +20,4 @@ is_list eq xs v = pointwise eq xs v.items
 -- what has this number, if anything has
 abbrev pub with_number : {A : Type 0} → List A → ℕ → Option A
 with_number table zero = None
-with_number table (suc place) = slice_get table place
+with_number table (suc index) = slice_get table index

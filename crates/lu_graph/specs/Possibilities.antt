@@ -23,7 +23,7 @@ IsNumberOf possible alive n = IsNumber (is_list beq alive) possible.lists.keys n
 abbrev pub Gives : Possibilities → ℕ → List Bool → Type 0
 Gives possible n result = (alive : List Bool) → IsNumberOf possible alive n → result ≡ alive
 
--- so many operations of each thread are called
+-- this many operations of each thread are called
 abbrev pub HaveCalls : State → List ℕ → Type 0
 HaveCalls s calls = (u : ℕ) → slice_index calls u ≡ called s u
 

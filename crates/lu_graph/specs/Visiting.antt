@@ -45,24 +45,24 @@ IsReachedAndSound s members kept =
     CanStandThere s.component s.matrix kept × IsReached s members kept
 
 -- The start s is kept; to each that is kept a schedule leads from s, and a machine can stand there;
--- and with each before this place, all to which its moves lead that go first are kept.
+-- and with each before this number, all to which its moves lead that go first are kept.
 pub record AreVisited (members : List (Vec SerialOp)) (s : State) (list : List Kept)
-    (place : ℕ) : Type 0 where
+    (number : ℕ) : Type 0 where
   pub start : Keeps (IsFor s members s []) list
   pub reached : All (IsReachedAndSound s members) list
-  pub closed : (i : ℕ) (kept : Kept) → i < place → slice_get list i ≡ Some kept
+  pub closed : (i : ℕ) (kept : Kept) → i < number → slice_get list i ≡ Some kept
       → (m : Move) (next : State) (event : Option Event) → GoesFirst (its s kept) m
       → Step (its s kept) m next event
       → Keeps (IsNextBy members (its s kept) kept.alive next event) list
 
 -- so it is from each start
 abbrev pub AreVisitedFrom : List (Vec SerialOp) → Component → Matrix → List Kept → ℕ → Type 0
-AreVisitedFrom members c matrix list place =
-    FromEachStart c matrix (λ s. AreVisited members s list place)
+AreVisitedFrom members c matrix list number =
+    FromEachStart c matrix (λ s. AreVisited members s list number)
 
--- the level of the node at this place: the old one, or, where that has ended, the next, which ends
+-- the level of the node of this number: the old one, or, where that has ended, the next, which ends
 -- after all that are known
 abbrev pub IsLevelAt : Level → ℕ → ℕ → Level → Type 0
-IsLevelAt old place known new =
-    ((place < old.end) × (new.moves ≡ old.moves) × (new.end ≡ old.end))
-    ⊎ ((old.end ≤ place) × (new.moves ≡ old.moves + 1) × (new.end ≡ known))
+IsLevelAt old number known new =
+    ((number < old.end) × (new.moves ≡ old.moves) × (new.end ≡ old.end))
+    ⊎ ((old.end ≤ number) × (new.moves ≡ old.moves + 1) × (new.end ≡ known))

@@ -4,7 +4,7 @@ ghost use Rattle.std.specs.Prelude.{◌≡◌, ◌↔◌, IfOk, IsTrue, false, g
 ghost use Rattle.lu_history.specs.Parts.{as_serial};
 ghost use Rattle.lu_graph.specs.Judging.{AreCalled, StayToldIn, TellsAdmits, TellsStays};
 
-use crate::members::place_of;
+use crate::members::position_of;
 use crate::possibilities::ReturnAt;
 use lu_history::{SerialOp, SerialOutcome};
 use lu_machine::Outcome;
@@ -36,14 +36,14 @@ fn is_ended_so(ended: SerialOutcome, outcome: Outcome) -> bool
 fn admits(member: &[SerialOp], at: &ReturnAt) -> bool
     ensures { TellsAdmits member.now at.now result }
 {
-    let place = match place_of(member, at.operation.t, usize::from(at.operation.k)) {
+    let position = match position_of(member, at.operation.t, usize::from(at.operation.k)) {
         None => return false,
-        Some(place) => place,
+        Some(position) => position,
     };
-    if !is_ended_so(member[place].outcome, at.outcome) {
+    if !is_ended_so(member[position].outcome, at.outcome) {
         return false;
     }
-    are_called(&member[..place], &at.calls)
+    are_called(&member[..position], &at.calls)
 }
 
 /// Whether a member stays possible after the return, if it was.
@@ -56,11 +56,11 @@ fn stays(member: &[SerialOp], was: bool, at: &ReturnAt) -> bool
     false
 }
 
-/// Whether the member at this place was possible. One that is not told of was not.
-pub(crate) fn was_alive(alive: &[bool], place: usize) -> bool
-    ensures { result ≡ get_or alive.now place false }
+/// Whether the member of this number was possible. One of which nothing is said was not.
+pub(crate) fn was_alive(alive: &[bool], number: usize) -> bool
+    ensures { result ≡ get_or alive.now number false }
 {
-    match alive.get(place) {
+    match alive.get(number) {
         None => false,
         Some(was) => *was,
     }
@@ -76,8 +76,8 @@ pub(crate) fn still_alive(
     ensures { IfOk result (StayToldIn members.now at.now alive.now) }
 {
     let mut now = Vec::with_capacity(alloc, members.len())?;
-    for place in 0..members.len() {
-        let stays = stays(&members[place], was_alive(alive, place), at);
+    for number in 0..members.len() {
+        let stays = stays(&members[number], was_alive(alive, number), at);
         now.push_reserved(stays);
     }
     Ok(now)

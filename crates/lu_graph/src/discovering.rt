@@ -10,7 +10,7 @@ use lu_machine::{Machine, Position};
 use lu_test::Move;
 use std::alloc::{AllocError, Global};
 
-/// How a state was discovered: by this move of the state at an earlier place. That of the start
+/// How a state was discovered: by this move of an earlier state. That of the start
 /// says nothing.
 #[derive(Clone, Copy)]
 pub(crate) struct Discovery {
@@ -27,7 +27,7 @@ pub(crate) struct Discovered {
 }
 
 /// Adds the state at which the machine stands, if it is not there, and the edge that leads to it:
-/// by this move of the state at the place `from`.
+/// by this move of state number `from`.
 fn discover(
     alloc: Global,
     machine: &Machine<'_>,
@@ -46,23 +46,23 @@ fn discover(
     Ok(())
 }
 
-/// Discovers all states to which the machine's moves lead. It stands at this place.
+/// Discovers all states to which the machine's moves lead. It stands at the state of this number.
 pub(crate) fn discover_next(
     alloc: Global,
     machine: &mut Machine<'_>,
-    place: usize,
+    number: usize,
     found: &mut Discovered,
 ) -> Result<(), AllocError>
     requires { IsComponent machine.old.component }
     ensures home { OnOk result (machine.new ≡ machine.old) }
     ensures stay { OnOk result (Extends found.old.positions.keys found.new.positions.keys) }
-    ensures next { OnOk result (SearchesNext machine.old place found.old found.new) }
+    ensures next { OnOk result (SearchesNext machine.old number found.old found.new) }
 {
     for thread in 0..machine.threads() {
         for pick in 0..machine.picks(thread) {
             let made = Move { thread, pick };
             let undo = machine.apply(made);
-            discover(alloc, machine, place, made, found)?;
+            discover(alloc, machine, number, made, found)?;
             machine.undo(undo);
         }
     }

@@ -1,6 +1,6 @@
-//! Edges between states, by their places.
+//! Edges between states, by their numbers.
 
-/// A move leads from the state at one place to the state at another.
+/// A move leads from the state of one number to the state of another.
 #[derive(Clone, Copy)]
 pub(crate) struct Edge {
     pub(crate) from: usize,

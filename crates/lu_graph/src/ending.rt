@@ -7,7 +7,7 @@ pub enum Ending {
     /// There are no more nodes than were to be kept, no two alike, and each schedule that ends is
     /// good.
     Well,
-    /// The shortest schedule that ends and is not good has so many moves. Where these are more
+    /// The shortest schedule that ends and is not good has this many moves. Where these are more
     /// than the bound, there are no more nodes than were to be kept.
     Badly(usize),
     /// There are more nodes, no two alike, than were to be kept.

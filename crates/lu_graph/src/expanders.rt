@@ -106,8 +106,8 @@ fn gather(mut first: Expansions, others: Vec<Expansions>) -> Result<Expansions, 
     Ok(first)
 }
 
-/// Runs so many helpers in threads of this scope, each with a share of so many nodes; the calling
-/// thread takes the first share. Where the start of one is refused, nothing is found.
+/// Runs this many helpers in threads of this scope, each with a share of this many nodes; the
+/// calling thread takes the first share. Where the start of one is refused, nothing is found.
 fn run_in<'s, E, R: Threads>(
     scope: &Scope<'s, E>,
     rt: &R,

@@ -22,8 +22,8 @@ use std::collections::VecDeque;
 /// What is found of a node before it is gone through.
 #[derive(Clone, Copy)]
 pub(crate) struct Expansion {
-    /// Its place among all nodes, from 0.
-    pub(crate) place: usize,
+    /// Its number among all nodes, from 0.
+    pub(crate) number: usize,
 
     /// Whether a schedule that ends there is good.
     pub(crate) is_good: bool,
@@ -82,15 +82,15 @@ impl Expansions {
         }
     }
 
-    /// Adds what was found of the node at this place.
-    fn add(&mut self, place: usize, is_good: bool, next: &[Row]) -> Result<(), AllocError>
-        ensures { OnOk result (HasMore place is_good next.now self.old self.new) }
+    /// Adds what was found of the node of this number.
+    fn add(&mut self, number: usize, is_good: bool, next: &[Row]) -> Result<(), AllocError>
+        ensures { OnOk result (HasMore number is_good next.now self.old self.new) }
     {
         for row in next {
             self.rows.push_back(*row)?;
         }
         self.nodes.push_back(Expansion {
-            place,
+            number,
             is_good,
             count: next.len(),
         })?;
@@ -149,35 +149,35 @@ fn find_next(
     Ok(true)
 }
 
-/// Finds where the node at this place leads, and adds that to all that was found, unless not all
+/// Finds where the node of this number leads, and adds that to all that was found, unless not all
 /// parts of the nodes to which it leads are known. `next` is for these.
 fn expand(
     machine: &mut Machine<'_>,
     members: &[Vec<SerialOp>],
     guards: &Guards,
     nodes: &Nodes,
-    place: usize,
+    number: usize,
     next: &mut Vec<Row>,
     all: &mut Expansions,
 ) -> Result<(), AllocError>
     requires stand { AllCanStand machine.old.component machine.old.matrix nodes.now }
     requires guards { TellsGuarded machine.old.component guards.now }
     ensures home { OnOk result (IsInSameRuns machine.old machine.new) }
-    ensures more { OnOk result (FindsMore machine.old members.now nodes.now place all.old all.new) }
+    ensures all { OnOk result (FindsMore machine.old members.now nodes.now number all.old all.new) }
 {
-    let Some(row) = nodes.row(place) else {
+    let Some(row) = nodes.row(number) else {
         return Ok(());
     };
     stand_at(machine, &row, &nodes.parts);
     let is_good = is_good(machine, members, nodes.parts.alive.list(row.alive));
     if find_next(machine, guards, nodes, &row, next)? {
-        all.add(place, is_good, next)?;
+        all.add(number, is_good, next)?;
     }
     Ok(())
 }
 
-/// What is found of so many nodes from place `from` on, each on its own: of those of which it may
-/// be found.
+/// What is found of this many nodes from number `from` on, each on its own: of those of which it
+/// may be found.
 fn expand_each(frontier: Frontier<'_>, from: usize, count: usize) -> Result<Expansions, AllocError>
     requires { IsFrontier frontier }
     ensures { IfOk result (AreExpanded frontier.entry) }
@@ -195,13 +195,13 @@ fn expand_each(frontier: Frontier<'_>, from: usize, count: usize) -> Result<Expa
     let mut found = Expansions::new(alloc);
     let mut next = Vec::new(alloc);
     let mut machine = Machine::start(alloc, component, matrix)?;
-    for place in from.max(visited)..from.saturating_add(count).min(end) {
+    for number in from.max(visited)..from.saturating_add(count).min(end) {
         expand(
             &mut machine,
             members,
             guards,
             nodes,
-            place,
+            number,
             &mut next,
             &mut found,
         )?;
@@ -209,8 +209,8 @@ fn expand_each(frontier: Frontier<'_>, from: usize, count: usize) -> Result<Expa
     Ok(found)
 }
 
-/// What is found of so many nodes from place `from` on, each on its own: of those of which it may
-/// be found. Nothing is, where memory is refused.
+/// What is found of this many nodes from number `from` on, each on its own: of those of which it
+/// may be found. Nothing is, where memory is refused.
 pub(crate) fn expand_range(frontier: Frontier<'_>, from: usize, count: usize) -> Expansions
     requires { IsFrontier frontier }
     ensures { AreExpanded frontier.entry result }

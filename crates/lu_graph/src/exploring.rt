@@ -13,7 +13,7 @@ use crate::ending::Ending;
 use crate::expanders::{Alone, Expanders};
 use crate::expanding::{Expansions, Frontier};
 use crate::guards::Guards;
-use crate::halted::Halted;
+use crate::halted::{Halted, unhalted};
 use crate::holding::{Nodes, add_first};
 use crate::level::Level;
 use crate::listing::{all_possible, list_members};
@@ -50,7 +50,7 @@ fn put_ahead<E: Expanders>(
     Ok(())
 }
 
-/// Finds more of nodes of which so many were gone through, and none from place `end` on, where
+/// Finds more of nodes of which this many were gone through, and none from number `end` on, where
 /// nothing is left of what was found before.
 fn look_ahead<E: Expanders>(
     alloc: Global,
@@ -88,7 +88,7 @@ fn look_ahead<E: Expanders>(
 }
 
 /// Whether the component of the machine has no more than `most` nodes on its matrix, where those
-/// before this place were gone through.
+/// before this one were gone through.
 fn are_few<W: Watch, E: Expanders>(
     alloc: Global,
     machine: &mut Machine<'_>,
@@ -96,13 +96,13 @@ fn are_few<W: Watch, E: Expanders>(
     guards: &Guards,
     nodes: &mut Nodes,
     ahead: &mut Expansions,
-    place: usize,
+    number: usize,
     most: usize,
     watch: &mut W,
     expanders: &E,
 ) -> Result<bool, Halted>
     requires runs { CanRun machine.old.component machine.old.matrix }
-    requires visited { AreVisitedBy members.now machine.old nodes.old place }
+    requires visited { AreVisitedBy members.now machine.old nodes.old number }
     requires ahead { WereFound machine.old members.now nodes.old ahead.old }
     requires guards { TellsGuarded machine.old.component guards.now }
     requires running { W.is_stopped watch.old ≡ false }
@@ -111,7 +111,7 @@ fn are_few<W: Watch, E: Expanders>(
     ensures stopped { IfErr result (λ halted. halted ≡ Stopped → W.is_stopped watch.new ≡ true) }
     ensures running { OnOk result (W.is_stopped watch.new ≡ false) }
 {
-    for at in place..most {
+    for at in number..most {
         if watch.stop() {
             return Err(Halted::Stopped);
         }
@@ -259,9 +259,9 @@ fn search_all<W: Watch, E: Expanders>(
 /// As [`ends_well`], but the watch is asked before each node that is gone through, and stops the
 /// search where it says so; and the expanders find where nodes lead before these are gone through,
 /// which takes less time where they are several threads, and gives the same ending. Only where the
-/// limit is passed in the level of the first bad node, the one or the other may be told, too many
-/// nodes or the bad one: nodes of a level can stand in another order then. Asks for a watch that
-/// has not stopped; where there is an ending, it has not stopped either.
+/// limit is passed in the level of the first bad node, the one or the other may be reported, too
+/// many nodes or the bad one: nodes of a level can stand in another order then. Asks for a watch
+/// that has not stopped; where there is an ending, it has not stopped either.
 ///
 /// # Errors
 ///
@@ -299,7 +299,7 @@ pub fn ends_well_watched<T: SerialTree, W: Watch, E: Expanders>(
 /// How all schedules of the component on the matrix end, of any length, for the set of the tree. A
 /// node is a state, with the history of a schedule that leads there; those of states that differ in
 /// dead registers alone, where the same members of the set can still become witnesses, are alike,
-/// and count as one. At most `most` are kept, each as a row of 52 bytes with its place, and the
+/// and count as one. At most `most` are kept, each as a row of 52 bytes with its number, and the
 /// parts that they share. Where a schedule of no more moves than the bound ends badly, the nodes
 /// after it are not counted. Asks for a matrix of the component, whose setup settles.
 ///
@@ -317,7 +317,7 @@ pub fn ends_well<T: SerialTree>(
     requires { CanRun component.now matrix.now }
     ensures { TellsEndings component.now matrix.now (T.members tree.now) bound most result }
 {
-    match ends_well_watched(
+    unhalted(ends_well_watched(
         alloc,
         component,
         matrix,
@@ -326,9 +326,5 @@ pub fn ends_well<T: SerialTree>(
         most,
         &mut Unwatched,
         &Alone,
-    ) {
-        Ok(ending) => Ok(ending),
-        Err(Halted::Memory) => Err(AllocError),
-        Err(Halted::Stopped) => unreachable!(),
-    }
+    ))
 }

@@ -1,7 +1,7 @@
 //! Why a search has no answer.
 
-ghost use Rattle.std.specs.Prelude.{◌≡◌};
-ghost use Rattle.lu_graph.specs.declared.halted.Halted.TheVariants.{Memory};
+ghost use Rattle.std.specs.Prelude.{◌≡◌, ◌≢◌, IfErr, IfOk, Ok};
+ghost use Rattle.lu_graph.specs.declared.halted.Halted.TheVariants.{Memory, Stopped};
 
 use std::alloc::{AllocError, AllocFailed};
 
@@ -29,4 +29,17 @@ impl<T: Drop> From<AllocFailed<T>> for Halted {
     fn from(_refused: AllocFailed<T>) -> Halted {
         Halted::Memory
     }
+}
+
+/// What a search answered that no watch stopped: where it has no answer, memory was refused.
+///
+/// # Errors
+///
+/// `AllocError` where memory was refused.
+pub fn unhalted<T>(answer: Result<T, Halted>) -> Result<T, AllocError>
+    requires { IfErr answer (λ halted. halted ≢ Stopped) }
+    ensures only { IfOk result (λ found. answer ≡ Ok found) }
+    ensures all { IfOk answer (λ found. result ≡ Ok found) }
+{
+    answer.map_err(|_halted| AllocError)
 }

@@ -30,11 +30,11 @@ impl Nodes {
         }
     }
 
-    /// The row of the node at this place, if there is one.
-    pub(crate) fn row(&self, place: usize) -> Option<Row>
-        ensures { result ≡ slice_get self.now.rows.keys place }
+    /// The row of the node of this number, if there is one.
+    pub(crate) fn row(&self, number: usize) -> Option<Row>
+        ensures { result ≡ slice_get self.now.rows.keys number }
     {
-        self.rows.row(place)
+        self.rows.row(number)
     }
 }
 

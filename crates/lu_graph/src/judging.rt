@@ -6,7 +6,7 @@ ghost use Rattle.lu_machine.specs.Ends.{IsEnded};
 ghost use Rattle.lu_graph.specs.Judging.{AllHaveWhole, HasWhole, IsStuckIn, IsWhole, JudgesGood, ended, room};
 
 use crate::alive::was_alive;
-use crate::members::{count, place_of};
+use crate::members::{count, position_of};
 use crate::standing::{called, ended, is_waiting};
 use lu_history::{SerialOp, SerialOutcome};
 use lu_machine::{Machine, Status};
@@ -50,9 +50,9 @@ fn is_stuck_so(outcome: SerialOutcome) -> bool
 fn is_stuck(machine: &Machine<'_>, member: &[SerialOp], thread: u8) -> bool
     ensures { IsTrue result ↔ IsStuckIn machine.now member.now thread }
 {
-    match place_of(member, thread, ended(machine, thread)) {
+    match position_of(member, thread, ended(machine, thread)) {
         None => false,
-        Some(place) => is_stuck_so(member[place].outcome),
+        Some(position) => is_stuck_so(member[position].outcome),
     }
 }
 
@@ -81,9 +81,9 @@ fn has_whole(
 ) -> bool
     ensures { IsTrue result ↔ HasWhole machine.now waiting members.now alive.now }
 {
-    for place in 0..members.len() {
-        if was_alive(alive, place) {
-            if is_whole(machine, &members[place], waiting) {
+    for number in 0..members.len() {
+        if was_alive(alive, number) {
+            if is_whole(machine, &members[number], waiting) {
                 return true;
             }
         }

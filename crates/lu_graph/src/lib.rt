@@ -25,7 +25,7 @@
 //! ```
 #![tactic(auto)]
 
-/// How many nodes are mostly kept: where there are so many, they take about 1 GiB. So it is of
+/// How many nodes are mostly kept: where there are this many, they take about 1 GiB. So it is of
 /// states, where histories play no part: each takes more, but there are fewer.
 pub const DEFAULT_NODES: u32 = 8_388_608;
 
@@ -58,7 +58,7 @@ mod traversal;
 pub use ending::Ending;
 pub use expanders::{Alone, ByThreads, Expanders, Helpers};
 pub use exploring::{ends_well, ends_well_watched};
-pub use halted::Halted;
+pub use halted::{Halted, unhalted};
 pub use laws::{alike_laws, alive_laws, first_law, guard_law, hopeless_law};
 pub use losing::{first_lost, first_lost_watched};
 pub use lu_tree::{Unwatched, Watch};

@@ -9,27 +9,27 @@ ghost use Rattle.lu_graph.specs.Hopeless.{IsFirstLostIfAny, TellsFirstLost};
 
 use crate::discovering::Discovery;
 use crate::exploring_states::explore;
-use crate::halted::Halted;
+use crate::halted::{Halted, unhalted};
 use crate::marking::{first_unmarked, mark_back};
 use lu_component::Component;
 use lu_test::{MOST_LISTED_MOVES, Matrix, Schedule};
 use lu_tree::{Unwatched, Watch};
 use std::alloc::{AllocError, Global};
 
-/// The moves by which the state at this place was discovered, if they are no more than a schedule
+/// The moves by which the state of this number was discovered, if they are no more than a schedule
 /// has.
 fn schedule_to(
     alloc: Global,
     ways: &[Discovery],
-    place: usize,
+    number: usize,
 ) -> Result<Option<Schedule>, AllocError>
-    requires there { place < length ways.now }
+    requires there { number < length ways.now }
     requires order { AreInOrder ways.now }
     requires moves { All (λ way. IsMove way.made) ways.now }
-    ensures { FindsPath ways.now place result }
+    ensures { FindsPath ways.now number result }
 {
     let mut moves = Vec::new(alloc);
-    let mut at = place;
+    let mut at = number;
     while at > 0 {
         if moves.len() == MOST_LISTED_MOVES {
             return Ok(None);
@@ -70,7 +70,7 @@ pub fn first_lost_watched<W: Watch>(
     mark_back(&graph.found.edges, &mut graph.ended);
     match first_unmarked(&graph.ended) {
         None => Ok(None),
-        Some(place) => Ok(schedule_to(alloc, &graph.found.discoveries, place)?),
+        Some(number) => Ok(schedule_to(alloc, &graph.found.discoveries, number)?),
     }
 }
 
@@ -92,9 +92,5 @@ pub fn first_lost(
     requires { CanRun component.now matrix.now }
     ensures { FromEachStart component.now matrix.now (λ s. IfOk result (IsFirstLostIfAny most s)) }
 {
-    match first_lost_watched(alloc, component, matrix, most, &mut Unwatched) {
-        Ok(schedule) => Ok(schedule),
-        Err(Halted::Memory) => Err(AllocError),
-        Err(Halted::Stopped) => unreachable!(),
-    }
+    unhalted(first_lost_watched(alloc, component, matrix, most, &mut Unwatched))
 }

@@ -5,7 +5,7 @@ ghost use Rattle.lu_graph.specs.Marking.{AreMarkedBack, AreSettled, IsWithin, Ma
 
 use crate::edge::Edge;
 
-/// Marks the place where the edge begins, if the one where it ends is marked: whether that changes
+/// Marks the state where the edge begins, if the one where it ends is marked: whether that changes
 /// anything.
 fn mark_along(edge: Edge, marks: &mut [bool]) -> bool
     requires { IsWithin (length marks.old) edge }
@@ -21,7 +21,7 @@ fn mark_along(edge: Edge, marks: &mut [bool]) -> bool
     false
 }
 
-/// Marks along each edge once, the last one first, since most lead to later places: whether that
+/// Marks along each edge once, the last one first, since most lead to later states: whether that
 /// changes anything.
 fn mark_once(edges: &[Edge], marks: &mut [bool]) -> bool
     requires { All (IsWithin (length marks.old)) edges.now }
@@ -38,7 +38,7 @@ fn mark_once(edges: &[Edge], marks: &mut [bool]) -> bool
     is_changed
 }
 
-/// Marks each place from which edges lead to one that is marked.
+/// Marks each state from which edges lead to one that is marked.
 pub(crate) fn mark_back(edges: &[Edge], marks: &mut [bool])
     requires { All (IsWithin (length marks.old)) edges.now }
     ensures { AreMarkedBack edges.now marks.old marks.new }
@@ -49,7 +49,7 @@ pub(crate) fn mark_back(edges: &[Edge], marks: &mut [bool])
     }
 }
 
-/// The first place that is not marked.
+/// The first state that is not marked.
 pub(crate) fn first_unmarked(marks: &[bool]) -> Option<usize>
     ensures { result ≡ position not marks.now }
 {

@@ -19,15 +19,15 @@ pub(crate) fn count(history: &[SerialOp], thread: u8) -> usize
     count
 }
 
-/// The place of the thread's operation of this number, from 0.
-pub(crate) fn place_of(history: &[SerialOp], thread: u8, number: usize) -> Option<usize>
+/// The position of the thread's operation of this number, from 0.
+pub(crate) fn position_of(history: &[SerialOp], thread: u8, number: usize) -> Option<usize>
     ensures { FindsEntry history.now thread number result }
 {
     let mut seen = 0;
-    for place in 0..history.len() {
-        if history[place].thread == thread {
+    for position in 0..history.len() {
+        if history[position].thread == thread {
             if seen == number {
-                return Some(place);
+                return Some(position);
             }
             seen += 1;
         }

@@ -79,8 +79,8 @@ fn number_threads(
     let mut numbers = [0; 8];
     for thread in 0..machine.threads() {
         if let Some(standing) = machine.standing(thread) {
-            let place = usize::from(thread);
-            numbers[place] = number_of(table, dead.live(standing), likely[place])?;
+            let index = usize::from(thread);
+            numbers[index] = number_of(table, dead.live(standing), likely[index])?;
         }
     }
     Ok(numbers)
@@ -119,8 +119,8 @@ fn known_threads(
     let mut numbers = [0; 8];
     for thread in 0..machine.threads() {
         if let Some(standing) = machine.standing(thread) {
-            let place = usize::from(thread);
-            numbers[place] = known_number(table, &dead.live(standing), likely[place])?;
+            let index = usize::from(thread);
+            numbers[index] = known_number(table, &dead.live(standing), likely[index])?;
         }
     }
     Some(numbers)
@@ -149,9 +149,9 @@ fn threads_with(table: &IndexSet<Thread>, numbers: &[u32; 8]) -> [Thread; 8]
         activity: Activity::Idle,
     };
     let mut threads = [idle; 8];
-    for place in 0..8 {
-        if let Some(thread) = value_with(table, numbers[place]) {
-            threads[place] = *thread;
+    for index in 0..8 {
+        if let Some(thread) = value_with(table, numbers[index]) {
+            threads[index] = *thread;
         }
     }
     threads

@@ -19,9 +19,9 @@ use std::thread::{Promise, PromisedHandle, Scope, Threads};
 /// How many tables there are.
 const TABLES: usize = 4;
 
-/// Where a row stands: in which table, and at which place of that.
+/// Where a row stands: in which table, and at which index of that.
 #[derive(Clone, Copy)]
-struct RowPlace {
+struct RowIndex {
     table: u8,
     index: u32,
 }
@@ -41,7 +41,7 @@ struct Table {
 #[derive(Drop)]
 pub struct RowTable {
     tables: [Table; TABLES],
-    order: Vec<RowPlace>,
+    order: Vec<RowIndex>,
 }
 
 impl Model for RowTable {
@@ -119,12 +119,12 @@ fn put_own(table: &mut IndexSet<Row>, number: usize, rows: &[Row]) -> Result<(),
     Ok(())
 }
 
-/// The row at this place, if there is one.
-fn row_at(tables: &[Table], place: RowPlace) -> Option<Row>
-    ensures { result ≡ slice_get (rows_of (rows_in tables.now) place.table) place.index }
+/// The row that stands there, if there is one.
+fn row_at(tables: &[Table], at: RowIndex) -> Option<Row>
+    ensures { result ≡ slice_get (rows_of (rows_in tables.now) at.table) at.index }
 {
-    let table = tables.get(usize::from(place.table))?;
-    table.rows.get_index(place.index as usize).copied()
+    let table = tables.get(usize::from(at.table))?;
+    table.rows.get_index(at.index as usize).copied()
 }
 
 /// Whether the table of this number has the row.
@@ -137,23 +137,23 @@ fn has(tables: &[Table], number: u8, row: &Row) -> bool
     }
 }
 
-/// The place of this index in the table of this number. More than 4,294,967,296 have no places:
-/// that is told as refused memory.
-fn place(table: u8, index: usize) -> Result<RowPlace, AllocError>
-    ensures table { IfOk result (λ place. place.table ≡ table) }
-    ensures index { IfOk result (λ place. place.index ≡ index) }
+/// Where the row of this index stands in the table of this number. More than 4,294,967,296 stand
+/// nowhere: that is reported as refused memory.
+fn row_index(table: u8, index: usize) -> Result<RowIndex, AllocError>
+    ensures table { IfOk result (λ at. at.table ≡ table) }
+    ensures index { IfOk result (λ at. at.index ≡ index) }
 {
     let index = u32::try_from(index).map_err(|_| AllocError)?;
-    Ok(RowPlace { table, index })
+    Ok(RowIndex { table, index })
 }
 
-/// The next place in the table of this number.
-fn next_place(tables: &[Table], number: u8) -> Result<RowPlace, AllocError>
+/// Where the next row stands in the table of this number.
+fn next_index(tables: &[Table], number: u8) -> Result<RowIndex, AllocError>
     requires { number < length tables.now }
-    ensures table { IfOk result (λ place. place.table ≡ number) }
+    ensures table { IfOk result (λ at. at.table ≡ number) }
     ensures index { IfOk result (λ p. p.index ≡ length (rows_of (rows_in tables.now) number)) }
 {
-    place(number, tables[usize::from(number)].rows.len())
+    row_index(number, tables[usize::from(number)].rows.len())
 }
 
 /// Puts the row into its table, of this number, if it is not there, and says whether it was new.
@@ -297,31 +297,31 @@ fn is_at(tables: &[Table], number: usize, index: usize, row: &Row) -> bool
     }
 }
 
-/// Gives the row the next place in order, where it stands behind those of its table that have one.
+/// Puts the row next in order, where it stands after those of its table that have one.
 fn order_next(
     tables: &[Table; TABLES],
     row: &Row,
     counts: &mut [usize; TABLES],
-    order: &mut Vec<RowPlace>,
+    order: &mut Vec<RowIndex>,
 ) -> Result<(), AllocError>
     ensures { OnOk result (Orders tables.now row.now counts.old counts.new order.old order.new) }
 {
     let number = table_of(row);
     let count = counts[usize::from(number)];
     if is_at(tables, usize::from(number), count, row) {
-        order.push(place(number, count)?)?;
+        order.push(row_index(number, count)?)?;
         counts[usize::from(number)] = count + 1;
     }
     Ok(())
 }
 
-/// Gives places to all rows that are new, in order. The tables have them, behind so many others.
+/// Puts all rows that are new in order. The tables have them, after this many others.
 fn order_all(
     tables: &[Table; TABLES],
     rows: &[Row],
     mut counts: [usize; TABLES],
-    mut order: Vec<RowPlace>,
-) -> Result<Vec<RowPlace>, AllocError>
+    mut order: Vec<RowIndex>,
+) -> Result<Vec<RowIndex>, AllocError>
     requires have { HaveNext (rows_in tables.now) order.items rows.now }
     requires counts { AreCounts counts (rows_at (rows_in tables.now) order.items) }
     ensures { IfOk result (λ new. AreOrdered (rows_in tables.now) rows.now order.items new.items) }
@@ -356,12 +356,12 @@ impl RowTable {
         self.order.len()
     }
 
-    /// The row at this place, if there is one.
-    pub(crate) fn row(&self, place: usize) -> Option<Row>
-        ensures { result ≡ slice_get self.now.keys place }
+    /// The row of this number, if there is one.
+    pub(crate) fn row(&self, number: usize) -> Option<Row>
+        ensures { result ≡ slice_get self.now.keys number }
     {
-        let place = self.order.get(place)?;
-        row_at(&self.tables, *place)
+        let at = self.order.get(number)?;
+        row_at(&self.tables, *at)
     }
 
     /// Whether the row is there.
@@ -377,11 +377,11 @@ impl RowTable {
         ensures keys { OnOk result (self.new.keys ≡ insert_key row_eq self.old.keys row) }
     {
         let number = table_of(&row);
-        let place = next_place(&self.tables, number)?;
+        let at = next_index(&self.tables, number)?;
         self.order.reserve(1)?;
         let added = put(&mut self.tables, number, row)?;
         if added {
-            self.order.push_reserved(place);
+            self.order.push_reserved(at);
         }
         Ok(added)
     }

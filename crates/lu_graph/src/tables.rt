@@ -8,14 +8,14 @@ use indexmap::{Equivalent, IndexSet};
 use std::alloc::{AllocError, Global};
 use std::hash::Hash;
 
-/// The number of what stands at this place, from 1. More than 4,294,967,295 have no numbers: that
-/// is told as refused memory.
-fn number_at(place: usize) -> Result<u32, AllocError>
-    ensures { IfOk result (λ n. n ≡ place + 1) }
+/// The number of what stands at this index, from 1. More than 4,294,967,295 have no numbers: that
+/// is reported as refused memory.
+fn number_at(index: usize) -> Result<u32, AllocError>
+    ensures { IfOk result (λ n. n ≡ index + 1) }
 {
-    match u32::try_from(place) {
+    match u32::try_from(index) {
         Err(_) => Err(AllocError),
-        Ok(place) => place.checked_add(1).ok_or(AllocError),
+        Ok(index) => index.checked_add(1).ok_or(AllocError),
     }
 }
 
@@ -25,8 +25,8 @@ pub(crate) fn value_with<T: Eq + Hash>(table: &IndexSet<T>, number: u32) -> Opti
     ensures unique { IsUnique T.eq table.now }
 {
     let values = table.as_slice();
-    let place = number.checked_sub(1)?;
-    values.get(place as usize)
+    let index = number.checked_sub(1)?;
+    values.get(index as usize)
 }
 
 /// The list with this number. What is no number has an empty one.
@@ -60,16 +60,16 @@ pub(crate) fn known_number<T: Eq + Hash, Q: Equivalent<T> + Copy>(
     if has_number(table, query, likely) {
         return Some(likely);
     }
-    let place = table.get_index_of(query)?;
-    number_at(place).ok()
+    let index = table.get_index_of(query)?;
+    number_at(index).ok()
 }
 
 /// The number of the value in the table, which it joins if it is not there.
 fn join<T: Eq + Hash + Drop>(table: &mut IndexSet<T>, value: T) -> Result<u32, AllocError>
     ensures { IfOk result (IsNumbered (T.eq value) table.old.keys table.new.keys) }
 {
-    let (place, _) = table.insert_full(value)?;
-    number_at(place)
+    let (index, _) = table.insert_full(value)?;
+    number_at(index)
 }
 
 /// The number of the value in the table, which it joins if it is not there. `likely` is looked at

@@ -16,17 +16,17 @@ use lu_machine::Machine;
 use std::alloc::{AllocError, Global};
 use std::collections::VecDeque;
 
-/// Takes out what was found of the node at this place, if that stands first.
-fn take_at(found: &mut VecDeque<Expansion>, place: usize) -> Option<Expansion>
-    ensures { Takes place found.old.items found.new.items result }
+/// Takes out what was found of the node of this number, if that stands first.
+fn take_at(found: &mut VecDeque<Expansion>, number: usize) -> Option<Expansion>
+    ensures { Takes number found.old.items found.new.items result }
 {
-    if found.front()?.place == place {
+    if found.front()?.number == number {
         return found.pop_front();
     }
     None
 }
 
-/// Takes the first rows out, so many, and puts those to the others that are not there.
+/// Takes the first rows out, this many, and puts those to the others that are not there.
 fn put_next(rows: &mut VecDeque<Row>, count: usize, nodes: &mut Nodes) -> Result<(), AllocError>
     ensures put { OnOk result (PutsNext (take count rows.old.items) nodes.old nodes.new) }
     ensures rest { OnOk result (rows.new.items ≡ drop count rows.old.items) }
@@ -40,14 +40,14 @@ fn put_next(rows: &mut VecDeque<Row>, count: usize, nodes: &mut Nodes) -> Result
     Ok(())
 }
 
-/// Goes through the node at this place, of this row: adds all to which its moves lead that go
+/// Goes through the node of this number, of this row: adds all to which its moves lead that go
 /// first, and says whether it is good. Where that was found before, nothing is found again.
 pub(crate) fn go_through(
     alloc: Global,
     machine: &mut Machine<'_>,
     members: &[Vec<SerialOp>],
     guards: &Guards,
-    place: usize,
+    number: usize,
     row: &Row,
     ahead: &mut Expansions,
     nodes: &mut Nodes,
@@ -56,10 +56,10 @@ pub(crate) fn go_through(
     requires guards { TellsGuarded machine.old.component guards.now }
     requires ahead { WereFound machine.old members.now nodes.old ahead.old }
     ensures home { OnOk result (IsInSameRuns machine.old machine.new) }
-    ensures done { IfOk result (Visits members.now machine.old place row.now nodes.old nodes.new) }
+    ensures done { IfOk result (Visits members.now machine.old number row.now nodes.old nodes.new) }
     ensures left { OnOk result (StayFound machine.old members.now nodes.old nodes.new ahead.new) }
 {
-    match take_at(&mut ahead.nodes, place) {
+    match take_at(&mut ahead.nodes, number) {
         Some(found) => {
             put_next(&mut ahead.rows, found.count, nodes)?;
             Ok(found.is_good)

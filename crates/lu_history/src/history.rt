@@ -16,7 +16,7 @@ use std::alloc::Global;
 use std::marker::Model;
 
 /// The number of operations that a history can have.
-const PLACES: usize = MOST_THREADS * MOST_CALLS_OF_THREAD;
+const ROWS: usize = MOST_THREADS * MOST_CALLS_OF_THREAD;
 
 /// The calls and returns of up to 8 threads with up to 8 calls each, in the order in which they
 /// happened. In clauses it is the list of its events.
@@ -36,10 +36,10 @@ pub struct History {
     returned: [u8; MOST_THREADS],
 
     /// The outcome of each operation that has returned.
-    outcomes: [Outcome; PLACES],
+    outcomes: [Outcome; ROWS],
 
     /// For each operation, the number of returns of each thread before its call.
-    before: [[u8; MOST_THREADS]; PLACES],
+    before: [[u8; MOST_THREADS]; ROWS],
 }
 
 impl Model for History {
@@ -64,8 +64,8 @@ impl History {
             events: Vec::new(alloc),
             called: [0; MOST_THREADS],
             returned: [0; MOST_THREADS],
-            outcomes: [Outcome::Trap; PLACES],
-            before: [[0; MOST_THREADS]; PLACES],
+            outcomes: [Outcome::Trap; ROWS],
+            before: [[0; MOST_THREADS]; ROWS],
         }
     }
 
@@ -78,12 +78,12 @@ impl History {
     }
 
     /// How thread `t`'s operations returned, in order: the outcomes of the thread's part of the
-    /// history (Herlihy and Wing, 1990). A pending one has no place here.
+    /// history (Herlihy and Wing, 1990). A pending one is not among them.
     pub fn outcomes(&self, t: u8) -> &[Outcome]
         requires { t < MOST_THREADS }
         ensures { result.now ≡ outcomes t self.now }
     {
-        let first = OpId { t, k: 0 }.place();
+        let first = OpId { t, k: 0 }.row();
         &self.outcomes[first..first + usize::from(self.returned[usize::from(t)])]
     }
 
@@ -133,7 +133,7 @@ impl History {
         requires call { b.k < MOST_CALLS_OF_THREAD }
         ensures { AreBefore self.now b result.now }
     {
-        &self.before[b.place()]
+        &self.before[b.row()]
     }
 
     /// Whether `a` returns before `b` is called (Herlihy and Wing, 1990). It is false where `a` has
@@ -180,11 +180,11 @@ impl History {
         self.events.push(event)?;
         match event {
             Event::Call { t, k } => {
-                self.before[OpId { t, k }.place()] = self.returned;
+                self.before[OpId { t, k }.row()] = self.returned;
                 self.called[usize::from(t)] += 1;
             }
             Event::Return { t, k, outcome } => {
-                self.outcomes[OpId { t, k }.place()] = outcome;
+                self.outcomes[OpId { t, k }.row()] = outcome;
                 self.returned[usize::from(t)] += 1;
             }
         }

@@ -13,8 +13,8 @@ pub struct OpId {
 }
 
 impl OpId {
-    /// The operation's place in a table with one for each operation, thread by thread.
-    pub(crate) fn place(self) -> usize
+    /// The operation's row in a table with one for each operation, thread by thread.
+    pub(crate) fn row(self) -> usize
         ensures { result ≡ self.t * MOST_CALLS_OF_THREAD + self.k }
     {
         usize::from(self.t) * MOST_CALLS_OF_THREAD + usize::from(self.k)

@@ -6,7 +6,7 @@ ghost use Rattle.lu_horizon.specs.Outlooks.{IsWeaker, either, one_before};
 /// What is known of the moves ahead of a thread, whatever the threads do.
 #[derive(Clone, Copy, Debug)]
 pub(crate) struct Outlook {
-    /// So many moves are certain: each of them is there, and leaves no choice.
+    /// This many moves are certain: each of them is there, and leaves no choice.
     pub(crate) moves: u16,
 
     /// The thread has no move after them.

@@ -163,7 +163,7 @@ struct Ran {
     failed_writes: u64,
 }
 
-/// What came of a run with this status and so many failed reads.
+/// What came of a run with this status and this many failed reads.
 fn ran_with(status: u8, failed_reads: u64, output: Counted<FailingWriter>) -> Ran {
     Ran {
         status,
@@ -206,7 +206,7 @@ fn assert_blamed(rt: &impl Abort, ran: &Ran) {
     assert_eq!(rt; ran.status, 4);
 }
 
-/// The run wrote the first bytes of the command's answer, so many.
+/// The run wrote the first bytes of the command's answer, this many.
 fn assert_begun(rt: &impl Abort, command: &ExpectedRun<'_>, ran: &Ran, count: usize) {
     assert_eq!(rt; ran.status, 4);
     assert_eq!(rt; ran.taken.len(), count);

@@ -8,14 +8,14 @@ use Rattle.lu_judge.specs.declared.path.Beginning.{Beginning}
 use Rattle.lu_judge.specs.Paths.{Line, lines, read_back, history_at, IsBack, IsAfter, AreLinks}
 use Rattle.lu_judge.proofs.Reading.{grown_read, read_longer, lines_push, lines_length, lines_set, at_set}
 
-pub after_more : (ls more : List Line) (shorter place : ℕ) → IsAfter ls shorter place → IsAfter (ls ++ more) shorter place
-after_more ls more shorter place is = (is.0, kept_at ls more (shorter, is.0) place is.1)
+pub after_more : (ls more : List Line) (shorter number : ℕ) → IsAfter ls shorter number → IsAfter (ls ++ more) shorter number
+after_more ls more shorter number is = (is.0, kept_at ls more (shorter, is.0) number is.1)
 
-pub links_more : (ls more : List Line) (place : ℕ) (b : Beginning) → AreLinks ls place b → AreLinks (ls ++ more) place b
-links_more ls more place b are = record {
+pub links_more : (ls more : List Line) (number : ℕ) (b : Beginning) → AreLinks ls number b → AreLinks (ls ++ more) number b
+links_more ls more number b are = record {
   lower = are.lower;
   beside = λ ne. after_more ls more b.shorter b.next (are.beside ne);
-  above = λ ne. after_more ls more place b.longer (are.above ne);
+  above = λ ne. after_more ls more number b.longer (are.above ne);
 }
 
 back_push : (ls : List Line) (line : Line) → IsBack ls → line.0 < length ls → IsBack (ls ++ line ∷ [])

@@ -10,89 +10,89 @@ use Rattle.lu_judge.specs.Paths.{Line, lines, history_at, IsBack, IsAfter}
 use Rattle.lu_judge.proofs.Reading.{read_longer, lines_at, lines_length}
 use Rattle.lu_judge.proofs.Linking.{Linked, Right, set_history, set_back, set_links, set_right, push_back, push_last, push_after, push_links, push_right}
 
--- what stands at a place that was read
+-- what stands at a number that was read
 pub found_at : (bs : List Beginning) (i : ℕ) (b : Beginning) → i < length bs → b ≡ get_or bs i b → slice_get bs i ≡ Some b
 found_at bs i b lt read = slice_get_read bs (length bs) i b refl lt read
 
-pub some_place : (bs : List Beginning) (place : ℕ) → history_at bs place ≢ [] → place ≢ 0
-some_place bs zero ne = absurd (ne refl)
-some_place bs (suc place) ne = λ e. absurd (omega (arith, e))
+pub some_number : (bs : List Beginning) (number : ℕ) → history_at bs number ≢ [] → number ≢ 0
+some_number bs zero ne = absurd (ne refl)
+some_number bs (suc number) ne = λ e. absurd (omega (arith, e))
 
-pub shorter_lower : (bs : List Beginning) → IsBack (lines bs) → (place : ℕ) (b : Beginning) → place ≢ 0 → slice_get bs place ≡ Some b → b.shorter < place
+pub shorter_lower : (bs : List Beginning) → IsBack (lines bs) → (number : ℕ) (b : Beginning) → number ≢ 0 → slice_get bs number ≡ Some b → b.shorter < number
 shorter_lower bs back zero b ne at = absurd (ne refl)
-shorter_lower bs back (suc place) b ne at = omega (arith, back place (b.shorter, b.event) (lines_at bs (suc place) b at))
+shorter_lower bs back (suc number) b ne at = omega (arith, back number (b.shorter, b.event) (lines_at bs (suc number) b at))
 
-pub shorter_history : (bs : List Beginning) → IsBack (lines bs) → (place : ℕ) (b : Beginning) → place ≢ 0 → slice_get bs place ≡ Some b → history_at bs place ≡ history_at bs b.shorter ++ b.event ∷ []
-shorter_history bs back place b ne at = read_longer (lines bs) back place b.shorter b.event ne (lines_at bs place b at)
+pub shorter_history : (bs : List Beginning) → IsBack (lines bs) → (number : ℕ) (b : Beginning) → number ≢ 0 → slice_get bs number ≡ Some b → history_at bs number ≡ history_at bs b.shorter ++ b.event ∷ []
+shorter_history bs back number b ne at = read_longer (lines bs) back number b.shorter b.event ne (lines_at bs number b at)
 
--- a place has one shorter one
+-- a number has one shorter one
 pub one_shorter : (bs : List Beginning) (i : ℕ) (b : Beginning) (shorter : ℕ) (event : Event) → slice_get bs i ≡ Some b → slice_get (lines bs) i ≡ Some (shorter, event) → b.shorter ≡ shorter
 one_shorter bs i b shorter event at is = ap (λ (l : Line). l.0) (same_Some (b.shorter, b.event) (shorter, event) (sym (lines_at bs i b at) ∙ is))
 
-pub after_within : (bs : List Beginning) (shorter place : ℕ) → IsAfter (lines bs) shorter place → place < length bs
-after_within bs shorter place is = omega (arith, slice_get_within (lines bs) place (shorter, is.0) is.1, lines_length bs)
+pub after_within : (bs : List Beginning) (shorter number : ℕ) → IsAfter (lines bs) shorter number → number < length bs
+after_within bs shorter number is = omega (arith, slice_get_within (lines bs) number (shorter, is.0) is.1, lines_length bs)
 
-pub lower_next : (n place : ℕ) → (n ≢ 0 → n < place) → place ≢ 0 → n < place
+pub lower_next : (n number : ℕ) → (n ≢ 0 → n < number) → number ≢ 0 → n < number
 lower_next zero zero lower ne = absurd (ne refl)
-lower_next zero (suc place) lower ne = omega arith
-lower_next (suc n) place lower ne = lower (λ e. absurd (omega (arith, e)))
+lower_next zero (suc number) lower ne = omega arith
+lower_next (suc n) number lower ne = lower (λ e. absurd (omega (arith, e)))
 
--- a beginning is added after the one at the place, and becomes its first longer one
-module _ (bs xs : List Beginning) (place added : ℕ) (event : Event) (b r : Beginning) (within : place < length bs) (back : IsBack (lines bs)) (links : Linked bs)
-    (read : b ≡ get_or bs place b) (pushed : xs ≡ bs ++ record { event = event; shorter = place; next = b.longer; longer = 0; good = false } ∷ []) (long : added ≡ length bs) (again : r ≡ get_or xs place r) where
+-- a beginning is added after the one at the number, and becomes its first longer one
+module _ (bs xs : List Beginning) (number added : ℕ) (event : Event) (b r : Beginning) (within : number < length bs) (back : IsBack (lines bs)) (links : Linked bs)
+    (read : b ≡ get_or bs number b) (pushed : xs ≡ bs ++ record { event = event; shorter = number; next = b.longer; longer = 0; good = false } ∷ []) (long : added ≡ length bs) (again : r ≡ get_or xs number r) where
   abbrev pub new : Beginning
-  new = record { event = event; shorter = place; next = b.longer; longer = 0; good = false }
+  new = record { event = event; shorter = number; next = b.longer; longer = 0; good = false }
 
   abbrev pub first : Beginning
   first = record { event = r.event; shorter = r.shorter; next = r.next; longer = added; good = r.good }
 
-  was : slice_get bs place ≡ Some b
-  was = found_at bs place b within read
+  was : slice_get bs number ≡ Some b
+  was = found_at bs number b within read
 
-  stays : slice_get xs place ≡ Some b
-  stays = subst (λ ys. slice_get ys place ≡ Some b) (sym pushed) (kept_at bs (new ∷ []) b place was)
+  stays : slice_get xs number ≡ Some b
+  stays = subst (λ ys. slice_get ys number ≡ Some b) (sym pushed) (kept_at bs (new ∷ []) b number was)
 
-  more : place < length xs
-  more = slice_get_within xs place b stays
+  more : number < length xs
+  more = slice_get_within xs number b stays
 
-  now : slice_get xs place ≡ Some r
-  now = found_at xs place r more again
+  now : slice_get xs number ≡ Some r
+  now = found_at xs number r more again
 
   same : r ≡ b
   same = cc (now, stays)
 
   links_now : Linked xs
-  links_now = subst Linked (sym pushed) (push_links bs new back within links (λ ne. (links place b was).above ne) refl)
+  links_now = subst Linked (sym pushed) (push_links bs new back within links (λ ne. (links number b was).above ne) refl)
 
   back_now : IsBack (lines xs)
   back_now = subst (λ ys. IsBack (lines ys)) (sym pushed) (push_back bs new back within)
 
-  pub added_back : IsBack (lines (slice_set xs place first))
-  added_back = set_back xs place r first now refl refl back_now
+  pub added_back : IsBack (lines (slice_set xs number first))
+  added_back = set_back xs number r first now refl refl back_now
 
-  pub added_links : Linked (slice_set xs place first)
+  pub added_links : Linked (slice_set xs number first)
   added_links =
-      let own = links_now place r now in
-      set_links xs place r first now refl refl links_now record {
+      let own = links_now number r now in
+      set_links xs number r first now refl refl links_now record {
         lower = own.lower;
         beside = own.beside;
-        above = λ ne. subst (IsAfter (lines xs) place) (sym long) (subst (λ ys. IsAfter (lines ys) place (length bs)) (sym pushed) (push_after bs new back within));
+        above = λ ne. subst (IsAfter (lines xs) number) (sym long) (subst (λ ys. IsAfter (lines ys) number (length bs)) (sym pushed) (push_after bs new back within));
       }
 
-  pub added_history : history_at (slice_set xs place first) added ≡ history_at bs place ++ event ∷ []
+  pub added_history : history_at (slice_set xs number first) added ≡ history_at bs number ++ event ∷ []
   added_history =
-      ap (history_at (slice_set xs place first)) long
-      ∙ set_history xs place r first now refl refl (length bs)
+      ap (history_at (slice_set xs number first)) long
+      ∙ set_history xs number r first now refl refl (length bs)
       ∙ ap (λ ys. history_at ys (length bs)) pushed
       ∙ push_last bs new back within
 
-  pub added_well : IsWellFormed (history_at bs place) → Fits (history_at bs place) event → IsWellFormed (history_at (slice_set xs place first) added)
-  added_well well fits = subst IsWellFormed (sym added_history) (well_push (history_at bs place) event well fits)
+  pub added_well : IsWellFormed (history_at bs number) → Fits (history_at bs number) event → IsWellFormed (history_at (slice_set xs number first) added)
+  added_well well fits = subst IsWellFormed (sym added_history) (well_push (history_at bs number) event well fits)
 
-  pub added_right : (members : List (List SerialOp)) → Right members bs → Right members (slice_set xs place first)
+  pub added_right : (members : List (List SerialOp)) → Right members bs → Right members (slice_set xs number first)
   added_right members right =
       let right_now : Right members xs = subst (Right members) (sym pushed) (push_right bs new back within members right (λ e. cc)) in
-      set_right xs place r first now refl refl members right_now (λ good. right_now place r now good)
+      set_right xs number r first now refl refl members right_now (λ good. right_now number r now good)
 
 pub take_set : {X : Type 0} (xs : List X) (n : ℕ) (x : X) → n < length xs → take (suc n) (slice_set xs n x) ≡ take n xs ++ x ∷ []
 take_set [] n x lt = absurd (omega arith)

@@ -1,4 +1,4 @@
--- A trail that keeps its events alone, and one that has a place among beginnings.
+-- A trail that keeps its events alone, and one that has a number among beginnings.
 use Rattle.std.proofs.Common.{◌≡◌, ◌<◌, Bool, true, false, List, [], ◌∷◌, ◌++◌, length, subst, sym, arith}
 use Rattle.std.proofs.lemmas.List.{length_push}
 use Rattle.lu_machine.specs.declared.event.Event.{Event}

@@ -31,8 +31,8 @@ grown_read ls more back (suc n) (suc i) lt =
     ap (extended (read_back n (ls ++ more))) (left_at ls more (suc i) lt)
     ∙ same_extended (read_back n (ls ++ more)) (read_back n ls) (slice_get ls (suc i)) (λ line is. grown_read ls more back n line.0 (omega (arith, back i line is)))
 
--- the history at a place is the shorter one and the last event
-pub read_longer : (ls : List Line) → IsBack ls → (place shorter : ℕ) (event : Event) → place ≢ 0 → slice_get ls place ≡ Some (shorter, event) → read_back place ls place ≡ read_back shorter ls shorter ++ event ∷ []
+-- the history at a number is the shorter one and the last event
+pub read_longer : (ls : List Line) → IsBack ls → (number shorter : ℕ) (event : Event) → number ≢ 0 → slice_get ls number ≡ Some (shorter, event) → read_back number ls number ≡ read_back shorter ls shorter ++ event ∷ []
 read_longer ls back zero shorter event ne is = absurd (ne refl)
 read_longer ls back (suc j) shorter event ne is = ap (extended (read_back j ls)) is ∙ ap (λ h. h ++ event ∷ []) (same_read ls back j shorter shorter (omega (arith, back j (shorter, event) is)) (omega arith))
 

@@ -1,4 +1,4 @@
--- The histories for which the places of a list of beginnings stand.
+-- The histories for which the numbers of a list of beginnings stand.
 use Rattle.std.specs.Prelude.{◌≡◌, ◌≢◌, ℕ, ◌<◌, ◌≤◌, zero, suc, Bool, IsTrue, List, [], ◌∷◌, ◌++◌, map, length, Option, Some, None, slice_get, vec_capacity}
 use Rattle.lu_machine.specs.declared.event.Event.{Event}
 use Rattle.lu_history.specs.declared.serial.SerialOp.{SerialOp}
@@ -7,7 +7,7 @@ use Rattle.lu_witness.specs.Witnesses.{IsMember, IsGood}
 use Rattle.lu_judge.specs.declared.path.Beginning.{Beginning}
 use Rattle.lu_judge.specs.declared.path.Path.{Path}
 
--- the place of the shorter beginning, and the last event
+-- the number of the shorter beginning, and the last event
 abbrev pub Line : Type 0
 Line = ℕ × Event
 
@@ -19,17 +19,17 @@ abbrev pub extended : (ℕ → List Event) → Option Line → List Event
 extended shorter None = []
 extended shorter (Some line) = shorter line.0 ++ line.1 ∷ []
 
--- the history at a place, read back in so many steps
+-- the history of this number, read back in this many steps
 abbrev pub read_back : ℕ → List Line → ℕ → List Event
-read_back zero ls place = []
+read_back zero ls number = []
 read_back (suc n) ls zero = []
-read_back (suc n) ls (suc place) = extended (read_back n ls) (slice_get ls (suc place))
+read_back (suc n) ls (suc number) = extended (read_back n ls) (slice_get ls (suc number))
 
 abbrev pub history_at : List Beginning → ℕ → List Event
-history_at bs place = read_back place (lines bs) place
+history_at bs number = read_back number (lines bs) number
 
 abbrev pub history_of : Path → List Event
-history_of path = history_at path.beginnings.items path.place
+history_of path = history_at path.beginnings.items path.number
 
 -- the history has this event more
 abbrev pub HasAdded : Event → Path → Path → Type 0
@@ -39,21 +39,21 @@ HasAdded event old new = history_of new ≡ history_of old ++ event ∷ []
 abbrev pub IsBack : List Line → Type 0
 IsBack ls = (i : ℕ) (line : Line) → slice_get ls (suc i) ≡ Some line → line.0 ≤ i
 
--- the place has the shorter beginning
+-- the beginning of this number has the shorter one
 abbrev pub IsAfter : List Line → ℕ → ℕ → Type 0
-IsAfter ls shorter place = (event : Event) × (slice_get ls place ≡ Some (shorter, event))
+IsAfter ls shorter number = (event : Event) × (slice_get ls number ≡ Some (shorter, event))
 
 -- the next one lies before and has the same shorter one, and the longer one has this one as its
 -- shorter one
-pub record AreLinks (ls : List Line) (place : ℕ) (b : Beginning) : Type 0 where
-  pub lower : b.next ≢ 0 → b.next < place
+pub record AreLinks (ls : List Line) (number : ℕ) (b : Beginning) : Type 0 where
+  pub lower : b.next ≢ 0 → b.next < number
   pub beside : b.next ≢ 0 → IsAfter ls b.shorter b.next
-  pub above : b.longer ≢ 0 → IsAfter ls place b.longer
+  pub above : b.longer ≢ 0 → IsAfter ls number b.longer
 
 pub record IsPath (path : Path) : Type 0 where
   pub room : 262144 ≤ vec_capacity path.beginnings
   pub few : length path.beginnings.items ≤ 262144
-  pub place : path.place < length path.beginnings.items
+  pub number : path.number < length path.beginnings.items
   pub back : IsBack (lines path.beginnings.items)
   pub links : (i : ℕ) (b : Beginning) → slice_get path.beginnings.items i ≡ Some b
       → AreLinks (lines path.beginnings.items) i b
@@ -87,6 +87,7 @@ NotesGood old new =
 abbrev pub IsBlank : Beginning → Type 0
 IsBlank b = (b.shorter ≡ 0) × (b.next ≡ 0) × (b.longer ≡ 0) × (IsTrue b.good → ⊥)
 
--- the beginning at the place is that of the path with the event after it
+-- the beginning of this number is that of the path with the event after it
 abbrev pub IsLonger : Path → Event → ℕ → Type 0
-IsLonger path event place = slice_get (lines path.beginnings.items) place ≡ Some (path.place, event)
+IsLonger path event number =
+    slice_get (lines path.beginnings.items) number ≡ Some (path.number, event)

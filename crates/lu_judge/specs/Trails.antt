@@ -17,7 +17,7 @@ pub record Trail (T : Type 0) : Type 0 where
 abbrev pub IsJudgedAs : {T : Type 0} → (T → List (List SerialOp)) → Trail T → Verdict → Type 0
 IsJudgedAs members trail v = IsVerdict (IsMember (members trail.tree)) trail.history v
 
--- the history: its events alone, or a place among beginnings
+-- the history: its events alone, or a number among beginnings
 abbrev pub history_in : Bool → List Event → Path → List Event
 history_in plain events path = if plain then events else history_of path
 

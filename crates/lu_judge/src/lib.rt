@@ -1,8 +1,8 @@
 //! Histories that remember which histories were good.
 //!
 //! A walk over schedules comes to few histories many times. A [`Trail`] is its history, kept as a
-//! place among the beginnings of histories that were met, so a history that comes again is found to
-//! be good without a search for its witnesses.
+//! number among the beginnings of histories that were met, so a history that comes again is found
+//! to be good without a search for its witnesses.
 //!
 //! ```text
 //! let mut trail = Trail::new(alloc, &tree)?;

@@ -1,4 +1,4 @@
-//! The beginnings of histories, and a place among them.
+//! The beginnings of histories, and the number of one of them.
 
 ghost use Rattle.std.specs.Prelude.{◌≡◌, ◌≢◌, ◌<◌, ◌+◌, ◌∷◌, [], ◌++◌, List, length, IfOk, IsTrue, IsFalse};
 ghost use Rattle.lu_history.specs.declared.serial.SerialOp.{SerialOp};
@@ -19,24 +19,24 @@ pub(crate) struct Beginning {
     /// here means nothing.
     event: Event,
 
-    /// The place of the beginning without that event.
+    /// The number of the beginning without that event.
     shorter: u32,
 
-    /// The place of another beginning with the same shorter one, or 0.
+    /// The number of another beginning with the same shorter one, or 0.
     next: u32,
 
-    /// The place of a beginning with one more event, or 0.
+    /// The number of a beginning with one more event, or 0.
     longer: u32,
 
     /// Whether it was judged as a whole history, and is good.
     good: bool,
 }
 
-/// Beginnings of histories, each after its shorter one, and the place of one of them.
+/// Beginnings of histories, each after its shorter one, and the number of one of them.
 #[derive(Drop)]
 pub(crate) struct Path {
     beginnings: Vec<Beginning>,
-    place: u32,
+    number: u32,
 }
 
 /// The empty beginning.
@@ -63,17 +63,17 @@ impl Path {
         beginnings.push_reserved(empty());
         Ok(Path {
             beginnings,
-            place: 0,
+            number: 0,
         })
     }
 
-    /// The place of the beginning that has the event after this one, or 0 where none has.
+    /// The number of the beginning that has the event after this one, or 0 where none has.
     #[inline(always)]
     fn find(&self, event: Event) -> u32
         requires { IsPath self.now }
         ensures { result ≢ 0 → IsLonger self.now event result }
     {
-        let mut at = self.beginnings[self.place as usize].longer;
+        let mut at = self.beginnings[self.number as usize].longer;
         while at != 0 {
             let beginning = &self.beginnings[at as usize];
             if beginning.event == event {
@@ -94,32 +94,32 @@ impl Path {
         ensures length { length self.new.beginnings.items ≡ length self.old.beginnings.items + 1 }
         ensures good { KeepsGood self.old self.new }
     {
-        let place = self.place as usize;
+        let number = self.number as usize;
         let added = self.beginnings.len() as u32;
-        let next = self.beginnings[place].longer;
+        let next = self.beginnings[number].longer;
         self.beginnings.push_reserved(Beginning {
             event,
-            shorter: self.place,
+            shorter: self.number,
             next,
             longer: 0,
             good: false,
         });
-        self.beginnings[place].longer = added;
-        self.place = added;
+        self.beginnings[number].longer = added;
+        self.number = added;
     }
 
-    /// Writes out the events of the beginning at the place.
-    fn write_at(&self, place: u32, events: &mut Events)
+    /// Writes out the events of the beginning of this number.
+    fn write_at(&self, number: u32, events: &mut Events)
         requires path { IsPath self.now }
-        requires place { place < length self.now.beginnings.items }
-        requires few { length (history_at self.now.beginnings.items place) < 129 }
-        ensures { events.new ≡ history_at self.now.beginnings.items place }
+        requires number { number < length self.now.beginnings.items }
+        requires few { length (history_at self.now.beginnings.items number) < 129 }
+        ensures { events.new ≡ history_at self.now.beginnings.items number }
     {
-        if place == 0 {
+        if number == 0 {
             events.clear();
             return;
         }
-        let beginning = &self.beginnings[place as usize];
+        let beginning = &self.beginnings[number as usize];
         self.write_at(beginning.shorter, events);
         events.push(beginning.event);
     }
@@ -129,7 +129,7 @@ impl Path {
         requires { IsPath self.now }
         ensures { events.new ≡ history_of self.now }
     {
-        self.write_at(self.place, events);
+        self.write_at(self.number, events);
     }
 
     /// Whether there is no room for another beginning.
@@ -153,7 +153,7 @@ impl Path {
         self.write(&mut events);
         self.beginnings.clear();
         self.beginnings.push_reserved(empty());
-        self.place = 0;
+        self.number = 0;
         for event in events.as_slice() {
             self.add(*event);
         }
@@ -173,7 +173,7 @@ impl Path {
         if found == 0 {
             return false;
         }
-        self.place = found;
+        self.number = found;
         true
     }
 
@@ -186,9 +186,9 @@ impl Path {
         ensures history { history_of self.old ≡ history_of self.new ++ result ∷ [] }
         ensures good { KeepsGood self.old self.new }
     {
-        let beginning = &self.beginnings[self.place as usize];
+        let beginning = &self.beginnings[self.number as usize];
         let event = beginning.event;
-        self.place = beginning.shorter;
+        self.number = beginning.shorter;
         event
     }
 
@@ -199,7 +199,7 @@ impl Path {
         ensures history { history_of self.new ≡ [] }
         ensures good { KeepsGood self.old self.new }
     {
-        self.place = 0;
+        self.number = 0;
     }
 
     /// Whether the history is known to be good.
@@ -208,7 +208,7 @@ impl Path {
         requires { IsPath self.now }
         ensures { TellsGood self.now result }
     {
-        self.beginnings[self.place as usize].good
+        self.beginnings[self.number as usize].good
     }
 
     /// Remembers that the history is good.
@@ -218,6 +218,6 @@ impl Path {
         ensures history { history_of self.new ≡ history_of self.old }
         ensures good { NotesGood self.old self.new }
     {
-        self.beginnings[self.place as usize].good = true;
+        self.beginnings[self.number as usize].good = true;
     }
 }

@@ -8,7 +8,7 @@ use lu_history::History;
 use lu_trie::SerialTree;
 use lu_witness::{Cache, Verdict, verdict};
 
-/// One history of so many is looked up, whatever came of those before.
+/// One history of this many is looked up, whatever came of those before.
 const TRIED: u64 = 64;
 
 /// How what is remembered was of use so far. The numbers are modulo 2^64.

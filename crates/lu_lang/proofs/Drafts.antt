@@ -11,7 +11,7 @@ use Rattle.std.proofs.lemmas.List.Elements.{All-nil, All-map}
 use Rattle.lu_text.specs.Names.{has_name_form, is_long, IsName}
 use Rattle.lu_text.specs.Lines.{is_allowed, words_of}
 use Rattle.lu_text.specs.Words.{Word, exactly_one, exactly_two, exactly_three}
-use Rattle.lu_text.specs.Faults.{Tests, says, or_else}
+use Rattle.lu_text.specs.Faults.{Tests, says}
 use Rattle.lu_component.specs.declared.instr.Instr.{Instr}
 use Rattle.lu_component.specs.declared.instr.Instr.TheVariants as instr
 use Rattle.lu_component.specs.declared.component.Array.{Array}
@@ -23,7 +23,7 @@ use Rattle.lu_lang.specs.declared.fault.LangFaultKind.{LangFaultKind}
 use Rattle.lu_lang.specs.declared.fault.LangFaultKind.TheVariants.{Byte, Missing, Form, Number, Limit, Flow, Name}
 use Rattle.lu_component.specs.Component.{operation_number, AreDistinct, Component, EndsWell, IsArray, IsComponent, IsInstr, IsOp}
 use Rattle.lu_lang.specs.Draft.{OpenOp, ComponentDraft, nothing, named}
-use Rattle.lu_lang.specs.Grammar.{value, is_value, array_place, lock_place, component_line, local_line, array_line, lock_line, op_line, declaration, statement, sooner, place_fault, with_label, with_statement, placed, instr_line, labelled, are_there, is_last, ends_well, target, resolved, op_of, end_line, by_label, by_state, closed, by_words, declared_or_left, line_of, label_in}
+use Rattle.lu_lang.specs.Grammar.{value, is_value, found_array, found_lock, component_line, local_line, array_line, lock_line, op_line, declaration, statement, sooner, place_fault, with_label, with_statement, placed, instr_line, are_there, is_last, ends_well, target, resolved, op_of, end_line, by_label, by_state, closed, by_words, declared_or_left, line_of, label_in}
 use Rattle.lu_lang.specs.Words.{keyword_in}
 use Rattle.lu_lang.specs.Sound.{IsStatement, IsBegun, IsSoundDraft}
 use Rattle.lu_text.proofs.Says.{NoneHold, said}
@@ -165,7 +165,7 @@ array_keeps d h none (Some (name, len, init)) = kept
     ((not (has_name_form name), Form)
     ∷ (not (is_value len) || not (is_value init), Number)
     ∷ (is_long name || (nat_le 16 (length d.arrays) || (nat_lt (value len) 1 || nat_lt 64 (value len))), Limit)
-    ∷ (is_some (array_place d name), Name) ∷ [])
+    ∷ (is_some (found_array d name), Name) ∷ [])
     (record d { arrays = d.arrays ++ record { name = name; len = value len; init = value init } ∷ [] })
     (λ n.
     let new : Array = record { name = name; len = value len; init = value init } in
@@ -197,7 +197,7 @@ lock_keeps d h none None = refused _
 lock_keeps d h none (Some name) = kept
     ((not (has_name_form name), Form)
     ∷ (is_long name || nat_le 8 (length d.locks), Limit)
-    ∷ (is_some (lock_place d name), Name) ∷ [])
+    ∷ (is_some (found_lock d name), Name) ∷ [])
     (record d { locks = d.locks ++ name ∷ [] })
     (λ n.
     let long = or_parts (is_long name) (nat_le 8 (length d.locks)) n.1.0 in
@@ -280,23 +280,11 @@ begun_kept a l operations b label s h room is = record {
   labels = labels_kept b label s h.labels;
 }
 
-pub sooner_some : (fault : Option LangFaultKind) (kind : LangFaultKind) → is_some (sooner fault (Some kind)) ≡ true
-sooner_some None kind = refl
-sooner_some (Some other) kind = go _
-  where
-    go : (b : Bool) → is_some (cond b (Some other) (Some kind)) ≡ true
-    go true = refl
-    go false = refl
-
-or_refused : (o : Option LangFaultKind) (d : ComponentDraft) → is_some o ≡ true → Keeps (or_else o d)
-or_refused None d e = absurd cc
-or_refused (Some kind) d e = refused kind
-
 instr_keeps : (d : ComponentDraft) → IsSoundDraft d → (b : OpenOp) → IsBegun (length d.arrays) (length d.locks) d.operations b → (label : Option Word) (word : Word) (words : List Word) → Keeps (instr_line d b label word words)
 instr_keeps d h b begun label word words = go (statement d (keyword_in word) words) (λ s e. statement_sound d (keyword_in word) words s e) (place_fault b label) (λ e. has_room b label e)
   where
     go : (r : Result Statement LangFaultKind) → ((s : Statement) → r ≡ Ok s → IsStatement (length d.arrays) (length d.locks) s) → (fault : Option LangFaultKind) → (fault ≡ None → length b.statements < 64) → Keeps (placed d b label fault r)
-    go (Err kind) is fault room = or_refused (sooner fault (Some kind)) d (sooner_some fault kind)
+    go (Err kind) is fault room = refused (sooner fault kind)
     go (Ok s) is (Some kind) room = refused kind
     go (Ok s) is None room = λ next e.
         let same : record d { begun = Some (with_statement b label s) } ≡ next = cc in
@@ -391,12 +379,9 @@ end_keeps d h none b begun [] = kept
 
 -- ---- lines
 
-labelled_keeps : (d : ComponentDraft) → IsSoundDraft d → (b : OpenOp) → IsBegun (length d.arrays) (length d.locks) d.operations b → (label : Word) (words : List Word) → Keeps (labelled d b label words)
-labelled_keeps d h b begun label [] = refused Form
-labelled_keeps d h b begun label (word ∷ words) = instr_keeps d h b begun (Some label) word words
-
 inside_keeps : (d : ComponentDraft) → IsSoundDraft d → d.begun ≡ None → (b : OpenOp) → IsBegun (length d.arrays) (length d.locks) d.operations b → (label : Option Word) (word : Word) (words : List Word) → Keeps (by_label d b label word words)
-inside_keeps d h none b begun (Some label) word words = labelled_keeps d h b begun label words
+inside_keeps d h none b begun (Some label) word [] = refused Form
+inside_keeps d h none b begun (Some label) word (next ∷ words) = instr_keeps d h b begun (Some label) next words
 inside_keeps d h none b begun None word words =
     keeps_if (bytes_eq word (codes "end")) (end_line d b words) (instr_line d b None word words) (end_keeps d h none b begun words) (instr_keeps d h b begun None word words)
 

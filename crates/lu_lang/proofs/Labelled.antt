@@ -12,7 +12,7 @@ use Rattle.std.proofs.lemmas.Slice.Eq.{bytes_eq-Decides}
 use Rattle.lu_text.specs.Names.{has_name_form, is_long}
 use Rattle.lu_text.specs.Lines.{is_allowed, lines_of, words_of}
 use Rattle.lu_text.specs.Words.{Word, exactly_one, exactly_two, exactly_three, exactly_five}
-use Rattle.lu_text.specs.Faults.{Tests, says, or_else, on_line, then_lines, lines_after, meaning_of}
+use Rattle.lu_text.specs.Faults.{Tests, says, on_line, then_lines, lines_after, meaning_of}
 use Rattle.lu_text.proofs.Says.{NoneHold, said}
 use Rattle.lu_component.specs.declared.instr.Instr.{Instr}
 use Rattle.lu_component.specs.declared.instr.Instr.TheVariants as instr
@@ -28,9 +28,8 @@ use Rattle.lu_lang.specs.declared.fault.LangFaultKind.{LangFaultKind}
 use Rattle.lu_lang.specs.declared.fault.LangFaultKind.TheVariants.{Byte, Missing, Form, Number, Limit, Flow, Name}
 use Rattle.lu_lang.specs.Draft.{OpenOp, ComponentDraft, nothing, named}
 use Rattle.lu_lang.specs.Words.{keyword_in}
-use Rattle.lu_lang.specs.Grammar.{value, is_value, register, is_register, operand, is_operand, array_place, lock_place, find_label, array_number, component_line, local_line, array_line, lock_line, op_line, declaration, set_line, compute_line, load_line, cas_line, locked, cell_and_value, as_plain, pick_line, jump_line, jump_if_zero_line, return_line, statement, sooner, place_fault, with_label, with_statement, placed, instr_line, labelled, label_used, is_there, are_there, ends_well, target, resolved, op_of, end_line, by_label, by_state, closed, by_words, line_of, label_in, declared, component_grammar}
+use Rattle.lu_lang.specs.Grammar.{value, is_value, register, is_register, operand, is_operand, found_array, found_lock, find_label, array_number, component_line, local_line, array_line, lock_line, op_line, declaration, set_line, compute_line, load_line, cas_line, locked, cell_and_value, as_plain, pick_line, jump_line, jump_if_zero_line, return_line, statement, sooner, place_fault, with_label, with_statement, placed, instr_line, label_used, is_there, are_there, ends_well, target, resolved, op_of, end_line, by_label, by_state, closed, by_words, line_of, label_in, declared, component_grammar}
 use Rattle.lu_lang.specs.Labels.{Marked, nothing_marked, outside_line, inside_line, marked_line, with_words, all_marks, marks_of_lines, name_if, label_on, label_at, label_named, jump_of, jump_on, labels_of, jumps_of, target_of, led_to, AreTargets}
-use Rattle.lu_lang.proofs.Drafts.{sooner_some}
 use Rattle.lu_lang.proofs.Placing.{no_fault}
 
 -- ---- lists
@@ -100,11 +99,11 @@ compute_names by (Some (dst, a, b)) = names None ((not (is_register dst), Form) 
 
 load_names : (d : ComponentDraft) (o : Option (Word × Word × Word)) → Names None (load_line d o)
 load_names d None = none_named _ _
-load_names d (Some (dst, array, i)) = names None ((not (is_register dst) || not (has_name_form array), Form) ∷ (not (is_operand i), Number) ∷ (is_long array, Limit) ∷ (not (is_some (array_place d array)), Name) ∷ []) (Plain (instr.Load (register dst) (array_number d array) (operand i))) (refl, refl)
+load_names d (Some (dst, array, i)) = names None ((not (is_register dst) || not (has_name_form array), Form) ∷ (not (is_operand i), Number) ∷ (is_long array, Limit) ∷ (not (is_some (found_array d array)), Name) ∷ []) (Plain (instr.Load (register dst) (array_number d array) (operand i))) (refl, refl)
 
 cas_names : (d : ComponentDraft) (o : Option (Word × Word × Word × Word × Word)) → Names None (cas_line d o)
 cas_names d None = none_named _ _
-cas_names d (Some (dst, array, i, old, new)) = names None ((not (is_register dst) || not (has_name_form array), Form) ∷ (not (is_operand i) || (not (is_operand old) || not (is_operand new)), Number) ∷ (is_long array, Limit) ∷ (not (is_some (array_place d array)), Name) ∷ []) (Plain (instr.Cas (register dst) (array_number d array) (operand i) (operand old) (operand new))) (refl, refl)
+cas_names d (Some (dst, array, i, old, new)) = names None ((not (is_register dst) || not (has_name_form array), Form) ∷ (not (is_operand i) || (not (is_operand old) || not (is_operand new)), Number) ∷ (is_long array, Limit) ∷ (not (is_some (found_array d array)), Name) ∷ []) (Plain (instr.Cas (register dst) (array_number d array) (operand i) (operand old) (operand new))) (refl, refl)
 
 plain_names : {A : Type 0} (instruction : A → Instr) → ((x : A) → target_of (instruction x) ≡ None) → (r : Result A LangFaultKind) → Names None (as_plain instruction r)
 plain_names instruction none (Err kind) s e = absurd cc
@@ -259,12 +258,12 @@ local_agrees d m n h (Some most) = agreed m n ((is_some d.local || nat_le 1 (len
 
 array_agrees : (d : ComponentDraft) (m n : Marked) → IsOutside d m n → (o : Option (Word × Word × Word)) → Agree m n (array_line d o)
 array_agrees d m n h None = refused m n _
-array_agrees d m n h (Some (name, len, init)) = agreed m n ((not (has_name_form name), Form) ∷ (not (is_value len) || not (is_value init), Number) ∷ (is_long name || (nat_le 16 (length d.arrays) || (nat_lt (value len) 1 || nat_lt 64 (value len))), Limit) ∷ (is_some (array_place d name), Name) ∷ []) (record d { arrays = d.arrays ++ record { name = name; len = value len; init = value init } ∷ [] })
+array_agrees d m n h (Some (name, len, init)) = agreed m n ((not (has_name_form name), Form) ∷ (not (is_value len) || not (is_value init), Number) ∷ (is_long name || (nat_le 16 (length d.arrays) || (nat_lt (value len) 1 || nat_lt 64 (value len))), Limit) ∷ (is_some (found_array d name), Name) ∷ []) (record d { arrays = d.arrays ++ record { name = name; len = value len; init = value init } ∷ [] })
     (λ k. record { done = h.done; begun = rw (h.none, h.no_marks, h.no_jumps) tt; unnamed = λ e. h.none })
 
 lock_agrees : (d : ComponentDraft) (m n : Marked) → IsOutside d m n → (o : Option Word) → Agree m n (lock_line d o)
 lock_agrees d m n h None = refused m n _
-lock_agrees d m n h (Some name) = agreed m n ((not (has_name_form name), Form) ∷ (is_long name || nat_le 8 (length d.locks), Limit) ∷ (is_some (lock_place d name), Name) ∷ []) (record d { locks = d.locks ++ name ∷ [] })
+lock_agrees d m n h (Some name) = agreed m n ((not (has_name_form name), Form) ∷ (is_long name || nat_le 8 (length d.locks), Limit) ∷ (is_some (found_lock d name), Name) ∷ []) (record d { locks = d.locks ++ name ∷ [] })
     (λ k. record { done = h.done; begun = rw (h.none, h.no_marks, h.no_jumps) tt; unnamed = λ e. h.none })
 
 op_agrees : (d : ComponentDraft) (m n : Marked) → IsOutside d m n → (own : Word) → d.name ≡ Some own → (o : Option (Word × Word)) → Agree (record m { begun = Some [] }) (record n { begun = Some [] }) (op_line d o)
@@ -304,10 +303,6 @@ mark_is b (Some label) e = name_is b label e
 abbrev with_mark : Marked → List (Option Word) → Option Word → Marked
 with_mark m marks mark = record m { begun = Some (marks ++ mark ∷ []) }
 
-fault_refused : (m n : Marked) (o : Option LangFaultKind) (d : ComponentDraft) → is_some o ≡ true → Agree m n (or_else o d)
-fault_refused m n None d e = absurd cc
-fault_refused m n (Some kind) d e = refused m n kind
-
 instr_agrees : (d : ComponentDraft) (m n : Marked) (own : Word) → d.name ≡ Some own → AreTargets d.operations m.closed n.closed → (b : OpenOp) (marks jumps : List (Option Word)) → IsOpen b marks jumps → (label : Option Word) (word : Word) (words : List Word)
     → Agree (with_mark m marks (option_and_then name_if label)) (with_mark n jumps (jump_of (word ∷ words))) (instr_line d b label word words)
 instr_agrees d m n own is done b marks jumps h label word words = go (statement d (keyword_in word) words) (statement_names d (keyword_in word) words) (place_fault b label) (mark_is b label)
@@ -319,7 +314,7 @@ instr_agrees d m n own is done b marks jumps h label word words = go (statement 
     N = with_mark n jumps (jump_of (word ∷ words))
 
     go : (r : Result Statement LangFaultKind) → Names (jump_of (word ∷ words)) r → (fault : Option LangFaultKind) → (fault ≡ None → option_and_then name_if label ≡ label) → Agree M N (placed d b label fault r)
-    go (Err kind) named fault mark = fault_refused M N (sooner fault (Some kind)) d (sooner_some fault kind)
+    go (Err kind) named fault mark = refused M N (sooner fault kind)
     go (Ok s) named (Some kind) mark = refused M N kind
     go (Ok s) named None mark = λ next e.
         let same : record d { begun = Some (with_statement b label s) } ≡ next = cc in
@@ -352,15 +347,11 @@ no_end word label is = go (bytes_eq word (codes "end")) refl
         let none : label_in word ≡ None = subst (λ (w : Word). label_in w ≡ None) (sym (same_bytes word (codes "end") e)) refl in
         absurd cc
 
-labelled_agrees : (d : ComponentDraft) (m n : Marked) (own : Word) → d.name ≡ Some own → AreTargets d.operations m.closed n.closed → (b : OpenOp) (marks jumps : List (Option Word)) → IsOpen b marks jumps → (label : Word) (words : List Word)
-    → Agree (with_mark m marks (name_if label)) (with_mark n jumps (jump_of words)) (labelled d b label words)
-labelled_agrees d m n own is done b marks jumps h label [] = refused _ _ Form
-labelled_agrees d m n own is done b marks jumps h label (word ∷ words) = instr_agrees d m n own is done b marks jumps h (Some label) word words
-
 inside_agrees : (d : ComponentDraft) (m n : Marked) (own : Word) → d.name ≡ Some own → AreTargets d.operations m.closed n.closed → (b : OpenOp) (marks jumps : List (Option Word)) → IsOpen b marks jumps → (word : Word) (words : List Word) (label : Option Word) → label_in word ≡ label
     → Agree (inside_line m marks (label_on (word ∷ words)) word) (inside_line n jumps (jump_on (word ∷ words)) word) (by_label d b label word words)
-inside_agrees d m n own is done b marks jumps h word words (Some label) e =
-    rw (no_end word label e, e) (labelled_agrees d m n own is done b marks jumps h label words)
+inside_agrees d m n own is done b marks jumps h word [] (Some label) e = refused _ _ Form
+inside_agrees d m n own is done b marks jumps h word (next ∷ words) (Some label) e =
+    rw (no_end word label e, e) (instr_agrees d m n own is done b marks jumps h (Some label) next words)
 inside_agrees d m n own is done b marks jumps h word words None e = rw e (go (bytes_eq word (codes "end")))
   where
     go : (end : Bool) → Agree (cond end (record { closed = m.closed ++ marks ∷ []; begun = None }) (with_mark m marks None)) (cond end (record { closed = n.closed ++ jumps ∷ []; begun = None }) (with_mark n jumps (jump_of (word ∷ words)))) (cond end (end_line d b words) (instr_line d b None word words))

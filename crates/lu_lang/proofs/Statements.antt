@@ -2,7 +2,7 @@
 use Rattle.std.proofs.Common.{◌≡◌, ℕ, ◌-◌, ◌^◌, ◌<◌, Bool, true, false, cond, List, [], ◌∷◌, length, Option, Some, None, Result, Ok, Err, refl, subst, ap, ◌∙◌, arith}
 use Rattle.std.specs.Prelude.{◌==◌, ◌&&◌, ◌||◌, not, nat_le, nat_lt, is_some}
 use Rattle.std.specs.Str.{bytes_eq}
-use Rattle.std.specs.Option.{unwrap_or}
+use Rattle.std.specs.Option.{unwrap_or, option_map, option_or}
 use Rattle.std.proofs.lemmas.Bool.{or_parts, and_parts, leb-true, ltb-true, ltb-false, not-false}
 use Rattle.lu_text.specs.Names.{has_name_form, is_long}
 use Rattle.lu_text.specs.Numbers.{number_in, value_in, below}
@@ -10,7 +10,7 @@ use Rattle.lu_text.specs.Words.{Word, exactly_one, exactly_two, exactly_three, e
 use Rattle.lu_text.specs.Faults.{Tests, says}
 use Rattle.lu_text.proofs.Says.{NoneHold, said}
 use Rattle.lu_component.specs.declared.instr.Operand.{Operand}
-use Rattle.lu_component.specs.declared.instr.Operand.TheVariants.{Num}
+use Rattle.lu_component.specs.declared.instr.Operand.TheVariants.{Num, Reg}
 use Rattle.lu_component.specs.declared.instr.Arithmetic.{Arithmetic}
 use Rattle.lu_component.specs.declared.instr.Instr.{Instr}
 use Rattle.lu_component.specs.declared.instr.Instr.TheVariants as instr
@@ -23,8 +23,8 @@ use Rattle.lu_lang.specs.declared.fault.LangFaultKind.TheVariants.{Form, Number,
 use Rattle.lu_component.specs.Component.{IsRegister, IsOperand, IsInstr}
 use Rattle.lu_component.proofs.Named.{place_small}
 use Rattle.lu_lang.specs.Draft.{ComponentDraft}
-use Rattle.lu_lang.specs.Words.{register_in, or_number, as_number}
-use Rattle.lu_lang.specs.Grammar.{value, is_value, register, is_register, operand, is_operand, array_place, lock_place, array_number, lock_number, set_line, compute_line, load_line, cas_line, locked, cell_and_value, as_plain, pick_line, jump_line, jump_if_zero_line, return_line, statement}
+use Rattle.lu_lang.specs.Words.{register_in}
+use Rattle.lu_lang.specs.Grammar.{value, is_value, register, is_register, operand, is_operand, found_array, found_lock, array_number, lock_number, set_line, compute_line, load_line, cas_line, locked, cell_and_value, as_plain, pick_line, jump_line, jump_if_zero_line, return_line, statement}
 use Rattle.lu_lang.specs.Sound.{IsStatement}
 
 -- ---- words
@@ -52,19 +52,19 @@ below_is limit (Some k) n e = go (nat_lt k limit) refl e
 pub operand_sound : (word : Word) → IsOperand (operand word)
 operand_sound word = by_register (register_in word) refl
   where
-    by_number : (o : Option ℕ) → value_in word ≡ o → IsOperand (unwrap_or (as_number o) (Num 0))
+    by_number : (o : Option ℕ) → value_in word ≡ o → IsOperand (unwrap_or (option_map (λ n. Num n) o) (Num 0))
     by_number None e = omega arith
     by_number (Some n) e = below_is (2 ^ 32) (number_in word) n e
 
-    by_register : (o : Option ℕ) → register_in word ≡ o → IsOperand (unwrap_or (or_number o word) (Num 0))
+    by_register : (o : Option ℕ) → register_in word ≡ o → IsOperand (unwrap_or (option_or (option_map (λ r. Reg r) o) (option_map (λ n. Num n) (value_in word))) (Num 0))
     by_register None e = by_number (value_in word) refl
     by_register (Some r) e = let small = register_small word in let same : register word ≡ r = ap (λ (x : Option ℕ). unwrap_or x 0) e in omega arith
 
-array_there : (d : ComponentDraft) (name : Word) → not (is_some (array_place d name)) ≡ false → array_number d name < length d.arrays
-array_there d name e = place_small (λ a. bytes_eq a.name name) d.arrays (not-false (is_some (array_place d name)) e)
+array_there : (d : ComponentDraft) (name : Word) → not (is_some (found_array d name)) ≡ false → array_number d name < length d.arrays
+array_there d name e = place_small (λ a. bytes_eq a.name name) d.arrays (not-false (is_some (found_array d name)) e)
 
-lock_there : (d : ComponentDraft) (name : Word) → not (is_some (lock_place d name)) ≡ false → lock_number d name < length d.locks
-lock_there d name e = place_small (λ l. bytes_eq l name) d.locks (not-false (is_some (lock_place d name)) e)
+lock_there : (d : ComponentDraft) (name : Word) → not (is_some (found_lock d name)) ≡ false → lock_number d name < length d.locks
+lock_there d name e = place_small (λ l. bytes_eq l name) d.locks (not-false (is_some (found_lock d name)) e)
 
 -- ---- instructions
 
@@ -95,14 +95,14 @@ compute_sound d by (Some (dst, a, b)) = sound d
 load_sound : (d : ComponentDraft) (o : Option (Word × Word × Word)) → IsSound d (load_line d o)
 load_sound d None = none_said d _
 load_sound d (Some (dst, array, i)) = sound d
-    ((not (is_register dst) || not (has_name_form array), Form) ∷ (not (is_operand i), Number) ∷ (is_long array, Limit) ∷ (not (is_some (array_place d array)), Name) ∷ [])
+    ((not (is_register dst) || not (has_name_form array), Form) ∷ (not (is_operand i), Number) ∷ (is_long array, Limit) ∷ (not (is_some (found_array d array)), Name) ∷ [])
     (Plain (instr.Load (register dst) (array_number d array) (operand i)))
     (λ n places. (register_small dst, array_there d array n.1.1.1.0, operand_sound i))
 
 cas_sound : (d : ComponentDraft) (o : Option (Word × Word × Word × Word × Word)) → IsSound d (cas_line d o)
 cas_sound d None = none_said d _
 cas_sound d (Some (dst, array, i, old, new)) = sound d
-    ((not (is_register dst) || not (has_name_form array), Form) ∷ (not (is_operand i) || (not (is_operand old) || not (is_operand new)), Number) ∷ (is_long array, Limit) ∷ (not (is_some (array_place d array)), Name) ∷ [])
+    ((not (is_register dst) || not (has_name_form array), Form) ∷ (not (is_operand i) || (not (is_operand old) || not (is_operand new)), Number) ∷ (is_long array, Limit) ∷ (not (is_some (found_array d array)), Name) ∷ [])
     (Plain (instr.Cas (register dst) (array_number d array) (operand i) (operand old) (operand new)))
     (λ n places. (register_small dst, array_there d array n.1.1.1.0, operand_sound i, operand_sound old, operand_sound new))
 
@@ -113,7 +113,7 @@ locking_sound d locking each (Some lock) = λ s e. go (locked d (Some lock)) (λ
     said_lock : (r : Result ℕ LangFaultKind) (l : ℕ) → locked d (Some lock) ≡ r → r ≡ Ok l → l < length d.locks
     said_lock r l is f =
         let x = said
-        ((not (has_name_form lock), Form) ∷ (is_long lock, Limit) ∷ (not (is_some (lock_place d lock)), Name) ∷ [])
+        ((not (has_name_form lock), Form) ∷ (is_long lock, Limit) ∷ (not (is_some (found_lock d lock)), Name) ∷ [])
         (lock_number d lock) l (is ∙ f) in
         subst (λ (n : ℕ). n < length d.locks) x.same (lock_there d lock x.none.1.1.0)
 
@@ -131,7 +131,7 @@ cell_sound d access each (Some (array, i, v)) = λ s e. go (cell_and_value d (So
     said_array : (r : Result (ℕ × Operand × Operand) LangFaultKind) (w : ℕ × Operand × Operand) → cell_and_value d (Some (array, i, v)) ≡ r → r ≡ Ok w → Fits w
     said_array r w is f =
         let x = said
-        ((not (has_name_form array), Form) ∷ (not (is_operand i) || not (is_operand v), Number) ∷ (is_long array, Limit) ∷ (not (is_some (array_place d array)), Name) ∷ [])
+        ((not (has_name_form array), Form) ∷ (not (is_operand i) || not (is_operand v), Number) ∷ (is_long array, Limit) ∷ (not (is_some (found_array d array)), Name) ∷ [])
         (array_number d array, operand i, operand v) w (is ∙ f) in
         subst Fits x.same (array_there d array x.none.1.1.1.0, operand_sound i, operand_sound v)
 

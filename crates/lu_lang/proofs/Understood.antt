@@ -15,28 +15,28 @@ use Rattle.lu_lang.specs.declared.recovery.Family.{Family}
 use Rattle.lu_lang.specs.Draft.{ComponentDraft, nothing}
 use Rattle.lu_lang.specs.Faulty.{MeantName, FaultyDraft}
 use Rattle.lu_lang.specs.Grammar.{line_of, component_grammar}
-use Rattle.lu_lang.specs.Meant.{name_of_line, renamed, renamed_at, renamed_words, meant_line, with_draft, faulty_grammar, spaced, line_with}
+use Rattle.lu_lang.specs.Meant.{is_meant, first_of, name_of_line, renamed_at, renamed, meant_line, with_draft, faulty_grammar, spaced, line_with}
 
 -- the draft, where nothing was only meant
 abbrev sound : ComponentDraft → FaultyDraft
 sound d = record { draft = d; meant = [] }
 
-same_words : (d : ComponentDraft) (words : List Word) → renamed_words (sound d) words ≡ None
+same_words : (d : ComponentDraft) (words : List Word) → renamed (sound d) words ≡ None
 same_words d words = go (is_some d.begun) (name_of_line (length d.operations) words)
   where
-    at : (family : Family) (place : ℕ) (word : Option Word) → option_and_then (renamed (sound d) words (family, place)) word ≡ None
-    at family place None = refl
-    at family place (Some word) = refl
+    at : (family : Family) (position : ℕ) (word : Option Word) → cond (unwrap_or (option_map (is_meant [] family) word) false) (option_map (line_with words position) (first_of d family)) None ≡ None
+    at family position None = refl
+    at family position (Some word) = refl
 
     go : (b : Bool) (named : Option (Family × ℕ)) → cond b (option_and_then (renamed_at (sound d) words) named) None ≡ None
     go false named = refl
     go true None = refl
-    go true (Some (family, place)) = at family place (slice_get words place)
+    go true (Some (family, position)) = at family position (slice_get words position)
 
 pub same_line : (d : ComponentDraft) (line : List ℕ) → meant_line (sound d) line ≡ None
 same_line d line = go (list_all is_allowed line)
   where
-    go : (b : Bool) → cond b (renamed_words (sound d) (words_of line)) None ≡ None
+    go : (b : Bool) → cond b (renamed (sound d) (words_of line)) None ≡ None
     go false = refl
     go true = same_words d (words_of line)
 
@@ -100,9 +100,9 @@ spaced_all text words i h = rw (taken words i h, spaced_texts words) refl
 pub behind : (words : List (Bor (List ℕ))) (k : ℕ) → take (length words - k) (drop k words) ≡ drop k words
 behind words k = taken (drop k words) (length words - k) (omega (arith, length-drop k words))
 
--- the words before a place, another, and the words after the place
-pub is_line_with : (words front back : List (Bor (List ℕ))) (place : ℕ) (other a b c : List ℕ)
-    → front ≡ take place words → back ≡ drop (place + 1) words → a ≡ spaced (texts front) → b ≡ a ++ other → c ≡ b ++ codes " "
-    → c ++ spaced (texts back) ≡ line_with (texts words) place other
-is_line_with words front back place other a b c f k x y z =
-    rw (z, y, x, f, k, texts_taken words place, texts_dropped words (place + 1), append_assoc (spaced (take place (texts words))) other (codes " ")) refl
+-- the words before a position, another, and the words after it
+pub is_line_with : (words front back : List (Bor (List ℕ))) (position : ℕ) (other a b c : List ℕ)
+    → front ≡ take position words → back ≡ drop (position + 1) words → a ≡ spaced (texts front) → b ≡ a ++ other → c ≡ b ++ codes " "
+    → c ++ spaced (texts back) ≡ line_with (texts words) position other
+is_line_with words front back position other a b c f k x y z =
+    rw (z, y, x, f, k, texts_taken words position, texts_dropped words (position + 1), append_assoc (spaced (take position (texts words))) other (codes " ")) refl

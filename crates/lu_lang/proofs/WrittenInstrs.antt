@@ -43,23 +43,23 @@ compute_says by dst a b to o q r x y = rw (r, x, y) refl
 -- a word that names array k
 record IsArrayWord (arrays : List Array) (word : Word) (k : ℕ) : Type 0 where
   name : IsNameWord word
-  place : position (λ a. bytes_eq a.name word) arrays ≡ Some k
+  number : position (λ a. bytes_eq a.name word) arrays ≡ Some k
 
 record IsLockWord (locks : List Word) (word : Word) (k : ℕ) : Type 0 where
   name : IsNameWord word
-  place : position (λ l. bytes_eq l word) locks ≡ Some k
+  number : position (λ l. bytes_eq l word) locks ≡ Some k
 
 load_says : (d : ComponentDraft) (dst array i : Word) (to k : ℕ) (o : Operand) → register_in dst ≡ Some to → IsArrayWord d.arrays array k → operand_in i ≡ Some o → load_line d (Some (dst, array, i)) ≡ Ok (Plain (instr.Load to k o))
-load_says d dst array i to k o r a x = rw (r, a.name.form, a.name.short, a.place, x) refl
+load_says d dst array i to k o r a x = rw (r, a.name.form, a.name.short, a.number, x) refl
 
 cas_says : (d : ComponentDraft) (dst array i old new : Word) (to k : ℕ) (o p q : Operand) → register_in dst ≡ Some to → IsArrayWord d.arrays array k → operand_in i ≡ Some o → operand_in old ≡ Some p → operand_in new ≡ Some q → cas_line d (Some (dst, array, i, old, new)) ≡ Ok (Plain (instr.Cas to k o p q))
-cas_says d dst array i old new to k o p q r a x y z = rw (r, a.name.form, a.name.short, a.place, x, y, z) refl
+cas_says d dst array i old new to k o p q r a x y z = rw (r, a.name.form, a.name.short, a.number, x, y, z) refl
 
 lock_says : (d : ComponentDraft) (lock : Word) (k : ℕ) → IsLockWord d.locks lock k → locked d (Some lock) ≡ Ok k
-lock_says d lock k l = rw (l.name.form, l.name.short, l.place) refl
+lock_says d lock k l = rw (l.name.form, l.name.short, l.number) refl
 
 cell_says : (d : ComponentDraft) (array i v : Word) (k : ℕ) (o q : Operand) → IsArrayWord d.arrays array k → operand_in i ≡ Some o → operand_in v ≡ Some q → cell_and_value d (Some (array, i, v)) ≡ Ok (k, o, q)
-cell_says d array i v k o q a x y = rw (a.name.form, a.name.short, a.place, x, y) refl
+cell_says d array i v k o q a x y = rw (a.name.form, a.name.short, a.number, x, y) refl
 
 pick_says : (dst count : Word) (to n : ℕ) → register_in dst ≡ Some to → value_in count ≡ Some n → 1 ≤ n → n ≤ 8 → pick_line (Some (dst, count)) ≡ Ok (Plain (instr.Pick to n))
 pick_says dst count to n r x some few = rw (r, x, le-ltb n 1 some, le-ltb 8 n few) refl
@@ -78,7 +78,7 @@ return_says v o x = rw x refl
 is_array_word : (c : Component) → IsComponent c → (k : ℕ) → k < length c.arrays → IsArrayWord c.arrays (array_word c k) k
 is_array_word c is k h = record {
   name = is_name_word (array_word c k) (name_has IsName (λ a. a.name) c.arrays k h (each_weaker IsArray (λ a. IsName a.name) (λ a x. x.name) c.arrays (recursion_from_All IsArray c.arrays is.arrays)));
-  place = place_at (λ a. a.name) c.arrays k h is.arrays_apart;
+  number = place_at (λ a. a.name) c.arrays k h is.arrays_apart;
 }
 
 lock_name : (o : Option Word) → unwrap_or (option_map (λ l. l) o) [] ≡ unwrap_or o []
@@ -94,7 +94,7 @@ is_lock_word c is k h =
     let same : name_at (λ l. l) c.locks k ≡ lock_word c k = lock_name (slice_get c.locks k) in
     rw (← same) (record {
       name = is_name_word (name_at (λ l. l) c.locks k) (name_has IsName (λ l. l) c.locks k h (recursion_from_All IsName c.locks is.locks));
-      place = place_at (λ l. l) c.locks k h (rw (same_locks c.locks) is.locks_apart);
+      number = place_at (λ l. l) c.locks k h (rw (same_locks c.locks) is.locks_apart);
     })
 
 -- ---- instructions

@@ -53,14 +53,6 @@ instr_words c (JumpIfZero v target) =
     keyword_word keyword.JumpIfZero ∷ operand_word v ∷ label_word target ∷ []
 instr_words c (Return v) = keyword_word keyword.Return ∷ operand_word v ∷ []
 
--- one space between its words
-abbrev pub spelled : Component → Instr → List ℕ
-spelled c i = join_with_byte 32 (instr_words c i)
-
--- the same of a keyword, a cell and a value
-abbrev pub cell_text : Component → Word → ℕ → Operand → Operand → List ℕ
-cell_text c word array i v = join_with_byte 32 (cell_words c word array i v)
-
 abbrev pub leads_to : ℕ → Instr → Bool
 leads_to place (Jump target) = target == place
 leads_to place (JumpIfZero v target) = target == place
@@ -69,8 +61,14 @@ leads_to place _ = false
 -- ---- lines
 
 -- one space between words
+abbrev pub spelled : List Word → List ℕ
+spelled words = join_with_byte 32 words
+
 abbrev pub line_of_words : List Word → List ℕ
-line_of_words words = join_with_byte 32 words ++ 10 ∷ []
+line_of_words words = spelled words ++ 10 ∷ []
+
+abbrev pub cell_text : Component → Word → ℕ → Operand → Operand → List ℕ
+cell_text c word array i v = spelled (cell_words c word array i v)
 
 -- a label and a space, where some jump leads to the place
 abbrev pub label_text : List Instr → ℕ → List ℕ
@@ -101,13 +99,10 @@ op_text c op =
     ++ code_text c op.code
     ++ line_of_words (codes "end" ∷ [])
 
-abbrev pub operations_text : Component → List ℕ
-operations_text c = flat_map (op_text c) c.operations
-
 abbrev pub component_text : Component → List ℕ
 component_text c =
     line_of_words (codes "component" ∷ c.name ∷ [])
     ++ local_text c.local
     ++ flat_map array_text c.arrays
     ++ flat_map lock_text c.locks
-    ++ operations_text c
+    ++ flat_map (op_text c) c.operations

@@ -49,20 +49,21 @@ is_operand word = is_some (operand_in word)
 
 -- ---- what is declared so far
 
-abbrev pub array_place : ComponentDraft → Word → Option ℕ
-array_place d name = position (λ a. bytes_eq a.name name) d.arrays
+-- the number of the array of this name, where there is one
+abbrev pub found_array : ComponentDraft → Word → Option ℕ
+found_array d name = position (λ a. bytes_eq a.name name) d.arrays
 
-abbrev pub lock_place : ComponentDraft → Word → Option ℕ
-lock_place d name = position (λ l. bytes_eq l name) d.locks
+abbrev pub found_lock : ComponentDraft → Word → Option ℕ
+found_lock d name = position (λ l. bytes_eq l name) d.locks
 
 abbrev pub find_label : List Label → Word → Option Label
 find_label labels name = find (λ l. bytes_eq l.name name) labels
 
 abbrev pub array_number : ComponentDraft → Word → ℕ
-array_number d name = unwrap_or (array_place d name) 0
+array_number d name = unwrap_or (found_array d name) 0
 
 abbrev pub lock_number : ComponentDraft → Word → ℕ
-lock_number d name = unwrap_or (lock_place d name) 0
+lock_number d name = unwrap_or (found_lock d name) 0
 
 -- ---- declarations, outside an operation
 
@@ -94,7 +95,7 @@ array_line d (Some (name, len, init)) =
           (nat_le 16 (length d.arrays) || (nat_lt (value len) 1 || nat_lt 64 (value len))),
       Limit,
     )
-    ∷ (is_some (array_place d name), Name) ∷ [])
+    ∷ (is_some (found_array d name), Name) ∷ [])
     (record d
     { arrays = d.arrays ++ record { name = name; len = value len; init = value init } ∷ [] })
 
@@ -104,7 +105,7 @@ lock_line d None = Err Form
 lock_line d (Some name) =
     says ((not (has_name_form name), Form)
     ∷ (is_long name || nat_le 8 (length d.locks), Limit)
-    ∷ (is_some (lock_place d name), Name) ∷ [])
+    ∷ (is_some (found_lock d name), Name) ∷ [])
     (record d { locks = d.locks ++ name ∷ [] })
 
 -- `op NAME ARGS`
@@ -144,7 +145,7 @@ compute_line arithmetic (Some (dst, a, b)) =
 -- the number of a declared array, or what is wrong with its name
 abbrev pub declared_array : ComponentDraft → Word → Result ℕ LangFaultKind
 declared_array d name =
-    says ((is_long name, Limit) ∷ (not (is_some (array_place d name)), Name) ∷ [])
+    says ((is_long name, Limit) ∷ (not (is_some (found_array d name)), Name) ∷ [])
     (array_number d name)
 
 -- `load rD W i`
@@ -154,7 +155,7 @@ load_line d (Some (dst, array, i)) =
     says ((not (is_register dst) || not (has_name_form array), Form)
     ∷ (not (is_operand i), Number)
     ∷ (is_long array, Limit)
-    ∷ (not (is_some (array_place d array)), Name) ∷ [])
+    ∷ (not (is_some (found_array d array)), Name) ∷ [])
     (Plain (instr.Load (register dst) (array_number d array) (operand i)))
 
 -- `cas rD W i old new`
@@ -165,7 +166,7 @@ cas_line d (Some (dst, array, i, old, new)) =
     says ((not (is_register dst) || not (has_name_form array), Form)
     ∷ (not (is_operand i) || (not (is_operand old) || not (is_operand new)), Number)
     ∷ (is_long array, Limit)
-    ∷ (not (is_some (array_place d array)), Name) ∷ [])
+    ∷ (not (is_some (found_array d array)), Name) ∷ [])
     (Plain
     (instr.Cas (register dst) (array_number d array) (operand i) (operand old) (operand new)))
 
@@ -180,7 +181,7 @@ locked d None = Err Form
 locked d (Some lock) =
     says ((not (has_name_form lock), Form)
     ∷ (is_long lock, Limit)
-    ∷ (not (is_some (lock_place d lock)), Name) ∷ [])
+    ∷ (not (is_some (found_lock d lock)), Name) ∷ [])
     (lock_number d lock)
 
 -- the array, the index and the value of `store W i v`, `await W i v` and `awaitne W i v`
@@ -191,7 +192,7 @@ cell_and_value d (Some (array, i, v)) =
     says ((not (has_name_form array), Form)
     ∷ (not (is_operand i) || not (is_operand v), Number)
     ∷ (is_long array, Limit)
-    ∷ (not (is_some (array_place d array)), Name) ∷ [])
+    ∷ (not (is_some (found_array d array)), Name) ∷ [])
     (array_number d array, operand i, operand v)
 
 -- `pick rD K`
@@ -249,10 +250,9 @@ statement d (Some keyword.Return) words = return_line (exactly_one words)
 -- ---- a line of an operation: a label or none, and an instruction
 
 -- the one that is looked for first
-abbrev pub sooner : Option LangFaultKind → Option LangFaultKind → Option LangFaultKind
+abbrev pub sooner : Option LangFaultKind → LangFaultKind → LangFaultKind
 sooner None other = other
-sooner (Some kind) None = Some kind
-sooner (Some kind) (Some other) = if nat_le (rank kind) (rank other) then Some kind else Some other
+sooner (Some kind) other = if nat_le (rank kind) (rank other) then kind else other
 
 -- a word `NAME:` is a label
 abbrev pub label_in : Word → Option Word
@@ -281,19 +281,13 @@ abbrev pub placed : ComponentDraft → OpenOp → Option Word → Option LangFau
     → Result Statement LangFaultKind
     → Result ComponentDraft LangFaultKind
 placed d b label fault (Ok s) = or_else fault (record d { begun = Some (with_statement b label s) })
-placed d b label fault (Err kind) = or_else (sooner fault (Some kind)) d
+placed d b label fault (Err kind) = Err (sooner fault kind)
 
 -- the label's fault or the instruction's, that which is looked for first; or one instruction more
 abbrev pub instr_line : ComponentDraft → OpenOp → Option Word → Word → List Word
     → Result ComponentDraft LangFaultKind
 instr_line d b label word words =
     placed d b label (place_fault b label) (statement d (keyword_in word) words)
-
--- an instruction after a label
-abbrev pub labelled : ComponentDraft → OpenOp → Word → List Word
-    → Result ComponentDraft LangFaultKind
-labelled d b label [] = Err Form
-labelled d b label (word ∷ words) = instr_line d b (Some label) word words
 
 -- ---- `end`
 
@@ -341,12 +335,13 @@ end_line d b (word ∷ words) = Err Form
 
 -- ---- lines
 
--- by the label, or none, that the first word is
+-- by the label, or none, that the first word is; after a label stands an instruction
 abbrev pub by_label : ComponentDraft → OpenOp → Option Word → Word → List Word
     → Result ComponentDraft LangFaultKind
 by_label d b None word words =
     if bytes_eq word (codes "end") then end_line d b words else instr_line d b None word words
-by_label d b (Some label) word words = labelled d b label words
+by_label d b (Some label) word [] = Err Form
+by_label d b (Some label) word (next ∷ words) = instr_line d b (Some label) next words
 
 -- a line inside an operation
 abbrev pub inside : ComponentDraft → OpenOp → Word → List Word → Result ComponentDraft LangFaultKind

@@ -36,7 +36,8 @@ inside_line m marks mark first =
     if bytes_eq first (codes "end") then record { closed = m.closed ++ marks ∷ []; begun = None }
     else record m { begun = Some (marks ++ mark ∷ []) }
 
--- a line with words, which tells this, where these are told of the open operation, if there is one
+-- a line with words, which tells this, where these are reported of the open operation, if there is
+-- one
 abbrev pub marked_line : Marked → Option (List (Option Word)) → Option Word → Word → Marked
 marked_line m None mark first = outside_line m first
 marked_line m (Some marks) mark first = inside_line m marks mark first

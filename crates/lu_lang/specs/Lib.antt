@@ -8,7 +8,7 @@ pub mod Laws
 pub mod Results
 pub mod Lines
 pub mod Mend
-pub mod Place
+pub mod FaultLines
 pub mod Faulty
 pub mod Meant
 pub mod Labels

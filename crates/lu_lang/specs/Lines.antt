@@ -25,14 +25,12 @@ Takes draft meant result = IfOk result (Changes draft meant)
 
 -- ---- in an operation that is open, which is taken out of the draft meanwhile
 
-abbrev pub with_open : ComponentDraft → OpenOp → ComponentDraft
-with_open d b = record d { begun = Some b }
-
 -- the draft after the line, and no fault; or with that operation as it was, and the line's fault
 abbrev pub TakesInside : {E : Type 0} → Changing → OpenOp → Result ComponentDraft LangFaultKind
     → Result (Option LangFaultKind) E → Type 0
 TakesInside draft b meant result =
-    IfOk result (λ fault. (draft.exit.now, fault) ≡ going_on (with_open draft.entry.now b) meant)
+    IfOk result (λ fault.
+    (draft.exit.now, fault) ≡ going_on (record draft.entry.now { begun = Some b }) meant)
 
 -- what the line says: a label or none, and an instruction
 abbrev pub code_read : ComponentDraft → OpenOp → CodeLine → Result ComponentDraft LangFaultKind

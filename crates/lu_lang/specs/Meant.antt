@@ -16,7 +16,7 @@ use Rattle.lu_lang.specs.declared.recovery.Family.{Family}
 use Rattle.lu_lang.specs.declared.recovery.Family.TheVariants.{Array, Lock, Label, Operation}
 use Rattle.lu_lang.specs.Draft.{OpenOp, ComponentDraft, nothing}
 use Rattle.lu_lang.specs.Words.{keyword_in}
-use Rattle.lu_lang.specs.Grammar.{array_place, lock_place, find_label, label_in, line_of, component_grammar}
+use Rattle.lu_lang.specs.Grammar.{found_array, found_lock, find_label, label_in, line_of, component_grammar}
 use Rattle.lu_lang.specs.Faulty.{MeantName, FaultyDraft}
 use Rattle.lu_lang.specs.Mend.{after_label, bare, line_label, mend}
 
@@ -40,8 +40,8 @@ open_labels None = []
 open_labels (Some b) = b.labels
 
 abbrev pub is_declared : ComponentDraft → Family → Word → Bool
-is_declared d Array word = is_some (array_place d word)
-is_declared d Lock word = is_some (lock_place d word)
+is_declared d Array word = is_some (found_array d word)
+is_declared d Lock word = is_some (found_lock d word)
 is_declared d (Label n) word = is_some (find_label (open_labels d.begun) word)
 is_declared d Operation word = false
 
@@ -82,32 +82,27 @@ name_of_line n (word ∷ words) =
 abbrev pub spaced : List Word → List ℕ
 spaced words = flat_map (λ word. word ++ codes " ") words
 
--- the line of these words, with another in this place
+-- the line of these words, with another for the one at this position
 abbrev pub line_with : List Word → ℕ → Word → List ℕ
-line_with words place other =
-    spaced (take place words) ++ (other ++ codes " ") ++ spaced (drop (place + 1) words)
+line_with words position other =
+    spaced (take position words) ++ (other ++ codes " ") ++ spaced (drop (position + 1) words)
 
--- with a declared name in the place of one that was only meant
-abbrev pub renamed : FaultyDraft → List Word → Family × ℕ → Word → Option (List ℕ)
-renamed f words (family, place) word =
-    if is_meant f.meant family word
-    then option_map (line_with words place) (first_of f.draft family)
+-- with a declared name for the one at this position, where that was only meant
+abbrev pub renamed_at : FaultyDraft → List Word → Family × ℕ → Option (List ℕ)
+renamed_at f words (family, position) =
+    if unwrap_or (option_map (is_meant f.meant family) (slice_get words position)) false
+    then option_map (line_with words position) (first_of f.draft family)
     else None
 
-abbrev pub renamed_at : FaultyDraft → List Word → Family × ℕ → Option (List ℕ)
-renamed_at f words (family, place) =
-    option_and_then (renamed f words (family, place)) (slice_get words place)
-
-abbrev pub renamed_words : FaultyDraft → List Word → Option (List ℕ)
-renamed_words f words =
+abbrev pub renamed : FaultyDraft → List Word → Option (List ℕ)
+renamed f words =
     if is_some f.draft.begun
     then option_and_then (renamed_at f words) (name_of_line (length f.draft.operations) words)
     else None
 
 -- the line as it was meant, where it uses a name that was only meant
 abbrev pub meant_line : FaultyDraft → List ℕ → Option (List ℕ)
-meant_line f line =
-    if list_all is_allowed line then renamed_words f (words_of line) else None
+meant_line f line = if list_all is_allowed line then renamed f (words_of line) else None
 
 abbrev pub read_as : FaultyDraft → List ℕ → List ℕ
 read_as f line = unwrap_or (meant_line f line) line
@@ -128,14 +123,10 @@ faulty_grammar = record {
 
 -- ---- what a line with a fault was to declare, where d is the draft that it leaves
 
--- so many names are kept at most
-abbrev pub most_meant : ℕ
-most_meant = 256
-
--- this name, where it is not declared and there is room
+-- this name, where it is not declared and there is room: at most 256 names are kept
 abbrev pub with_name : ComponentDraft → List MeantName → Family → Word → List MeantName
 with_name d meant family word =
-    if is_declared d family word || nat_le most_meant (length meant) then meant
+    if is_declared d family word || nat_le 256 (length meant) then meant
     else meant ++ record { family = family; word = word } ∷ []
 
 -- `word` declares an array, and outside operations `lock` a lock
@@ -170,7 +161,7 @@ abbrev pub operations_begun : ComponentDraft → ℕ
 operations_begun d =
     if is_some d.begun then length d.operations + 1 else length d.operations
 
--- The open operation, where it is more than so many, which were begun before the line: how many
+-- The open operation, where it is more than this many, which were begun before the line: how many
 -- arguments it takes is not known, though its name is declared.
 abbrev pub with_operation : ComponentDraft → List MeantName → Option OpenOp → ℕ → List MeantName
 with_operation d meant None before = meant

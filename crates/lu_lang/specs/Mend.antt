@@ -1,4 +1,5 @@
--- What a line with a fault leaves, so that the lines after it are told for their own faults alone.
+-- What a line with a fault leaves, so that the lines after it are reported for their own faults
+-- alone.
 use denote.Ref.{Bor}
 use Rattle.std.specs.Prelude.{◌≡◌, ℕ, ◌-◌, Bool, false, List, [], ◌∷◌, ◌++◌, length, take, slice_index, Option, Some, None, is_some, codes, ◌==◌, ◌&&◌, ◌||◌, not, nat_le, if◌then◌else◌}
 use Rattle.std.specs.Str.{bytes_eq}
@@ -44,10 +45,6 @@ with_lock d words =
 -- the operation that these words begin
 abbrev pub with_op : ComponentDraft → List Word → ComponentDraft
 with_op d words = record d { begun = Some (op_begun (first_name words) 0) }
-
--- this operation is closed
-abbrev pub with_end : ComponentDraft → OpenOp → ComponentDraft
-with_end d b = record d { operations = d.operations ++ op_of b ∷ [] }
 
 -- the operation with a line's label, of which no more are kept than a thousand or so
 abbrev pub op_labelled : OpenOp → Option Word → OpenOp
@@ -125,26 +122,20 @@ mend_outside d (word ∷ words) next =
 abbrev pub mend_inside : ComponentDraft → OpenOp → List Word → List Word → ComponentDraft
 mend_inside d b [] next = with_return d b
 mend_inside d b (word ∷ words) next =
-    if closes (word ∷ words) next then mend_outside (with_end d b) (word ∷ words) next
+    if closes (word ∷ words) next
+    then mend_outside (record d { operations = d.operations ++ op_of b ∷ [] }) (word ∷ words) next
     else (if bytes_eq (bare word) (codes "word") then with_return (with_array d words) b
     else with_return d b)
 
--- where an operation is open, with the label of the line
-abbrev pub mend_open : ComponentDraft → OpenOp → List Word → List Word → ComponentDraft
-mend_open d b words next =
-    mend_inside d (op_labelled b (line_label words)) (after_label words) next
-
--- where there is no `component` line yet, the component is called `_`, and no operation is open
-abbrev pub mend_nameless : ComponentDraft → List Word → List Word → ComponentDraft
-mend_nameless d words next =
-    mend_outside (record (closed d) { name = Some (codes "_") }) words next
-
--- by the component's name and the open operation, where they are there
+-- By the component's name and the open operation, where they are there. Where there is no
+-- `component` line yet, the component is called `_`, and no operation is open. An open operation
+-- has the label of the line too.
 abbrev pub mend_by_name : ComponentDraft → Option Word → Option OpenOp → List Word → List Word
     → ComponentDraft
-mend_by_name d None b words next = mend_nameless d words next
+mend_by_name d None b words next = mend_outside (record d { name = Some (codes "_") }) words next
 mend_by_name d (Some name) None words next = mend_outside d words next
-mend_by_name d (Some name) (Some b) words next = mend_open d b words next
+mend_by_name d (Some name) (Some b) words next =
+    mend_inside d (op_labelled b (line_label words)) (after_label words) next
 
 -- a line of these words
 abbrev pub mend_words : ComponentDraft → List Word → List Word → ComponentDraft
@@ -155,11 +146,6 @@ mend_words d (word ∷ words) next = mend_by_name (closed d) d.name d.begun (wor
 abbrev pub Mends : (ComponentDraft → List Word → List Word → ComponentDraft) → ComponentDraft
     → ComponentDraft → List (Bor Word) → List (Bor Word) → Type 0
 Mends mended old new words next = new ≡ mended old (texts words) (texts next)
-
--- so it is where this operation was open
-abbrev pub MendsOpen : (ComponentDraft → OpenOp → List Word → List Word → ComponentDraft)
-    → OpenOp → ComponentDraft → ComponentDraft → List (Bor Word) → List (Bor Word) → Type 0
-MendsOpen mended op = Mends (λ d. mended d op)
 
 -- what a line with a fault leaves, before these lines
 abbrev pub mend : ComponentDraft → List ℕ → List (List ℕ) → ComponentDraft

@@ -7,14 +7,14 @@ use Rattle.lu_lang.specs.declared.draft.Statement.TheVariants.{Plain, Jump, Jump
 use Rattle.lu_component.specs.Component.{operation_number, IsComponent, IsInstr, IsOperand}
 use Rattle.lu_lang.specs.Draft.{OpenOp, ComponentDraft, named}
 
--- among so many arrays and locks, what the instruction names is there, but for its label
+-- among this many arrays and locks, what the instruction names is there, but for its label
 abbrev pub IsStatement : ℕ → ℕ → Statement → Type 0
 IsStatement arrays locks (Plain i) = (places : ℕ) → IsInstr arrays locks places i
 IsStatement arrays locks (Jump label) = Unit {0}
 IsStatement arrays locks (JumpIfZero v label) = IsOperand v
 
--- Beside so many arrays and locks, and these operations: the open operation obeys the rules so far,
--- and is not declared twice.
+-- Beside this many arrays and locks, and these operations: the open operation obeys the rules so
+-- far, and is not declared twice.
 pub record IsBegun (arrays locks : ℕ) (operations : List Op) (b : OpenOp) : Type 0 where
   pub room : length operations < 16
   pub apart : is_some (operation_number operations b.name) ≡ false

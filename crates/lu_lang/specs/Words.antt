@@ -1,6 +1,7 @@
 -- Keywords of instructions, registers and operands.
 use Rattle.std.specs.Prelude.{find, ℕ, ◌-◌, List, [], ◌∷◌, Option, Some, None, codes, ◌==◌, ◌&&◌, nat_le, if◌then◌else◌}
 use Rattle.std.specs.Str.{bytes_eq}
+use Rattle.std.specs.Option.{option_map, option_or}
 use Rattle.lu_text.specs.Numbers.{value_in}
 use Rattle.lu_component.specs.declared.instr.Operand.{Operand}
 use Rattle.lu_component.specs.declared.instr.Operand.TheVariants.{Reg, Num}
@@ -45,14 +46,7 @@ register_in (r ∷ []) = None
 register_in (r ∷ d ∷ []) = if r == 114 && (nat_le 48 d && nat_le d 55) then Some (d - 48) else None
 register_in (r ∷ d ∷ e ∷ word) = None
 
-abbrev pub as_number : Option ℕ → Option Operand
-as_number None = None
-as_number (Some n) = Some (Num n)
-
-abbrev pub or_number : Option ℕ → List ℕ → Option Operand
-or_number None word = as_number (value_in word)
-or_number (Some r) word = Some (Reg r)
-
 -- a register, or a number of at most 4294967295
 abbrev pub operand_in : List ℕ → Option Operand
-operand_in word = or_number (register_in word) word
+operand_in word =
+    option_or (option_map (λ r. Reg r) (register_in word)) (option_map (λ n. Num n) (value_in word))

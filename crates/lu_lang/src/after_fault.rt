@@ -1,16 +1,16 @@
-//! What a line with a fault leaves, so that the lines after it are told for their own faults
+//! What a line with a fault leaves, so that the lines after it are reported for their own faults
 //! alone.
 
 ghost use Rattle.std.specs.Prelude.{◌≡◌, IfOk, OnOk};
 ghost use Rattle.lu_text.specs.Lines.{text_if, texts};
 ghost use Rattle.lu_lang.specs.Mend as spec;
-ghost use Rattle.lu_lang.specs.Mend.{Mends, MendsOpen, mend};
+ghost use Rattle.lu_lang.specs.Mend.{Mends, mend, mend_inside};
 ghost use Rattle.lu_text.specs.Results.{Builds};
 
 use crate::draft::{ComponentDraft, Label, OpenOp, Statement};
 use crate::keyword::keyword_in;
-use crate::reading::{has_most_arrays, has_most_locks, label_in, op_of};
-use lu_component::{Array, Instr, Operand};
+use crate::reading::{label_in, op_of};
+use lu_component::{Array, Instr, MOST_ARRAYS, MOST_LOCKS, Operand};
 use lu_text::{Name, has_name_form, is_long, words_of};
 use std::alloc::{AllocError, Global};
 
@@ -53,7 +53,7 @@ fn first_name(alloc: Global, words: &[&[u8]]) -> Result<Name, AllocError>
 fn add_array(alloc: Global, draft: &mut ComponentDraft, words: &[&[u8]]) -> Result<(), AllocError>
     ensures { OnOk result (draft.new ≡ spec.with_array draft.old (texts words.now)) }
 {
-    if has_most_arrays(draft) {
+    if draft.arrays.len() >= MOST_ARRAYS {
         return Ok(());
     }
     let name = first_name(alloc, words)?;
@@ -69,7 +69,7 @@ fn add_array(alloc: Global, draft: &mut ComponentDraft, words: &[&[u8]]) -> Resu
 fn add_lock(alloc: Global, draft: &mut ComponentDraft, words: &[&[u8]]) -> Result<(), AllocError>
     ensures { OnOk result (draft.new ≡ spec.with_lock draft.old (texts words.now)) }
 {
-    if has_most_locks(draft) {
+    if draft.locks.len() >= MOST_LOCKS {
         return Ok(());
     }
     draft.locks.push(first_name(alloc, words)?)?;
@@ -215,8 +215,7 @@ fn mend_inside(
     words: &[&[u8]],
     next: &[&[u8]],
 ) -> Result<(), AllocError>
-    ensures { OnOk result
-        (MendsOpen spec.mend_inside op draft.old draft.new words.now next.now) }
+    ensures { OnOk result (Mends (λ d. mend_inside d op) draft.old draft.new words.now next.now) }
 {
     let Some((word, rest)) = words.split_first() else {
         return add_return(draft, op);
@@ -229,57 +228,6 @@ fn mend_inside(
         add_array(alloc, draft, rest)?;
     }
     add_return(draft, op)
-}
-
-/// What a line of these words leaves in this operation.
-fn mend_open(
-    alloc: Global,
-    draft: &mut ComponentDraft,
-    mut op: OpenOp,
-    words: &[&[u8]],
-    next: &[&[u8]],
-) -> Result<(), AllocError>
-    ensures { OnOk result
-        (MendsOpen spec.mend_open op draft.old draft.new words.now next.now) }
-{
-    let (label, rest) = split_label(words);
-    add_label(alloc, &mut op, label)?;
-    mend_inside(alloc, draft, op, rest, next)
-}
-
-/// What a line of these words leaves before the component has a name: it is called `_`.
-fn mend_nameless(
-    alloc: Global,
-    draft: &mut ComponentDraft,
-    words: &[&[u8]],
-    next: &[&[u8]],
-) -> Result<(), AllocError>
-    ensures { OnOk result (Mends spec.mend_nameless draft.old draft.new words.now next.now) }
-{
-    draft.begun = None;
-    draft.name = Some(Name::new(alloc, b"_")?);
-    mend_outside(alloc, draft, words, next)
-}
-
-/// What a line of these words leaves.
-fn mend_by_words(
-    alloc: Global,
-    draft: &mut ComponentDraft,
-    words: &[&[u8]],
-    next: &[&[u8]],
-) -> Result<(), AllocError>
-    ensures { OnOk result (Mends spec.mend_words draft.old draft.new words.now next.now) }
-{
-    let Some(_) = words.split_first() else {
-        return Ok(());
-    };
-    if draft.name.is_none() {
-        return mend_nameless(alloc, draft, words, next);
-    }
-    match draft.begun.take() {
-        None => mend_outside(alloc, draft, words, next),
-        Some(op) => mend_open(alloc, draft, op, words, next),
-    }
 }
 
 /// Makes the draft the one from which the lines after a line with a fault are read; `lines` are
@@ -298,5 +246,20 @@ pub(crate) fn mend_draft(
 {
     let words = words_of(alloc, text)?;
     let next = next_words(alloc, lines)?;
-    mend_by_words(alloc, draft, &words, &next)
+    let Some(_) = words.split_first() else {
+        return Ok(());
+    };
+    let begun = draft.begun.take();
+    if draft.name.is_none() {
+        draft.name = Some(Name::new(alloc, b"_")?);
+        return mend_outside(alloc, draft, &words, &next);
+    }
+    match begun {
+        None => mend_outside(alloc, draft, &words, &next),
+        Some(mut op) => {
+            let (label, rest) = split_label(&words);
+            add_label(alloc, &mut op, label)?;
+            mend_inside(alloc, draft, op, rest, &next)
+        }
+    }
 }

@@ -19,12 +19,12 @@ pub enum LangFaultKind {
     /// there was no such line, or the last operation has no `end`.
     Missing,
 
-    /// `L2`: an unknown keyword or one in the wrong place, a wrong number of words, a label without
-    /// an instruction, a word in a name's place that is no name for another cause than its length,
-    /// or something else than `r0` to `r7` where a register is written.
+    /// `L2`: an unknown keyword or one where it may not stand, a wrong number of words, a label
+    /// without an instruction, where a name is wanted a word that is none for another cause than
+    /// its length, or something else than `r0` to `r7` where a register is written.
     Form,
 
-    /// `L4`: a word in a number's place that is no number up to 4294967295, or an operand that is
+    /// `L4`: where a number is wanted a word that is none up to 4294967295, or an operand that is
     /// neither that nor a register.
     Number,
 
@@ -60,15 +60,7 @@ impl LangFaultKind {
     pub(crate) fn rank(self) -> u8
         ensures { result ≡ rank self }
     {
-        match self {
-            LangFaultKind::Byte => 0,
-            LangFaultKind::Missing => 1,
-            LangFaultKind::Form => 2,
-            LangFaultKind::Number => 3,
-            LangFaultKind::Limit => 4,
-            LangFaultKind::Flow => 5,
-            LangFaultKind::Name => 6,
-        }
+        self as u8
     }
 }
 

@@ -1,10 +1,10 @@
 //! Where the messages of a fault stand, where that is not the fault's line.
 
-ghost use Rattle.std.specs.Prelude.{◌≡◌, ◌-◌, map, filter, None};
+ghost use Rattle.std.specs.Prelude.{◌≡◌, ◌-◌, None};
 ghost use Rattle.lu_text.specs.Lines.{text_if, texts};
 ghost use Rattle.lu_lang.specs.Grammar as grammar;
-ghost use Rattle.lu_lang.specs.Place as spec;
-ghost use Rattle.lu_lang.specs.Place.{backs};
+ghost use Rattle.lu_lang.specs.FaultLines as spec;
+ghost use Rattle.lu_lang.specs.FaultLines.{backs};
 ghost use Rattle.lu_text.specs.Results.{HasItems};
 
 use crate::after_fault::{closes, next_words, split_label};
@@ -25,15 +25,8 @@ fn jumps_to(statement: &Statement, label: Option<&[u8]>) -> bool
     }
 }
 
-/// Whether a statement jumps to a label that the operation does not have, nor the line that closes
-/// it.
-fn leads_nowhere(op: &OpenOp, label: Option<&[u8]>, statement: &Statement) -> bool
-    ensures { result ≡ spec.leads_nowhere op.now (text_if label.entry) statement.now }
-{
-    !(is_there(&op.labels, statement) || jumps_to(statement, label))
-}
-
-/// For each such jump, how many instructions stand from it on.
+/// For each jump to a label that the operation does not have, nor the line that closes it, how many
+/// instructions stand from it on.
 fn jump_backs(alloc: Global, op: &OpenOp, label: Option<&[u8]>) -> Result<Vec<usize>, AllocError>
     ensures { HasItems result (spec.jump_backs op.now (text_if label.entry)) }
 {
@@ -41,18 +34,11 @@ fn jump_backs(alloc: Global, op: &OpenOp, label: Option<&[u8]>) -> Result<Vec<us
     op.statements
         .iter()
         .enumerate()
-        .filter(|(_, statement)| leads_nowhere(op, label, statement))
-        .map(|(place, _)| all.saturating_sub(place))
+        .filter(|(_, statement)| {
+            !(is_there(&op.labels, statement) || jumps_to(statement, label))
+        })
+        .map(|(before, _)| all.saturating_sub(before))
         .collect(alloc)
-}
-
-fn is_end(words: &[&[u8]]) -> bool
-    ensures { result ≡ spec.is_end (texts words.now) }
-{
-    match words.split_first() {
-        None => false,
-        Some((word, _)) => *word == b"end".as_slice(),
-    }
 }
 
 /// By how many lines with words each message of a fault of this kind stands before the line: a jump
@@ -73,10 +59,9 @@ pub fn message_backs(
     match kind {
         LangFaultKind::Name => {
             let words = words_of(alloc, text)?;
-            if is_end(&words) {
-                open_backs(alloc, draft)
-            } else {
-                Ok(Vec::new(alloc))
+            match words.split_first() {
+                Some((word, _)) if *word == b"end".as_slice() => open_backs(alloc, draft),
+                _ => Ok(Vec::new(alloc)),
             }
         }
         _ => Ok(Vec::new(alloc)),

@@ -17,7 +17,7 @@ use lu_text::{
 };
 use std::alloc::{AllocError, Global};
 
-fn place_among(arrays: &[Array], name: &[u8]) -> Option<usize>
+fn array_among(arrays: &[Array], name: &[u8]) -> Option<usize>
     ensures { result ≡ position (λ a. bytes_eq a.name name.now) arrays.now }
 {
     arrays.iter().position(|array| array.name.is(name))
@@ -25,22 +25,22 @@ fn place_among(arrays: &[Array], name: &[u8]) -> Option<usize>
 
 /// The number of the array of this name among those declared so far.
 pub fn array_number(draft: &ComponentDraft, name: &[u8]) -> Option<u8>
-    ensures { result ≡ spec.array_place draft.now name.now }
+    ensures { result ≡ spec.found_array draft.now name.now }
 {
-    Some(place_among(&draft.arrays, name)? as u8)
+    Some(array_among(&draft.arrays, name)? as u8)
 }
 
-fn name_among(names: &[Name], name: &[u8]) -> Option<usize>
-    ensures { result ≡ position (λ l. bytes_eq l name.now) names.now }
+fn lock_among(locks: &[Name], name: &[u8]) -> Option<usize>
+    ensures { result ≡ position (λ l. bytes_eq l name.now) locks.now }
 {
-    names.iter().position(|other| other.is(name))
+    locks.iter().position(|lock| lock.is(name))
 }
 
 /// The number of the lock of this name among those declared so far.
 pub fn lock_number(draft: &ComponentDraft, name: &[u8]) -> Option<u8>
-    ensures { result ≡ spec.lock_place draft.now name.now }
+    ensures { result ≡ spec.found_lock draft.now name.now }
 {
-    Some(name_among(&draft.locks, name)? as u8)
+    Some(lock_among(&draft.locks, name)? as u8)
 }
 
 /// The number of the array of this name, which is to be short enough and declared.

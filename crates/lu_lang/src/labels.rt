@@ -1,12 +1,11 @@
 //! The labels of a component's text.
 
-ghost use Rattle.std.specs.Prelude.{◌≡◌, option_and_then};
+ghost use Rattle.std.specs.Prelude.{◌≡◌};
 ghost use Rattle.std.specs.Option.{option_copied};
 ghost use Rattle.lu_text.specs.Lines.{texts};
 ghost use Rattle.lu_text.specs.Results.{Builds};
 ghost use Rattle.lu_lang.specs.Labels as spec;
-ghost use Rattle.lu_lang.specs.Labels.{label_on, name_if};
-ghost use Rattle.lu_lang.specs.Grammar.{label_in};
+ghost use Rattle.lu_lang.specs.Labels.{label_on};
 
 use crate::reading::label_in;
 use lu_text::{Name, has_name_form, is_long, lines_of, words_of};
@@ -71,18 +70,6 @@ impl Model for Marked {
     ghost view = { λ m. record { closed = m.closed.items; begun = m.begun } };
 }
 
-/// The label of a line with this first word: a name with a colon after it.
-fn label_on(alloc: Global, first: &[u8]) -> Result<Option<Name>, AllocError>
-    ensures { Builds result (option_and_then name_if (label_in first.now)) }
-{
-    match label_in(first) {
-        Some(label) if has_name_form(label) && !is_long(label) => {
-            Ok(Some(Name::new(alloc, label)?))
-        }
-        _ => Ok(None),
-    }
-}
-
 /// A line of these words.
 fn with_words(alloc: Global, mut marked: Marked, words: &[&[u8]]) -> Result<Marked, AllocError>
     ensures { Builds result (spec.with_words label_on marked (texts words.now)) }
@@ -100,7 +87,14 @@ fn with_words(alloc: Global, mut marked: Marked, words: &[&[u8]]) -> Result<Mark
         }
         Some(marks) if *first == b"end".as_slice() => marked.closed.push(marks)?,
         Some(mut marks) => {
-            marks.names.push(label_on(alloc, first)?)?;
+            // The label is a name with a colon after it.
+            let label = match label_in(first) {
+                Some(label) if has_name_form(label) && !is_long(label) => {
+                    Some(Name::new(alloc, label)?)
+                }
+                _ => None,
+            };
+            marks.names.push(label)?;
             marked.begun = Some(marks);
         }
     }

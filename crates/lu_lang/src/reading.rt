@@ -1,8 +1,7 @@
 //! Reading of components, line by line.
 
-ghost use Rattle.std.specs.Prelude.{◌≡◌, Some, None, length, map, nat_le};
+ghost use Rattle.std.specs.Prelude.{◌≡◌, None, map};
 ghost use Rattle.std.specs.Option.{option_copied, option_map};
-ghost use Rattle.lu_component.specs.declared.component.TheConstants.{MOST_ARRAYS, MOST_INSTRS, MOST_LOCKS, MOST_OPS};
 ghost use Rattle.lu_text.specs.Lines.{text_if, texts};
 ghost use Rattle.lu_text.specs.Words.{exactly_one, exactly_two, exactly_three};
 ghost use Rattle.lu_text.specs.Faults.{Gives, TellsFirst, fault_in, meaning_of, meaning_of_lines};
@@ -26,34 +25,6 @@ use lu_text::{
 };
 use std::alloc::{AllocError, Global};
 
-pub(crate) fn has_most_arrays(draft: &ComponentDraft) -> bool
-    ensures { result ≡ nat_le MOST_ARRAYS (length draft.now.arrays) }
-{
-    draft.arrays.len() >= MOST_ARRAYS
-}
-
-pub(crate) fn has_most_locks(draft: &ComponentDraft) -> bool
-    ensures { result ≡ nat_le MOST_LOCKS (length draft.now.locks) }
-{
-    draft.locks.len() >= MOST_LOCKS
-}
-
-fn has_most_operations(draft: &ComponentDraft) -> bool
-    ensures { result ≡ nat_le MOST_OPS (length draft.now.operations) }
-{
-    draft.operations.len() >= MOST_OPS
-}
-
-/// Which of two faults is looked for first.
-fn sooner(fault: Option<LangFaultKind>, other: LangFaultKind) -> LangFaultKind
-    ensures { Some result ≡ spec.sooner fault (Some other) }
-{
-    match fault {
-        Some(kind) if kind.rank() <= other.rank() => kind,
-        _ => other,
-    }
-}
-
 /// The label that a word is, `NAME:`, without the colon.
 pub(crate) fn label_in(word: &[u8]) -> Option<&[u8]>
     ensures { option_map (λ label. label.now) result ≡ spec.label_in word.now }
@@ -71,18 +42,13 @@ pub(crate) fn find_label<'a>(labels: &'a [Label], name: &[u8]) -> Option<&'a Lab
     labels.iter().find(|label| label.name.is(name))
 }
 
-fn has_most_statements(op: &OpenOp) -> bool
-    ensures { result ≡ nat_le MOST_INSTRS (length op.now.statements) }
-{
-    op.statements.len() >= MOST_INSTRS
-}
-
 /// What is wrong with a label, and with one more instruction.
 fn place_fault(op: &OpenOp, label: Option<&[u8]>) -> Option<LangFaultKind>
     ensures { result ≡ spec.place_fault op.now (text_if label.entry) }
 {
+    let is_full = op.statements.len() >= MOST_INSTRS;
     let Some(label) = label else {
-        return if has_most_statements(op) {
+        return if is_full {
             Some(LangFaultKind::Limit)
         } else {
             None
@@ -90,7 +56,7 @@ fn place_fault(op: &OpenOp, label: Option<&[u8]>) -> Option<LangFaultKind>
     };
     if !has_name_form(label) {
         Some(LangFaultKind::Form)
-    } else if is_long(label) || has_most_statements(op) {
+    } else if is_long(label) || is_full {
         Some(LangFaultKind::Limit)
     } else if find_label(&op.labels, label).is_some() {
         Some(LangFaultKind::Name)
@@ -124,16 +90,6 @@ pub(crate) struct CodeLine<'a> {
     pub label: Option<&'a [u8]>,
     pub word: &'a [u8],
     pub rest: &'a [&'a [u8]],
-}
-
-/// Whether there is an instruction, and the last is `return` or `jump`.
-fn ends_well(op: &OpenOp) -> bool
-    ensures { result ≡ spec.ends_well op.now }
-{
-    matches!(
-        op.statements.last(),
-        Some(Statement::Jump(_) | Statement::Plain(Instr::Return(_)))
-    )
 }
 
 /// Whether the label that a statement uses is there.
@@ -213,13 +169,16 @@ fn end_line_fault(op: &OpenOp, words: &[&[u8]]) -> Option<LangFaultKind>
     if !words.is_empty() {
         return Some(LangFaultKind::Form);
     }
-    if !ends_well(op) {
-        return Some(LangFaultKind::Flow);
+    match op.statements.last() {
+        Some(Statement::Jump(_) | Statement::Plain(Instr::Return(_))) => {
+            if are_there(op) {
+                None
+            } else {
+                Some(LangFaultKind::Name)
+            }
+        }
+        _ => Some(LangFaultKind::Flow),
     }
-    if !are_there(op) {
-        return Some(LangFaultKind::Name);
-    }
-    None
 }
 
 // Each of these takes one more line, whose first word is known: what it declares, and no fault, or
@@ -283,7 +242,7 @@ impl ComponentDraft {
         let (Some(len), Some(init)) = (value_in(len), value_in(init)) else {
             return Ok(Some(LangFaultKind::Number));
         };
-        if is_long(name) || has_most_arrays(self) || len < 1 || len > MOST_CELLS {
+        if is_long(name) || self.arrays.len() >= MOST_ARRAYS || len < 1 || len > MOST_CELLS {
             return Ok(Some(LangFaultKind::Limit));
         }
         if array_number(self, name).is_some() {
@@ -311,7 +270,7 @@ impl ComponentDraft {
         if !has_name_form(name) {
             return Ok(Some(LangFaultKind::Form));
         }
-        if is_long(name) || has_most_locks(self) {
+        if is_long(name) || self.locks.len() >= MOST_LOCKS {
             return Ok(Some(LangFaultKind::Limit));
         }
         if lock_number(self, name).is_some() {
@@ -338,7 +297,7 @@ impl ComponentDraft {
         let Some(args) = value_in(args) else {
             return Ok(Some(LangFaultKind::Number));
         };
-        if is_long(name) || has_most_operations(self) || args > MOST_ARGUMENTS {
+        if is_long(name) || self.operations.len() >= MOST_OPS || args > MOST_ARGUMENTS {
             return Ok(Some(LangFaultKind::Limit));
         }
         if operation_number(&self.operations, name).is_some() {
@@ -384,7 +343,10 @@ impl ComponentDraft {
         let statement = match statement(alloc, self, keyword_in(code.word), code.rest)? {
             Err(kind) => {
                 self.begun = Some(op);
-                return Ok(Some(sooner(fault, kind)));
+                return Ok(Some(match fault {
+                    Some(sooner) if sooner.rank() <= kind.rank() => sooner,
+                    _ => kind,
+                }));
             }
             Ok(statement) => statement,
         };
@@ -457,30 +419,6 @@ impl ComponentDraft {
         }
     }
 
-    /// A line with these words.
-    fn take_words(
-        &mut self,
-        alloc: Global,
-        words: &[&[u8]],
-    ) -> Result<Option<LangFaultKind>, AllocError>
-        ensures { Takes self (spec.by_words self.old (texts words.now)) result }
-    {
-        let Some((word, rest)) = words.split_first() else {
-            return Ok(None);
-        };
-        if self.name.is_none() {
-            return if *word == b"component".as_slice() {
-                self.take_name(alloc, rest)
-            } else {
-                Ok(Some(LangFaultKind::Missing))
-            };
-        }
-        match self.begun.take() {
-            None => self.take_declaration(alloc, word, rest),
-            Some(op) => self.take_inside(alloc, op, word, rest),
-        }
-    }
-
     /// Takes one more line: `None` where it has no fault, and else its fault, and the draft is as
     /// it was.
     ///
@@ -495,7 +433,20 @@ impl ComponentDraft {
             return Ok(Some(LangFaultKind::Byte));
         }
         let words = words_of(alloc, text)?;
-        self.take_words(alloc, &words)
+        let Some((word, rest)) = words.split_first() else {
+            return Ok(None);
+        };
+        if self.name.is_none() {
+            return if *word == b"component".as_slice() {
+                self.take_name(alloc, rest)
+            } else {
+                Ok(Some(LangFaultKind::Missing))
+            };
+        }
+        match self.begun.take() {
+            None => self.take_declaration(alloc, word, rest),
+            Some(op) => self.take_inside(alloc, op, word, rest),
+        }
     }
 
     /// The component that the lines declare, at the end of the text; or what is wrong there, and

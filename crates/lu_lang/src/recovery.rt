@@ -1,8 +1,7 @@
 //! Lines as their writer meant them: a declaration with a fault was to declare a name, and the
 //! lines after it may use that name.
 
-ghost use Rattle.std.specs.Prelude.{◌≡◌, ◌≤◌, ◌<◌, ◌++◌, length, nat_le};
-ghost use Rattle.std.specs.Option.{option_map, unwrap_or};
+ghost use Rattle.std.specs.Prelude.{◌≡◌, ◌≤◌, ◌<◌, ◌++◌, length};
 ghost use Rattle.lu_text.specs.Lines.{text_if, texts};
 ghost use Rattle.lu_text.specs.Faults.{going_on};
 ghost use Rattle.lu_lang.specs.Meant as spec;
@@ -140,8 +139,8 @@ fn first_of(draft: &ComponentDraft, family: Family) -> Option<&[u8]>
     }
 }
 
-/// What an instruction of this operation names, and the place of the name on its line, where so
-/// many words stand before it.
+/// What an instruction of this operation names, and which of its line's words is the name, where so
+/// many words stand before the instruction.
 fn named_by(operation: usize, before: usize, keyword: Keyword) -> Option<(Family, usize)>
     requires { before ≤ 1 }
     ensures { result ≡ spec.named_by operation before keyword }
@@ -160,28 +159,19 @@ fn name_of_code(operation: usize, before: usize, words: &[&[u8]]) -> Option<(Fam
     requires { before ≤ 1 }
     ensures { result ≡ spec.name_of_code operation before (texts words.now) }
 {
-    match words.split_first() {
-        None => None,
-        Some((word, _)) => match keyword_in(word) {
-            None => None,
-            Some(keyword) => named_by(operation, before, keyword),
-        },
-    }
+    let (word, _) = words.split_first()?;
+    named_by(operation, before, keyword_in(word)?)
 }
 
 /// The same of a line of this operation.
 fn name_of_line(operation: usize, words: &[&[u8]]) -> Option<(Family, usize)>
     ensures { result ≡ spec.name_of_line operation (texts words.now) }
 {
-    match words.split_first() {
-        None => None,
-        Some((word, rest)) => {
-            if label_in(word).is_some() {
-                name_of_code(operation, 1, rest)
-            } else {
-                name_of_code(operation, 0, words)
-            }
-        }
+    let (word, rest) = words.split_first()?;
+    if label_in(word).is_some() {
+        name_of_code(operation, 1, rest)
+    } else {
+        name_of_code(operation, 0, words)
     }
 }
 
@@ -200,34 +190,39 @@ pub fn with_spaced_words(mut text: Vec<u8>, words: &[&[u8]]) -> Result<Vec<u8>, 
     Ok(text)
 }
 
-/// The line of these words, with another in a place.
+/// The line of these words, with another for the one at this position.
 fn line_with(
     alloc: Global,
     words: &[&[u8]],
-    place: usize,
+    position: usize,
     other: &[u8],
 ) -> Result<Vec<u8>, AllocError>
-    requires { place < length words.now }
-    ensures { HasItems result (spec.line_with (texts words.now) place other.now) }
+    requires { position < length words.now }
+    ensures { HasItems result (spec.line_with (texts words.now) position other.now) }
 {
-    let mut text = with_spaced_words(Vec::new(alloc), &words[..place])?;
+    let mut text = with_spaced_words(Vec::new(alloc), &words[..position])?;
     text.extend_from_slice(other)?;
     text.push(b' ')?;
-    with_spaced_words(text, &words[place + 1..])
+    with_spaced_words(text, &words[position + 1..])
 }
 
-/// The line with a declared name in the place of one that was only meant.
+/// The line of these words, with a declared name for the one that it uses, where that was only
+/// meant.
 #[tactic(auto, using(crate::proofs::Understood::text_at))]
 fn renamed(
     alloc: Global,
     draft: &FaultyDraft,
     words: &[&[u8]],
-    family: Family,
-    place: usize,
 ) -> Result<Option<Vec<u8>>, AllocError>
-    ensures { BuildsLine result (spec.renamed_at draft.now (texts words.now) (family, place)) }
+    ensures { BuildsLine result (spec.renamed draft.now (texts words.now)) }
 {
-    let Some(word) = words.get(place) else {
+    if draft.draft.begun.is_none() {
+        return Ok(None);
+    }
+    let Some((family, position)) = name_of_line(draft.draft.operations.len(), words) else {
+        return Ok(None);
+    };
+    let Some(word) = words.get(position) else {
         return Ok(None);
     };
     if !is_meant(&draft.meant, family, word) {
@@ -235,28 +230,12 @@ fn renamed(
     }
     match first_of(&draft.draft, family) {
         None => Ok(None),
-        Some(other) => Ok(Some(line_with(alloc, words, place, other)?)),
-    }
-}
-
-fn renamed_words(
-    alloc: Global,
-    draft: &FaultyDraft,
-    words: &[&[u8]],
-) -> Result<Option<Vec<u8>>, AllocError>
-    ensures { BuildsLine result (spec.renamed_words draft.now (texts words.now)) }
-{
-    if draft.draft.begun.is_none() {
-        return Ok(None);
-    }
-    match name_of_line(draft.draft.operations.len(), words) {
-        None => Ok(None),
-        Some((family, place)) => renamed(alloc, draft, words, family, place),
+        Some(other) => Ok(Some(line_with(alloc, words, position, other)?)),
     }
 }
 
 /// The line as it was meant, where it uses a name that was only meant: with a declared name of the
-/// family in its place.
+/// family for it.
 ///
 /// # Errors
 ///
@@ -275,17 +254,7 @@ pub fn meant_line(
         return Ok(None);
     }
     let words = words_of(alloc, text)?;
-    renamed_words(alloc, draft, &words)
-}
-
-/// The line as it was meant, where it is another, or as it stands.
-fn or_as_it_stands<'a>(meant: &'a Option<Vec<u8>>, text: &'a [u8]) -> &'a [u8]
-    ensures { result.now ≡ unwrap_or (option_map (λ l. l.items) meant.now) text.now }
-{
-    match meant {
-        None => text,
-        Some(line) => line.as_slice(),
-    }
+    renamed(alloc, draft, &words)
 }
 
 /// The draft after one more line, and no fault; or the draft before it, and what is wrong with the
@@ -304,14 +273,8 @@ pub fn read_or_fault(
 {
     let line = meant_line(alloc, &draft, text)?;
     let FaultyDraft { mut draft, meant } = draft;
-    let fault = draft.line(alloc, or_as_it_stands(&line, text))?;
+    let fault = draft.line(alloc, line.as_deref().unwrap_or(text))?;
     Ok((FaultyDraft { draft, meant }, fault))
-}
-
-fn has_most_meant(meant: &[MeantName]) -> bool
-    ensures { result ≡ nat_le spec.most_meant (length meant.now) }
-{
-    meant.len() >= MOST_MEANT
 }
 
 /// The names with this one, where it is not declared and there is room.
@@ -324,7 +287,7 @@ fn with_name(
 ) -> Result<Vec<MeantName>, AllocError>
     ensures { HasItems result (spec.with_name draft.now meant.items family word.now) }
 {
-    if is_declared(draft, family, word) || has_most_meant(&meant) {
+    if is_declared(draft, family, word) || meant.len() >= MOST_MEANT {
         return Ok(meant);
     }
     let word = Vec::from_slice(alloc, word)?;
@@ -345,24 +308,6 @@ fn declared_by(draft: &ComponentDraft, first: &[u8]) -> Option<Family>
     }
 }
 
-/// The names with that of a label of the open operation, where there is one.
-fn with_label_name(
-    alloc: Global,
-    draft: &ComponentDraft,
-    meant: Vec<MeantName>,
-    label: Option<&[u8]>,
-) -> Result<Vec<MeantName>, AllocError>
-    ensures { HasItems result (spec.with_label_name draft.now meant.items (text_if label.entry)) }
-{
-    match label {
-        Some(label) if draft.begun.is_some() => {
-            let family = Family::Label(draft.operations.len());
-            with_name(alloc, draft, meant, family, label)
-        }
-        _ => Ok(meant),
-    }
-}
-
 /// The names with those that a line of these words was to declare, where it leaves this draft.
 fn with_names(
     alloc: Global,
@@ -373,7 +318,13 @@ fn with_names(
     ensures { HasItems result (spec.with_names draft.now meant.items (texts words.now)) }
 {
     let (label, words) = split_label(words);
-    let meant = with_label_name(alloc, draft, meant, label)?;
+    let meant = match label {
+        Some(label) if draft.begun.is_some() => {
+            let family = Family::Label(draft.operations.len());
+            with_name(alloc, draft, meant, family, label)?
+        }
+        _ => meant,
+    };
     let Some((first, rest)) = words.split_first() else {
         return Ok(meant);
     };
@@ -394,7 +345,7 @@ fn operations_begun(draft: &ComponentDraft) -> usize
     }
 }
 
-/// The names with that of the open operation, where it is more than so many, which were begun
+/// The names with that of the open operation, where it is more than this many, which were begun
 /// before the line.
 fn with_operation(
     alloc: Global,

@@ -4,7 +4,7 @@ ghost use Rattle.std.specs.Prelude.{◌≡◌, IfOk, string_bytes};
 ghost use Rattle.std.specs.List.{list_any, flat_map};
 ghost use Rattle.lu_text.specs.Writing.{IsTextOf, Writes};
 ghost use Rattle.lu_lang.specs.ComponentText as spec;
-ghost use Rattle.lu_lang.specs.ComponentText.{cell_text, code_line};
+ghost use Rattle.lu_lang.specs.ComponentText.{cell_text, code_line, instr_words, op_text, spelled};
 ghost use Rattle.lu_lang.specs.Grammar.{component_grammar};
 
 use lu_component::{Array, Component, Instr, Op, Operand};
@@ -59,7 +59,7 @@ fn write_cell(
 ///
 /// There is no memory for the text.
 pub fn write_instr(text: &mut String, component: &Component, instr: Instr) -> Result<(), AllocError>
-    ensures { Writes result text.old text.new (spec.spelled component.now instr) }
+    ensures { Writes result text.old text.new (spelled (instr_words component.now instr)) }
 {
     match instr {
         Instr::Set { to, value } => write!(text, "set r{to} {value}"),
@@ -107,22 +107,14 @@ pub fn write_instr(text: &mut String, component: &Component, instr: Instr) -> Re
     }
 }
 
-/// Whether an instruction is a jump to this place.
-fn leads_to(place: usize, instr: Instr) -> bool
-    ensures { result ≡ spec.leads_to place instr }
-{
-    match instr {
-        Instr::Jump(target) => usize::from(target) == place,
-        Instr::JumpIfZero { target, .. } => usize::from(target) == place,
-        _ => false,
-    }
-}
-
 /// Whether some instruction of the code jumps to this place.
 pub fn has_jump_to(code: &[Instr], place: usize) -> bool
     ensures { result ≡ list_any (spec.leads_to place) code.now }
 {
-    code.iter().any(|instr| leads_to(place, *instr))
+    code.iter().any(|instr| match *instr {
+        Instr::Jump(target) | Instr::JumpIfZero { target, .. } => usize::from(target) == place,
+        _ => false,
+    })
 }
 
 /// Adds the label of a place at the end of a text, where some jump leads to the place: `Lk: ` for
@@ -166,44 +158,11 @@ fn write_code(text: &mut String, component: &Component, code: &[Instr]) -> Resul
     Ok(())
 }
 
-/// Adds the line of the local instructions that run with a move at the end of a text, where there
-/// are some.
-fn write_local(text: &mut String, local: u8) -> Result<(), AllocError>
-    ensures { Writes result text.old text.new (spec.local_text local) }
-{
-    if local > 0 {
-        writeln!(text, "local {local}")?;
-    }
-    Ok(())
-}
-
-fn write_array(text: &mut String, array: &Array) -> Result<(), AllocError>
-    ensures { Writes result text.old text.new (spec.array_text array.now) }
-{
-    let Array { name, len, init } = array;
-    writeln!(text, "word {} {len} {init}", name.as_str())
-}
-
-fn write_lock(text: &mut String, name: &Name) -> Result<(), AllocError>
-    ensures { Writes result text.old text.new (spec.lock_text name.now) }
-{
-    writeln!(text, "lock {}", name.as_str())
-}
-
-fn write_op(text: &mut String, component: &Component, op: &Op) -> Result<(), AllocError>
-    ensures { Writes result text.old text.new (spec.op_text component.now op.now) }
-{
-    let args = op.args;
-    writeln!(text, "op {} {args}", op.name.as_str())?;
-    write_code(text, component, op.code.instrs())?;
-    writeln!(text, "end")
-}
-
 fn write_arrays(text: &mut String, arrays: &[Array]) -> Result<(), AllocError>
     ensures { Writes result text.old text.new (flat_map spec.array_text arrays.now) }
 {
-    for array in arrays {
-        write_array(text, array)?;
+    for Array { name, len, init } in arrays {
+        writeln!(text, "word {} {len} {init}", name.as_str())?;
     }
     Ok(())
 }
@@ -212,16 +171,24 @@ fn write_locks(text: &mut String, locks: &[Name]) -> Result<(), AllocError>
     ensures { Writes result text.old text.new (flat_map spec.lock_text locks.now) }
 {
     for name in locks {
-        write_lock(text, name)?;
+        writeln!(text, "lock {}", name.as_str())?;
     }
     Ok(())
 }
 
-fn write_operations(text: &mut String, component: &Component) -> Result<(), AllocError>
-    ensures { Writes result text.old text.new (spec.operations_text component.now) }
+fn write_operations(
+    text: &mut String,
+    component: &Component,
+    operations: &[Op],
+) -> Result<(), AllocError>
+    ensures { Writes result text.old text.new
+        (flat_map (op_text component.now) operations.now) }
 {
-    for op in component.operations() {
-        write_op(text, component, op)?;
+    for op in operations {
+        let args = op.args;
+        writeln!(text, "op {} {args}", op.name.as_str())?;
+        write_code(text, component, op.code.instrs())?;
+        writeln!(text, "end")?;
     }
     Ok(())
 }
@@ -242,9 +209,12 @@ pub fn write_component(alloc: Global, component: &Component) -> Result<String, A
 {
     let mut text = String::new(alloc);
     writeln!(text, "component {}", component.name().as_str())?;
-    write_local(&mut text, component.local())?;
+    let local = component.local();
+    if local > 0 {
+        writeln!(text, "local {local}")?;
+    }
     write_arrays(&mut text, component.arrays())?;
     write_locks(&mut text, component.locks())?;
-    write_operations(&mut text, component)?;
+    write_operations(&mut text, component, component.operations())?;
     Ok(text)
 }

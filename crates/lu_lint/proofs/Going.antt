@@ -23,7 +23,7 @@ use Rattle.lu_lint.specs.Component.{backs_beside, component_lint, faulty_end_oth
 use Rattle.lu_lint.specs.declared.remark.FaultKind.TheVariants as part
 use Rattle.lu_lang.specs.declared.fault.LangFaultKind.TheVariants.{Name}
 use Rattle.lu_lang.specs.Faulty.{FaultyDraft}
-use Rattle.lu_lang.specs.Place.{left_backs, open_backs}
+use Rattle.lu_lang.specs.FaultLines.{left_backs, open_backs}
 use Rattle.lu_lint.specs.Matrix.{lint_of}
 
 pub said_push : (all : List Remark) (r : Remark) → said_of (all ++ r ∷ []) ≡ said_of all ++ r.said ∷ []

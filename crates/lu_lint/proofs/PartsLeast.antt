@@ -130,8 +130,8 @@ separators_are : (n : ℕ) (lines : List (List ℕ)) → AreOf 0 (separators_fro
 separators_are n [] = All-nil (λ s. part_of s.cause ≡ 0)
 separators_are n (line ∷ lines) = of_both 0 (separator_said n line) (separators_from (n + 1) lines) (go (is_blurred line)) (separators_are (n + 1) lines)
   where
-    go : (b : Bool) → AreOf 0 (cond b (record { place = n; cause = Separator } ∷ []) [])
-    go true = All-cons (λ s. part_of s.cause ≡ 0) (record { place = n; cause = Separator }) [] refl (All-nil (λ s. part_of s.cause ≡ 0))
+    go : (b : Bool) → AreOf 0 (cond b (record { line = n; cause = Separator } ∷ []) [])
+    go true = All-cons (λ s. part_of s.cause ≡ 0) (record { line = n; cause = Separator }) [] refl (All-nil (λ s. part_of s.cause ≡ 0))
     go false = All-nil (λ s. part_of s.cause ≡ 0)
 
 warnings_are : (c : ReadComponent) (lines : List (List ℕ)) → AreOf 0 (warnings_said c lines)
@@ -186,7 +186,7 @@ third_not p low Schedule m above text said h = not_other p 3 said (λ e. omega a
 
 fifth_are : (above : ℕ) (texts : List (List ℕ)) → AreOf 0 (fifth_said above texts)
 fifth_are above [] = All-nil (λ s. part_of s.cause ≡ 0)
-fifth_are above (text ∷ texts) = All-cons (λ s. part_of s.cause ≡ 0) (record { place = above; cause = FifthPart }) [] refl (All-nil (λ s. part_of s.cause ≡ 0))
+fifth_are above (text ∷ texts) = All-cons (λ s. part_of s.cause ≡ 0) (record { line = above; cause = FifthPart }) [] refl (All-nil (λ s. part_of s.cause ≡ 0))
 
 -- of the parts after a schedule or a report only a specification's faults
 fourth_not : (p : ℕ) → (5 ≡ p → ⊥) → (0 ≡ p → ⊥) → (m : Option Matrix) (above : ℕ) (texts : List (List ℕ)) (said : List Said) → FourthSaid m above texts said → AreNot p said
@@ -363,8 +363,8 @@ no_fourth_after_history m (text ∷ texts) said = tt
 abbrev of_schedule : Said → Option ScheduleFault
 of_schedule s = schedule_fault s.cause
 
-told_on_first : (above : ℕ) (faults : List ScheduleFault) → All (λ t. IsOfKey (λ (s : Said). s.place) of_schedule (line_below above 1) (said_told part.Schedule above t)) (schedule_told faults)
-told_on_first above faults = All-map (λ t. IsOfKey (λ (s : Said). s.place) of_schedule (line_below above 1) (said_told part.Schedule above t)) (told_here 1) faults (λ k d h. inr refl)
+told_on_first : (above : ℕ) (faults : List ScheduleFault) → All (λ t. IsOfKey (λ (s : Said). s.line) of_schedule (line_below above 1) (said_told part.Schedule above t)) (schedule_told faults)
+told_on_first above faults = All-map (λ t. IsOfKey (λ (s : Said). s.line) of_schedule (line_below above 1) (said_told part.Schedule above t)) (told_here 1) faults (λ k d h. inr refl)
 
 no_schedule_in : (said : List Said) → AreNot 3 said → All (λ s. of_schedule s ≡ None) said
 no_schedule_in said are = All-weaker (λ s. part_of s.cause ≡ 3 → ⊥) (λ s. of_schedule s ≡ None) (λ s h. no_schedule s.cause h) said are
@@ -373,7 +373,7 @@ picked_all : (above : ℕ) (faults : List ScheduleFault) → filter_map of_sched
 picked_all above [] = refl
 picked_all above (fault ∷ faults) = ap (λ (fs : List ScheduleFault). fault ∷ fs) (picked_all above faults)
 
-module _ (first third behind runs found said : List Said) (parts : found ≡ (first ++ (third ++ behind)) ++ runs) (moved : IsPermutation found said) (stable : IsStableByKey (λ s. s.place) nat_cmp found said) (not_first : (p : ℕ) → 3 ≤ p → AreNot p first) (are_runs : AreOf 0 runs) where
+module _ (first third behind runs found said : List Said) (parts : found ≡ (first ++ (third ++ behind)) ++ runs) (moved : IsPermutation found said) (stable : IsStableByKey (λ s. s.line) nat_cmp found said) (not_first : (p : ℕ) → 3 ≤ p → AreNot p first) (are_runs : AreOf 0 runs) where
   specification_third : (m : Option Matrix) (text : List ℕ) → AreNot 5 behind → SpecificationLeast m text third → SpecificationLeast m text said
   specification_third None text not_after h = tt
   specification_third (Some m) text not_after h =
@@ -400,9 +400,9 @@ module _ (first third behind runs found said : List Said) (parts : found ≡ (fi
   -- the faults of a schedule stand on one line, so they are said in the order in which they are found
   schedule_third : (above : ℕ) (text : List ℕ) → AreNot 3 behind → third ≡ schedule_said above (schedule_faults text) → ScheduleFirst text said
   schedule_third above text not_after is =
-      let key = λ (s : Said). s.place in
+      let key = λ (s : Said). s.line in
       let place = line_below above 1 in
-      let one : Said = record { place = place; cause = Separator } in
+      let one : Said = record { line = place; cause = Separator } in
       let P : Said → Type 0 = IsOfKey key of_schedule place in
       let none_first = no_schedule_in first (not_first 3 (omega arith)) in
       let none_after = no_schedule_in behind not_after in
@@ -499,7 +499,7 @@ module _ (component : List ℕ) (lines : List (List ℕ)) (behind further runs f
       (matrix_right c matrix (told ++ warned) behind (not_both 2 told warned (not_other 2 1 told (λ e. omega arith) (faults_of part.Component 1 (λ k n. refl) 0 (faults_in component_lint component))) (not_other 2 0 warned (λ e. omega arith) (warnings_are c (lines_of component)))) here)))))
 
 -- the parts after the matrix
-further_least : (m : Option Matrix) (above : ℕ) (texts : List (List ℕ)) (first further runs found said : List Said) → found ≡ (first ++ further) ++ runs → IsPermutation found said → IsStableByKey (λ s. s.place) nat_cmp found said → ((p : ℕ) → 3 ≤ p → AreNot p first) → AreOf 0 runs → AfterMatrix m above texts further → FurtherLeast m texts said
+further_least : (m : Option Matrix) (above : ℕ) (texts : List (List ℕ)) (first further runs found said : List Said) → found ≡ (first ++ further) ++ runs → IsPermutation found said → IsStableByKey (λ s. s.line) nat_cmp found said → ((p : ℕ) → 3 ≤ p → AreNot p first) → AreOf 0 runs → AfterMatrix m above texts further → FurtherLeast m texts said
 further_least m above [] first further runs found said parts moved stable not_first are_runs h = tt
 further_least m above (text ∷ texts) first further runs found said parts moved stable not_first are_runs h =
     let all : found ≡ (first ++ (h.0 ++ h.2.0)) ++ runs = parts ∙ ap (λ (xs : List Said). (first ++ xs) ++ runs) h.2.2 in
@@ -511,7 +511,7 @@ in_order a b m f r =
     ap (λ (x : List Said). a ++ x) (sym (append_assoc b m (f ++ r)))
     ∙ (sym (append_assoc a (b ++ m) (f ++ r)) ∙ sym (append_assoc (a ++ (b ++ m)) f r))
 
-by_parts : (bound : ℕ) (parts lines : List (List ℕ)) (found said : List Said) → SaysFurther (PartsSaid bound parts) (separators_from 1 lines) found → IsPermutation found said → IsStableByKey (λ s. s.place) nat_cmp found said → PartsLeast parts said
+by_parts : (bound : ℕ) (parts lines : List (List ℕ)) (found said : List Said) → SaysFurther (PartsSaid bound parts) (separators_from 1 lines) found → IsPermutation found said → IsStableByKey (λ s. s.line) nat_cmp found said → PartsLeast parts said
 by_parts bound [] lines found said h moved stable = tt
 by_parts bound (component ∷ []) lines found said h moved stable =
     let none : List Said = [] in

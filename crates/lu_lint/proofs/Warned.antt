@@ -32,10 +32,10 @@ one_more all w = map-append without_words all (w ∷ [])
 
 -- one hint more is found at a line
 pub found_more : (at : Position) (hints : List FoundHint) (i : ℕ) (d : FoundHint) (place : ℕ) (before now next : List Possible) → i < length hints → place ≡ line_before at.seen.items at.line (get_or hints i d).back → now ≡ before ++ map (found_at at) (take i hints)
-    → next ≡ now ++ record { place = place; hint = (get_or hints i d).hint; unless_named = (get_or hints i d).unless_named } ∷ [] → next ≡ before ++ map (found_at at) (take (i + 1) hints)
+    → next ≡ now ++ record { line = place; hint = (get_or hints i d).hint; unless_named = (get_or hints i d).unless_named } ∷ [] → next ≡ before ++ map (found_at at) (take (i + 1) hints)
 found_more at hints i d place before now next within is so_far more =
     let here = map (found_at at) (take i hints) in
-    let one : ℕ → Possible = λ n. record { place = n; hint = (get_or hints i d).hint; unless_named = (get_or hints i d).unless_named } in
+    let one : ℕ → Possible = λ n. record { line = n; hint = (get_or hints i d).hint; unless_named = (get_or hints i d).unless_named } in
     rw (take_more hints i d within) (more
     ∙ (ap (λ (x : List Possible). x ++ one place ∷ []) so_far
     ∙ (append_assoc before here (one place ∷ [])

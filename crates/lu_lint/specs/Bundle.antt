@@ -33,7 +33,7 @@ is_blurred line = is_meant_as_separator line && not (is_separator line)
 -- what is said of such a line, which is line n
 abbrev pub separator_said : ℕ → List ℕ → List Said
 separator_said n line =
-    if is_blurred line then record { place = n; cause = Separator } ∷ [] else []
+    if is_blurred line then record { line = n; cause = Separator } ∷ [] else []
 
 -- what is said of such lines, of which the first is line n
 abbrev pub separators_from : ℕ → List (List ℕ) → List Said
@@ -100,7 +100,7 @@ abbrev pub LintsComponentLines : {E Y Z : Type 0} → Result (Vec Remark Z × Re
 LintsComponentLines result before lines =
     SaysAndReads result before (component_lines_said lines) (read_of_lines lines)
 
--- what is said of the parts after a matrix that is read or not, before which so many lines stand,
+-- what is said of the parts after a matrix that is read or not, before which this many lines stand,
 -- and by runs
 abbrev pub AfterMatrixAndRuns : ℕ → ReadComponent → Option Matrix → ℕ → List ℕ → List (List ℕ)
     → List Said
@@ -117,7 +117,7 @@ abbrev pub SaysRest : {E Y Z : Type 0} → Result (Vec Remark Z) E → Vec Remar
 SaysRest result before bound c m above matrix parts =
     SaysSuch result before (AfterMatrixAndRuns bound c m above matrix parts)
 
--- what is said on a matrix, before which so many lines stand: of it, of the parts after it, and
+-- what is said on a matrix, before which this many lines stand: of it, of the parts after it, and
 -- by runs
 abbrev pub OnMatrix : ℕ → ReadComponent → ℕ → List ℕ → List (List ℕ) → List Said → Type 0
 OnMatrix bound c above matrix parts said =
@@ -126,7 +126,7 @@ OnMatrix bound c above matrix parts said =
     × RunsSaid bound c (matrix_read c matrix) above matrix runs
     × (said ≡ matrix_said c above matrix ++ (further ++ runs))
 
--- what is said of the parts after a component, before which so many lines stand
+-- what is said of the parts after a component, before which this many lines stand
 abbrev pub AfterComponent : ℕ → ReadComponent → ℕ → List (List ℕ) → List Said → Type 0
 AfterComponent bound c above [] said = said ≡ []
 AfterComponent bound c above (matrix ∷ parts) said = OnMatrix bound c above matrix parts said
@@ -148,4 +148,4 @@ BundleSaid bound bundle said =
 abbrev pub IsSaidOf : ℕ → List ℕ → List Said → Type 0
 IsSaidOf bound bundle said =
     (found : List Said) × BundleSaid bound bundle found × IsPermutation found said
-    × IsStableByKey (λ s. s.place) nat_cmp found said
+    × IsStableByKey (λ s. s.line) nat_cmp found said

@@ -7,7 +7,7 @@ use Rattle.lu_lang.specs.Faulty.{FaultyDraft}
 use Rattle.lu_lang.specs.Grammar.{component_grammar}
 use Rattle.lu_text.specs.Faults.{fault_in, meaning_of_lines}
 use Rattle.lu_lang.specs.Meant.{faulty_grammar, mend_faulty}
-use Rattle.lu_lang.specs.Place.{backs, left_backs, open_backs}
+use Rattle.lu_lang.specs.FaultLines.{backs, left_backs, open_backs}
 use Rattle.lu_lint.specs.declared.component.ReadComponent.{ReadComponent}
 use Rattle.lu_lint.specs.declared.component.ReadComponent.TheVariants as read
 use Rattle.lu_lint.specs.declared.remark.Position.{Position}
@@ -20,7 +20,7 @@ use Rattle.lu_lint.specs.Said.{said_faults}
 abbrev pub faulty_backs : FaultyDraft → List ℕ → LangFaultKind → List ℕ
 faulty_backs f line kind = backs f.draft line kind
 
--- jumps to labels that are not there, so many lines with words before a line
+-- jumps to labels that are not there, this many lines with words before a line
 abbrev pub jumps : List ℕ → List (LangFaultKind × ℕ)
 jumps backs = map (λ back. (Name, back)) backs
 
@@ -43,7 +43,7 @@ component_lint = record {
   of = part.Component;
 }
 
--- by how many lines with words the jumps stand before a line that are told beside its fault
+-- by how many lines with words the jumps stand before a line that are reported beside its fault
 abbrev pub backs_beside : FaultyDraft → List ℕ → List (List ℕ) → Option LangFaultKind → List ℕ
 backs_beside f line lines None = []
 backs_beside f line lines (Some kind) = left_backs f.draft line lines kind
@@ -75,7 +75,7 @@ read_as f sound =
 
 -- ---- what is said, of a line that stands here
 
--- of jumps to labels that are not there, so many lines with words before it
+-- of jumps to labels that are not there, this many lines with words before it
 abbrev pub jumps_said : Position → LangFaultKind → List ℕ → List Said
 jumps_said at kind backs =
     said_faults part.Component at.above (map (told_at at.seen.items at.line kind) backs)

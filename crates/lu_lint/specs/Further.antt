@@ -11,7 +11,7 @@ use Rattle.lu_lint.specs.Parts.{SaidOfSome, PartSaid, histories_of, kind_of}
 -- where parts stand after the fourth, that is said of the line before them
 abbrev pub fifth_said : ℕ → List (List ℕ) → List Said
 fifth_said above [] = []
-fifth_said above (text ∷ texts) = record { place = above; cause = FifthPart } ∷ []
+fifth_said above (text ∷ texts) = record { line = above; cause = FifthPart } ∷ []
 
 -- what is said of a fourth part, which is to be a specification, and that parts stand after it
 abbrev pub FourthSaid : Option Matrix → ℕ → List (List ℕ) → List Said → Type 0

@@ -8,17 +8,17 @@ use Rattle.lu_text.specs.Words.{Word}
 use Rattle.lu_text.specs.Faults.{Grammar}
 use Rattle.lu_lint.specs.declared.remark.FaultKind.{FaultKind}
 
--- A fault, the line that it is a fault of, and the line that its message stands on.
+-- A fault, the line that it is a fault of, and the line that its message is shown on.
 pub record Told (Kind : Type 0) : Type 0 where
   pub kind : Kind
   pub line : ℕ
-  pub place : ℕ
+  pub shown_on : ℕ
 
 -- How a text is read after its first fault. A line that has a fault leaves `mend` of the draft
 -- before it, of the line, and of the lines after it. Each message stands one of `backs` lines with
 -- words before the line; one stands on the line itself where that is empty. Beside the fault
--- `others` are told, each a kind, and by how many lines with words its message stands before the
--- line; and `end_others` beside a fault of the end. `of` says of which part such a fault is.
+-- `others` are reported, each a kind, and by how many lines with words its message stands before
+-- the line; and `end_others` beside a fault of the end. `of` says of which part such a fault is.
 pub record Lint (Kind Draft Value : Type 0) : Type 0 where
   pub grammar : Grammar Kind Draft Value
   pub mend : Draft → List ℕ → List (List ℕ) → Draft
@@ -34,15 +34,15 @@ seen_with seen n words = if length words == 0 then seen else seen ++ n ∷ []
 abbrev pub with_words : List ℕ → ℕ → List ℕ → List ℕ
 with_words seen n line = seen_with seen n (words_of line)
 
--- the line so many lines with words before line n
+-- the line this many lines with words before line n
 abbrev pub line_before : List ℕ → ℕ → ℕ → ℕ
 line_before seen n back = unwrap_or (slice_get seen (length seen - back)) n
 
--- a fault of line n that is told on line `place`
+-- a fault of line n whose message is shown on this line
 abbrev pub told_there : {Kind : Type 0} → ℕ → Kind → ℕ → Told Kind
-told_there n kind place = record { kind = kind; line = n; place = place }
+told_there n kind line = record { kind = kind; line = n; shown_on = line }
 
--- on the line so many lines with words before it
+-- on the line this many lines with words before it
 abbrev pub told_at : {Kind : Type 0} → List ℕ → ℕ → Kind → ℕ → Told Kind
 told_at seen n kind back = told_there n kind (line_before seen n back)
 
@@ -50,7 +50,7 @@ told_at seen n kind back = told_there n kind (line_before seen n back)
 abbrev pub told_here : {Kind : Type 0} → ℕ → Kind → Told Kind
 told_here n kind = told_there n kind n
 
--- what is told of a fault of line n
+-- what is reported of a fault of line n
 abbrev pub told : {Kind : Type 0} → List ℕ → ℕ → Kind → List ℕ → List (Told Kind)
 told seen n kind [] = told_here n kind ∷ []
 told seen n kind (back ∷ backs) = map (told_at seen n kind) (back ∷ backs)
@@ -63,7 +63,7 @@ abbrev pub told_on : {Kind Draft Value : Type 0} → Lint Kind Draft Value → L
 told_on l seen n d line None = []
 told_on l seen n d line (Some kind) = told seen n kind (l.backs d line kind)
 
--- what is told of others beside a fault of line n
+-- what is reported of others beside a fault of line n
 abbrev pub others_told : {Kind : Type 0} → List ℕ → ℕ → List (Kind × ℕ) → List (Told Kind)
 others_told seen n others = map (λ other. told_at seen n other.0 other.1) others
 

@@ -41,8 +41,8 @@ remark_word (Run hint) = codes "warning: "
 
 -- the line of the bundle, and the words
 abbrev pub remark_head : ℕ → List ℕ → List ℕ → List ℕ
-remark_head place word words =
-    codes "line " ++ decimal place ++ codes ": " ++ word ++ words
+remark_head line word words =
+    codes "line " ++ decimal line ++ codes ": " ++ word ++ words
 
 -- the code of a fault and its line in the part, as the other commands name them
 abbrev pub fault_tail : FaultKind → ℕ → List ℕ
@@ -61,7 +61,7 @@ remark_tail (Run hint) = codes "\n"
 -- a line for one remark
 abbrev pub remark_text : Remark → List ℕ
 remark_text r =
-    remark_head r.said.place (remark_word r.said.cause) (string_bytes r.words)
+    remark_head r.said.line (remark_word r.said.cause) (string_bytes r.words)
     ++ remark_tail r.said.cause
 
 abbrev pub remarks_text : List Remark → List ℕ

@@ -24,7 +24,7 @@ use Rattle.lu_lint.specs.Warnings.{Possible, found_at, hints_while, without_word
 abbrev pub line_read : FaultyDraft → List ℕ → FaultyDraft × Option LangFaultKind
 line_read f line = going_on f (faulty_grammar.line f line)
 
--- what is said of a line that stands here, where it has a fault, and of the jumps that are told
+-- what is said of a line that stands here, where it has a fault, and of the jumps that are reported
 -- beside it; `lines` are those after it
 abbrev pub all_on_line : Position → FaultyDraft → List ℕ → List (List ℕ)
     → Option LangFaultKind
@@ -57,7 +57,8 @@ hints_at at sound f words = map (found_at at) (hints_while sound f.draft words)
 abbrev pub line_at : Reading → ℕ → Position
 line_at r n = record { above = 0; line = n; seen = r.seen }
 
--- The warnings are found too of a line of these words, which is line n, and nothing else is changed.
+-- The warnings are found too of a line of these words, which is line n, and nothing else is
+-- changed.
 pub record FindsAt (r : Reading) (n : ℕ) (words : List Word) (next : Reading) : Type 0 where
   pub found : map without_words next.warnings.items ≡ map without_words r.warnings.items
       ++ hints_at (line_at r n) r.sound r.draft words

@@ -62,7 +62,7 @@ ShownByRun s hints =
     × (IsFeasible end first_move → MOST_MOVES_OF_SETUP ≤ moves)
     × (hints ≡ setup_hints history)
 
--- so many moves, each of thread 0 and pick 0, are the setup's, and this is their history
+-- this many moves, each of thread 0 and pick 0, are the setup's, and this is their history
 abbrev pub SetupRuns : Component → Matrix → ℕ → List Event → Type 0
 SetupRuns c matrix moves history =
     (end : State) × SetsUp c matrix end
@@ -80,7 +80,7 @@ ShownBySetup c matrix hints =
 abbrev pub operation_count : ℕ → List SerialOp → ℕ
 operation_count t ops = length (filter (λ op. op.thread == t) ops)
 
--- an operation that traps, and one that is stuck, are told
+-- an operation that traps, and one that is stuck, are reported
 abbrev pub ending_of : SerialOutcome → Option Ending
 ending_of (Ret n) = None
 ending_of Trap = Some Trapped
@@ -241,10 +241,10 @@ hint_line setup threads (SetupGoesOn k) = number_at setup 0
 hint_line setup threads (SetupTraps k) = number_at setup 0
 hint_line setup threads (Serial hint) = number_at threads hint.thread
 
--- what is said of a hint of a matrix with these lines, before which so many of the bundle stand
+-- what is said of a hint of a matrix with these lines, before which this many of the bundle stand
 abbrev pub said_of_hint : ℕ → List ℕ → List ℕ → RunHint → Said
 said_of_hint above setup threads hint =
-    record { place = line_below above (hint_line setup threads hint); cause = Run hint }
+    record { line = line_below above (hint_line setup threads hint); cause = Run hint }
 
 -- what is said of these hints of a matrix with this text
 abbrev pub all_shown : ℕ → List ℕ → List RunHint → List Said

@@ -41,7 +41,7 @@ abbrev pub SaysSuch : {E Y Z : Type 0} → Result (Vec Remark Z) E → Vec Remar
 SaysSuch result before P =
     IfOk result (λ next. SaysFurther P (said_of before.items) (said_of next.items))
 
--- line n of a part, before which so many lines of the bundle stand
+-- line n of a part, before which this many lines of the bundle stand
 abbrev pub line_below : ℕ → ℕ → ℕ
 line_below above n = min (above + n) (2 ^ 64 - 1)
 
@@ -52,7 +52,7 @@ above_next above part = line_below above (length (kept_lines part) + 1)
 -- a fault of such a part
 abbrev pub said_told : {Kind : Type 0} → (Kind → FaultKind) → ℕ → Told Kind → Said
 said_told of above t =
-    record { place = line_below above t.place; cause = Fault (of t.kind) t.line }
+    record { line = line_below above t.shown_on; cause = Fault (of t.kind) t.line }
 
 -- the faults of such a part
 abbrev pub said_faults : {Kind : Type 0} → (Kind → FaultKind) → ℕ → List (Told Kind) → List Said

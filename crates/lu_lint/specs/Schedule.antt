@@ -42,7 +42,7 @@ form_faults (Some words) = words_faults words
 abbrev pub schedule_faults : List ℕ → List ScheduleFault
 schedule_faults text = form_faults (schedule_words text)
 
--- all are told on its first line
+-- all are reported on its first line
 abbrev pub schedule_told : List ScheduleFault → List (Told ScheduleFault)
 schedule_told faults = map (told_here 1) faults
 

@@ -61,7 +61,7 @@ holds c (Some named) = not (is_named c named)
 
 -- ---- an operation, at its `end`
 
--- a hint that holds of each component, which stands so many lines with words before the line
+-- a hint that holds of each component, which stands this many lines with words before the line
 abbrev pub found : ℕ → Hint → FoundHint
 found back hint = record { back = back; hint = hint; unless_named = None }
 
@@ -92,7 +92,7 @@ returns_by b row place (JumpIfZero v label) =
 abbrev pub next_returns : OpenOp → List Bool → List Bool
 next_returns b row = map (λ s. returns_by b row s.0 s.1) (enumerate_from 0 b.statements)
 
--- from which places a return is reached by at most so many instructions
+-- from which places a return is reached by at most this many instructions
 unfoldable pub returns_within : OpenOp → ℕ → List Bool
 returns_within b zero = map (λ s. false) b.statements
 returns_within b (suc n) = next_returns b (returns_within b n)
@@ -208,14 +208,14 @@ hints_while sound d words = if sound then words_hints d words else []
 
 -- A warning on a line, which holds of a component where no instruction of it names that.
 pub record Possible : Type 0 where
-  pub place : ℕ
+  pub line : ℕ
   pub hint : Hint
   pub unless_named : Option Declared
 
 -- of a hint at line n
 abbrev pub possible : List ℕ → ℕ → FoundHint → Possible
 possible seen n f =
-    record { place = line_before seen n f.back; hint = f.hint; unless_named = f.unless_named }
+    record { line = line_before seen n f.back; hint = f.hint; unless_named = f.unless_named }
 
 -- the draft after a line, which has no fault
 abbrev pub next_draft : ComponentDraft → List ℕ → ComponentDraft
@@ -234,7 +234,7 @@ possible_of_lines lines = possible_after [] 1 nothing lines
 
 -- what is said of one
 abbrev pub warned : Possible → Said
-warned w = record { place = w.place; cause = Warning w.hint }
+warned w = record { line = w.line; cause = Warning w.hint }
 
 -- what is said of those that hold of this component
 abbrev pub held : Component → List Possible → List Said
@@ -248,7 +248,7 @@ warnings_of_lines c lines = held c (possible_of_lines lines)
 
 -- a warning without its words
 abbrev pub without_words : PossibleWarning → Possible
-without_words w = record { place = w.place; hint = w.hint; unless_named = w.unless_named }
+without_words w = record { line = w.line; hint = w.hint; unless_named = w.unless_named }
 
 -- where it succeeds, these are found too, after those before
 abbrev pub FindsAlso : {E Y Z : Type 0} → Result (Vec PossibleWarning Z) E → Vec PossibleWarning Y

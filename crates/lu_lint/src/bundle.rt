@@ -41,7 +41,7 @@ fn with_separator<W: Wording>(
         return Ok(all);
     }
     let said = Said {
-        place: number,
+        line: number,
         cause: Cause::Separator,
     };
     with_remark(all, said, wording.separator(alloc, line)?)

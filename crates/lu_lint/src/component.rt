@@ -25,18 +25,19 @@ use lu_lang::{
 use lu_text::{lines_of, words_of};
 use std::alloc::{AllocError, Global};
 
-/// What is said of a fault of a component, whose message stands on line `place` of it.
-fn said(at: &Position, kind: LangFaultKind, place: usize) -> Said
+/// What is said of a fault of a component, whose message is shown on this line of it.
+fn said(at: &Position, kind: LangFaultKind, line: usize) -> Said
     ensures { result ≡ said_told part.Component at.now.above
-        (told_there at.now.line kind place) }
+        (told_there at.now.line kind line) }
 {
     Said {
-        place: line_below(at.above, place),
+        line: line_below(at.above, line),
         cause: Cause::Fault(FaultKind::Component(kind), at.line),
     }
 }
 
-/// The remarks with those on jumps to labels that are not there, which stand so many lines before.
+/// The remarks with those on jumps to labels that are not there, which stand this many lines
+/// before.
 fn with_jumps<W: Wording>(
     alloc: Global,
     wording: &W,
@@ -50,8 +51,8 @@ fn with_jumps<W: Wording>(
 {
     for back in backs {
         let words = wording.missing_label(alloc, draft, *back)?;
-        let place = line_before(&at.seen, at.line, *back);
-        all = with_remark(all, said(at, kind, place), words)?;
+        let line = line_before(&at.seen, at.line, *back);
+        all = with_remark(all, said(at, kind, line), words)?;
     }
     Ok(all)
 }
@@ -112,7 +113,7 @@ fn with_line<W: Wording>(
 }
 
 /// By how many lines with words the jumps to labels that are not there stand before a line that are
-/// told beside its fault; `lines` are those after it.
+/// reported beside its fault; `lines` are those after it.
 fn backs_beside(
     alloc: Global,
     draft: &FaultyDraft,
@@ -259,8 +260,8 @@ fn with_line_hints<W: Wording>(
     Ok(warnings)
 }
 
-/// The remarks with those on this line, where it has a fault, and on the jumps that are told beside
-/// it; `lines` are those after it.
+/// The remarks with those on this line, where it has a fault, and on the jumps that are reported
+/// beside it; `lines` are those after it.
 fn with_line_faults<W: Wording>(
     alloc: Global,
     wording: &W,

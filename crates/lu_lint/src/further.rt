@@ -31,7 +31,7 @@ fn with_fifth<W: Wording>(
         None => Ok(all),
         Some(_) => {
             let said = Said {
-                place: above,
+                line: above,
                 cause: Cause::FifthPart,
             };
             let words = wording.fifth_part(alloc)?;

@@ -20,7 +20,7 @@ fn said(above: usize, kind: RecordedFaultKind, line: usize) -> Said
     ensures { result ≡ said_told part.History above (lint.told_here line kind) }
 {
     Said {
-        place: line_below(above, line),
+        line: line_below(above, line),
         cause: Cause::Fault(FaultKind::History(kind), line),
     }
 }

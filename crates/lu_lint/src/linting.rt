@@ -173,13 +173,13 @@ pub fn have_fault(remarks: &[Remark]) -> bool
 /// begins with `lineup`, else a recorded history where its first word is `call`, `return` or
 /// `stuck`, and else a schedule. After a schedule or a report a specification may stand, and a
 /// part after that is one too many; after a specification or a recorded history all parts are
-/// recorded histories. Each fault of a schedule and of a report is told, and, where the matrix is
-/// read, each fault of a specification and the first of each recorded history. Of a part, the one
-/// with the least line of the part is that for which its reader refuses the text
+/// recorded histories. Each fault of a schedule and of a report is reported, and, where the matrix
+/// is read, each fault of a specification and the first of each recorded history. Of a part, the
+/// one with the least line of the part is that for which its reader refuses the text
 /// ([`agree`](crate::agree)).
 ///
-/// A line that is nearly `---` parts too, so that what stands after it is not told for it. Where
-/// the component is read, its warnings are said too, which are no faults.
+/// A line that is nearly `---` parts too, so that what stands after it is not reported for it.
+/// Where the component is read, its warnings are said too, which are no faults.
 ///
 /// Where the matrix is read too, runs are made, and more warnings said: each call of the setup that
 /// traps, or the first that does not end; and each call of a thread that traps or is stuck in a
@@ -202,13 +202,13 @@ pub fn lint<W: Wording>(
     // What is said, and of which lines.
     ensures said { IfOk result (λ l. IsSaidOf serial bundle.now (said_of l.remarks.items)) }
     // It is in the order of the lines.
-    ensures ordered { IfOk result (λ l. IsNonDecreasingBy (λ r. r.said.place) l.remarks.items) }
+    ensures ordered { IfOk result (λ l. IsNonDecreasingBy (λ r. r.said.line) l.remarks.items) }
     // The text says it, in the words of the remarks.
     ensures text { IfOk result (λ l. string_bytes l.text ≡ remarks_text l.remarks.items) }
     ensures faults { IfOk result (λ l. l.faults ≡ said.have_fault l.remarks.items) }
 {
     let mut remarks = remarks_on(alloc, wording, bundle, serial)?;
-    remarks.sort_by_key(|remark| remark.said.place)?;
+    remarks.sort_by_key(|remark| remark.said.line)?;
     let mut text = String::new(alloc);
     write_remarks(&mut text, &remarks)?;
     let faults = have_fault(&remarks);

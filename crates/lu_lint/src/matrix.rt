@@ -45,7 +45,7 @@ fn said(above: usize, kind: MatrixFaultKind, line: usize) -> Said
     ensures { result ≡ said_told part.Matrix above (told_here line kind) }
 {
     Said {
-        place: line_below(above, line),
+        line: line_below(above, line),
         cause: Cause::Fault(FaultKind::Matrix(kind), line),
     }
 }

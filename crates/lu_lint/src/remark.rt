@@ -198,7 +198,7 @@ impl Cause {
 /// A line of the bundle, from 1, and what is said of it.
 #[derive(Debug, Drop)]
 pub struct Said {
-    pub place: usize,
+    pub line: usize,
     pub cause: Cause,
 }
 
@@ -222,7 +222,8 @@ pub(crate) struct Position {
     pub seen: Vec<usize>,
 }
 
-/// Line `line` of a part, before which so many lines of the bundle stand, as a line of the bundle.
+/// Line `line` of a part, before which this many lines of the bundle stand, as a line of the
+/// bundle.
 pub(crate) fn line_below(above: usize, line: usize) -> usize
     ensures { result ≡ said.line_below above line }
 {
@@ -257,12 +258,12 @@ pub(crate) fn with_words(
     Ok(seen)
 }
 
-/// The line so many lines with words before a line.
+/// The line this many lines with words before a line.
 pub(crate) fn line_before(seen: &[usize], line: usize, back: usize) -> usize
     ensures { result ≡ spec.line_before seen.now line back }
 {
-    let place = seen.len().saturating_sub(back);
-    match seen.get(place) {
+    let index = seen.len().saturating_sub(back);
+    match seen.get(index) {
         None => line,
         Some(found) => *found,
     }

@@ -16,7 +16,7 @@ fn report_said(above: usize, fault: &ReportLineFault) -> Said
     ensures { result ≡ spec.report_said above fault.now }
 {
     Said {
-        place: line_below(above, fault.line),
+        line: line_below(above, fault.line),
         cause: Cause::Fault(FaultKind::Report(ReportFaultKind::Form), fault.line),
     }
 }

@@ -108,10 +108,10 @@ fn lines_with(alloc: Global, word: &[u8], text: &[u8]) -> Result<Vec<usize>, All
     lines_from(alloc, word, &lines)
 }
 
-fn number_at(numbers: &[usize], place: usize) -> usize
-    ensures { result ≡ spec.number_at numbers.now place }
+fn number_at(numbers: &[usize], index: usize) -> usize
+    ensures { result ≡ spec.number_at numbers.now index }
 {
-    match numbers.get(place) {
+    match numbers.get(index) {
         None => 0,
         Some(number) => *number,
     }
@@ -133,7 +133,7 @@ fn said_of_hint(above: usize, setup: &[usize], threads: &[usize], hint: RunHint)
     ensures { result ≡ spec.said_of_hint above setup.now threads.now hint }
 {
     Said {
-        place: line_below(above, hint_line(setup, threads, &hint)),
+        line: line_below(above, hint_line(setup, threads, &hint)),
         cause: Cause::Run(hint),
     }
 }

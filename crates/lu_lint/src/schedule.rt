@@ -18,7 +18,7 @@ fn said(above: usize, kind: ScheduleFault) -> Said
     ensures { result ≡ said_told part.Schedule above (lint.told_here 1 kind) }
 {
     Said {
-        place: line_below(above, 1),
+        line: line_below(above, 1),
         cause: Cause::Fault(FaultKind::Schedule(kind), 1),
     }
 }

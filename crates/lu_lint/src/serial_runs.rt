@@ -28,7 +28,7 @@ pub fn operation_count(thread: u8, ops: &[SerialOp]) -> usize
     ops.iter().filter(|op| op.thread == thread).count()
 }
 
-/// How an operation ends, where that is told.
+/// How an operation ends, where that is reported.
 fn ending_of(outcome: SerialOutcome) -> Option<Ending>
     ensures { result ≡ spec.ending_of outcome }
 {
@@ -91,7 +91,7 @@ fn with_hint(mut told: Vec<SerialHint>, hint: SerialHint) -> Result<Vec<SerialHi
     Ok(told)
 }
 
-/// The hints with that of an operation after these, where it is told.
+/// The hints with that of an operation after these, where it is reported.
 fn with_op(
     alloc: Global,
     told: Vec<SerialHint>,
@@ -114,8 +114,8 @@ fn with_history(
 ) -> Result<Vec<SerialHint>, AllocError>
     ensures { HasItems result (with_firsts told.items (history_hints history.now)) }
 {
-    for (place, op) in history.iter().enumerate() {
-        let (before, _) = history.split_at(place);
+    for (position, op) in history.iter().enumerate() {
+        let (before, _) = history.split_at(position);
         told = with_op(alloc, told, before, *op)?;
     }
     Ok(told)

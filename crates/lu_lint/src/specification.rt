@@ -17,7 +17,7 @@ fn specification_said(above: usize, fault: &SpecLineFault) -> Said
     ensures { result ≡ spec.specification_said above fault.now }
 {
     Said {
-        place: line_below(above, fault.line),
+        line: line_below(above, fault.line),
         cause: Cause::Fault(FaultKind::Specification(fault.kind), fault.line),
     }
 }

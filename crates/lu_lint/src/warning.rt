@@ -26,7 +26,7 @@ pub(crate) enum Declared {
     Lock(usize),
 }
 
-/// A hint, which stands so many lines with words before a line.
+/// A hint, which stands this many lines with words before a line.
 #[derive(Clone, Copy, Drop)]
 pub(crate) struct FoundHint {
     pub back: usize,
@@ -40,7 +40,7 @@ pub(crate) struct FoundHint {
 #[derive(Drop)]
 pub(crate) struct PossibleWarning {
     /// The line that it stands on.
-    place: usize,
+    line: usize,
     hint: Hint,
 
     /// It does not hold where an instruction of the component names this.
@@ -289,7 +289,7 @@ fn only_try(statements: &[Statement]) -> bool
             .all(|statement| tries(statement) || passes(statement))
 }
 
-/// The instructions from a place on, so many of them.
+/// The instructions from a place on, this many of them.
 fn between(statements: &[Statement], from: usize, count: usize) -> &[Statement]
     ensures { result.now ≡ take count (drop from statements.now) }
 {
@@ -461,7 +461,7 @@ pub(crate) fn with_found<W: Wording>(
     for found in hints {
         let words = wording.warning(alloc, draft, text, found.hint, found.back)?;
         let warning = PossibleWarning {
-            place: line_before(&at.seen, at.line, found.back),
+            line: line_before(&at.seen, at.line, found.back),
             hint: found.hint,
             unless_named: found.unless_named,
             words,
@@ -490,7 +490,7 @@ fn remark_if(component: &Component, warning: PossibleWarning) -> Option<Remark>
         return None;
     }
     let said = Said {
-        place: warning.place,
+        line: warning.line,
         cause: Cause::Warning(warning.hint),
     };
     Some(Remark {

@@ -20,7 +20,7 @@ pub trait Wording {
         text: &[u8],
     ) -> Result<String, AllocError>;
 
-    /// For a jump to a label that is not there, which so many instructions of the open operation
+    /// For a jump to a label that is not there, which this many instructions of the open operation
     /// follow with it.
     fn missing_label(
         &self,
@@ -56,7 +56,7 @@ pub trait Wording {
         word: &[u8],
     ) -> Result<String, AllocError>;
 
-    /// For a schedule of so many moves, which are too many.
+    /// For a schedule of this many moves, which are too many.
     fn schedule_length(&self, alloc: Global, moves: usize) -> Result<String, AllocError>;
 
     /// For a fault of a report on this line, where there is one.
@@ -93,8 +93,8 @@ pub trait Wording {
     /// For a part after the fourth.
     fn fifth_part(&self, alloc: Global) -> Result<String, AllocError>;
 
-    /// For a warning that is found at a component's line after this draft, and stands so many lines
-    /// with words before it.
+    /// For a warning that is found at a component's line after this draft, and stands this many
+    /// lines with words before it.
     fn warning(
         &self,
         alloc: Global,

@@ -42,7 +42,7 @@ fn write_remark(text: &mut String, remark: &Remark) -> Result<(), AllocError>
     write!(
         text,
         "line {}: {}{}",
-        remark.said.place,
+        remark.said.line,
         remark_word(cause),
         remark.words.as_str()
     )?;

@@ -27,15 +27,15 @@ IsChange (GoesTo place) = place ≤ 64
 IsChange (Sets place r n) = (place ≤ 64) × IsRegister r
 IsChange (Finishes outcome) = Unit {0}
 
--- a thread that is idle, after so many operations
+-- a thread that is idle, after this many operations
 abbrev pub idle : ℕ → Thread
 idle done = record { done = done; activity = Idle }
 
--- a thread whose operation f is open, after so many others
+-- a thread whose operation f is open, after this many others
 abbrev pub at_work : ℕ → Frame → Thread
 at_work done f = record { done = done; activity = Open f }
 
--- thread t has an operation open, after so many others
+-- thread t has an operation open, after this many others
 abbrev pub IsAtWork : State → ℕ → ℕ → Type 0
 IsAtWork s t done = (f : Frame) × (slice_get s.threads t ≡ Some (at_work done f))
 

@@ -15,7 +15,7 @@ use Rattle.lu_machine.specs.declared.program.Task.{Task}
 use Rattle.lu_machine.specs.States.{State, first_cell, instr_at}
 use Rattle.lu_machine.specs.Tasks.{agenda_of, rows_of}
 
--- where the cells of the arrays stand, after so many others
+-- where the cells of the arrays stand, after this many others
 abbrev pub spans_of : ℕ → List Array → List Span
 spans_of before [] = []
 spans_of before (a ∷ arrays) =

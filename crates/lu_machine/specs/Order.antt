@@ -1,4 +1,4 @@
--- The order of schedules: the first place where they differ decides, and a proper beginning is
+-- The order of schedules: the first move in which they differ decides, and a proper beginning is
 -- smaller.
 use Rattle.std.specs.Prelude.{◌≡◌, ◌<◌, ◌⊎◌, List, [], ◌∷◌}
 use Rattle.lu_test.specs.declared.schedule.Move.{Move}

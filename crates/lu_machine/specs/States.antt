@@ -51,7 +51,7 @@ value_at s p = slice_index s.cells p
 abbrev pub owner_of : State → ℕ → Option ℕ
 owner_of s l = slice_index_or s.locks l None
 
--- the place of the cell that an instruction of the operation f names: array w at this index
+-- the number of the cell that an instruction of the operation f names: array w at this index
 abbrev pub cell_at : State → Frame → ℕ → Operand → Option ℕ
 cell_at s f w i = cell_of s.component w (value_of f i)
 

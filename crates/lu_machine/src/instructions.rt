@@ -109,8 +109,8 @@ impl Machine<'_> {
         requires value { IsOperand value }
         ensures { result ≡ equals self.now frame.now array index value }
     {
-        let place = self.cell(array, frame.value(index))?;
-        Some(self.value_at(place) == frame.value(value))
+        let cell = self.cell(array, frame.value(index))?;
+        Some(self.value_at(cell) == frame.value(value))
     }
 
     /// What the instruction does where it is carried out.
@@ -176,7 +176,7 @@ impl Machine<'_> {
     {
         match self.cell(array, frame.value(index)) {
             None => Change::Ends(Outcome::Trap),
-            Some(place) => frame.onward_with(to, self.value_at(place)),
+            Some(cell) => frame.onward_with(to, self.value_at(cell)),
         }
     }
 
@@ -189,10 +189,10 @@ impl Machine<'_> {
     {
         match self.cell(array, frame.value(index)) {
             None => alone(Change::Ends(Outcome::Trap)),
-            Some(place) => Act {
+            Some(cell) => Act {
                 change: frame.onward(),
                 shared: Shared::Cell {
-                    place,
+                    cell,
                     value: frame.value(value),
                 },
             },
@@ -216,10 +216,10 @@ impl Machine<'_> {
     {
         match self.cell(array, frame.value(index)) {
             None => alone(Change::Ends(Outcome::Trap)),
-            Some(place) if self.value_at(place) == frame.value(expected) => Act {
+            Some(cell) if self.value_at(cell) == frame.value(expected) => Act {
                 change: frame.onward_with(to, 1),
                 shared: Shared::Cell {
-                    place,
+                    cell,
                     value: frame.value(desired),
                 },
             },

@@ -230,7 +230,7 @@ impl<'a> Machine<'a> {
         &self.agendas[usize::from(thread)].frames[usize::from(k)]
     }
 
-    /// The place of cell `index` of the array among all cells: none at or past the array's length.
+    /// The number of cell `index` of the array among all cells: none at or past the array's length.
     /// The array is asked to be one of the component's.
     #[inline(always)]
     pub fn cell(&self, array: u8, index: u32) -> Option<usize>
@@ -247,13 +247,13 @@ impl<'a> Machine<'a> {
         }
     }
 
-    /// The value of the cell at this place, which [`Machine::cell`] returns.
+    /// The value of the cell of this number, which [`Machine::cell`] returns.
     #[inline(always)]
-    pub fn value_at(&self, place: usize) -> u32
-        requires { place < length self.now.cells }
-        ensures { result ≡ value_at self.now place }
+    pub fn value_at(&self, cell: usize) -> u32
+        requires { cell < length self.now.cells }
+        ensures { result ≡ value_at self.now cell }
     {
-        self.cells[place]
+        self.cells[cell]
     }
 
     /// The value of each cell, those of one array after those of the other.
@@ -279,19 +279,19 @@ impl<'a> Machine<'a> {
         self.locks[usize::from(lock)]
     }
 
-    /// Writes the cell at this place, and says what that overwrote.
+    /// Writes the cell of this number, and says what that overwrote.
     #[inline(always)]
-    pub(crate) fn set_cell(&mut self, place: usize, value: u32) -> Shared
-        requires { place < length self.old.cells }
-        ensures cell { self.new ≡ with_cell self.old place value }
+    pub(crate) fn set_cell(&mut self, cell: usize, value: u32) -> Shared
+        requires { cell < length self.old.cells }
+        ensures cell { self.new ≡ with_cell self.old cell value }
         ensures back { with_shared self.new result ≡ self.old }
         ensures there { IsThere self.new result }
     {
         let overwritten = Shared::Cell {
-            place,
-            value: self.cells[place],
+            cell,
+            value: self.cells[cell],
         };
-        self.cells[place] = value;
+        self.cells[cell] = value;
         overwritten
     }
 
@@ -321,7 +321,7 @@ impl<'a> Machine<'a> {
     {
         match shared {
             Shared::Nothing => Shared::Nothing,
-            Shared::Cell { place, value } => self.set_cell(place, value),
+            Shared::Cell { cell, value } => self.set_cell(cell, value),
             Shared::Owner { lock, owner } => self.set_owner(lock, owner),
         }
     }
@@ -522,9 +522,7 @@ impl<'a> Machine<'a> {
         ensures back { LeadsBack WHOLE self.old result self.new }
         ensures fits { CanTake self.new result }
     {
-        let Some(standing) = self.standing(next.thread) else {
-            unreachable!()
-        };
+        let standing = self.standing(next.thread).unwrap();
         let done = standing.done;
         match &standing.activity {
             Activity::Idle => self.open(next.thread, done),
@@ -602,7 +600,7 @@ impl<'a> Machine<'a> {
     {
         match undo.overwritten {
             Shared::Nothing => {}
-            Shared::Cell { place, value } => self.cells[place] = value,
+            Shared::Cell { cell, value } => self.cells[cell] = value,
             Shared::Owner { lock, owner } => self.locks[usize::from(lock)] = owner,
         }
         self.put_back(undo.thread, undo.event, undo.was);

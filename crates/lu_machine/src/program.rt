@@ -13,7 +13,7 @@ use lu_test::{Call, Calls, Matrix};
 use std::alloc::{AllocError, Global};
 
 /// The places of an operation's code, and one after the last.
-const PLACES: usize = 65;
+const MOST_PLACES: usize = 65;
 
 /// What an instruction waits for.
 #[derive(Clone, Copy, Debug)]
@@ -121,7 +121,7 @@ fn task_row(instrs: &[Instr]) -> [Task; 65]
     requires { length instrs.now ≤ MOST_INSTRS }
     ensures { result ≡ spec.task_row instrs.now }
 {
-    let mut row = [NO_TASK; PLACES];
+    let mut row = [NO_TASK; MOST_PLACES];
     for place in 0..instrs.len() {
         row[place] = task_of(&instrs[place]);
     }

@@ -10,7 +10,7 @@ use std::alloc::{AllocError, Global};
 /// The cells of one array among those of all.
 #[derive(Clone, Copy, Debug)]
 pub(crate) struct Span {
-    /// The place of its first cell.
+    /// The number of its first cell among all.
     pub(crate) first: usize,
 
     /// The number of its cells.

@@ -10,8 +10,8 @@ use crate::thread::OperationBefore;
 pub(crate) enum Shared {
     Nothing,
 
-    /// The cell at this place has this value.
-    Cell { place: usize, value: u32 },
+    /// The cell of this number has this value.
+    Cell { cell: usize, value: u32 },
 
     /// The lock has this owner, or none.
     Owner { lock: u8, owner: Option<u8> },

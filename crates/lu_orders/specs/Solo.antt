@@ -53,7 +53,7 @@ pub record Sharing : Type 0 where
 abbrev pub AreApart : Sharing → Type 0
 AreApart sharing = (t u : ℕ) → (t ≡ u → ⊥) → sharing.sees t ≡ true → sharing.keeps u ≡ true
 
--- what is left in s: each thread makes so many moves by itself, with these events, and what one
+-- what is left in s: each thread makes this many moves by itself, with these events, and what one
 -- sees the others keep
 pub record IsTail (s : State) (ns : List ℕ) (sharing : Sharing)
     (events_of : ℕ → LastEvents) : Type 0 where

@@ -9,7 +9,7 @@ use lu_machine::MOST_MOVES;
 use std::alloc::{AllocError, Global};
 use std::marker::Model;
 
-/// The numbers for so many moves of one thread, and each number of moves of another.
+/// The numbers for this many moves of one thread, and each number of moves of another.
 #[derive(Debug, Drop)]
 struct Row {
     numbers: Vec<u64>,
@@ -86,7 +86,7 @@ impl Row {
 }
 
 impl Orders {
-    /// The numbers for at most so many moves of each of two threads.
+    /// The numbers for at most this many moves of each of two threads.
     ///
     /// # Errors
     ///
@@ -118,7 +118,7 @@ impl Orders {
         }
     }
 
-    /// In how many orders threads can make so many moves each. Where all their moves together are
+    /// In how many orders threads can make this many moves each. Where all their moves together are
     /// no more than the table is for, their number is returned; else it may be none.
     pub fn interleavings(&self, lengths: &[usize]) -> Option<u64>
         ensures number { IfSome result (λ number. number ≡ capped (interleavings lengths.now)) }

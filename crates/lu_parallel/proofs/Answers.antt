@@ -1,5 +1,5 @@
 -- From a set of serial histories and what a search finds over it to a finding.
-use Rattle.std.proofs.Common.{◌≡◌, ℕ, List, [], Option, Some, IsSome, IsSomeAnd, refl}
+use Rattle.std.proofs.Common.{◌≡◌, ℕ, List, [], Option, Some, IfSome, IsSome, IsSomeAnd, refl}
 use Rattle.lu_report.specs.declared.report.Finding.{Finding}
 use Rattle.lu_report.specs.declared.report.Finding.TheVariants.{SerialCut, Nondeterministic, Fail, Pass}
 use Rattle.lu_test.specs.declared.schedule.Move.{Move}
@@ -90,3 +90,9 @@ pub found_kept : (Set : List SerialOp → Type 0) (s : State) (bound : ℕ) (Par
 found_kept Set s bound Part (Clean counts) finding some is = is
 found_kept Set s bound Part (Bad schedule why) finding some is = is
 found_kept Set s bound Part Abandoned finding some is = absurd cc
+
+-- what a search below the empty schedule found, unless it was abandoned, is what one finds
+pub may_find : (Set : List SerialOp → Type 0) (s : State) (bound : ℕ) (found : Found) → IsFoundWatched Set s bound (Below []) found → IfSome (finding_of found) (IsFindingAgainst Set s bound)
+may_find Set s bound (Clean counts) is = all_below Set s bound (Clean counts) is
+may_find Set s bound (Bad schedule why) is = all_below Set s bound (Bad schedule why) is
+may_find Set s bound Abandoned is = tt

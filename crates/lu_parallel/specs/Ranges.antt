@@ -22,7 +22,7 @@ choice bound serial workers depth = record {
   head_start = 0;
 }
 
--- the same with so many looks of a head start
+-- the same with this many looks of a head start
 abbrev pub with_head_start : ℕ → Options → Options
 with_head_start looks c = record c { head_start = looks }
 

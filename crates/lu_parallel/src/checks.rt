@@ -70,7 +70,7 @@ where
     };
     let works = run_workers(check.rt, job, seats)?;
     match conclude(space.alloc, board, works)? {
-        Some(found) => Ok(finding_of(found)),
+        Some(found) => Ok(finding_of(found).unwrap()),
         None => Err(CheckFault::Memory),
     }
 }
@@ -99,10 +99,7 @@ fn search_ahead<R, G, T: SerialTree>(
     let mut cache = Cache::new(space.alloc, tree, REMEMBERED)?;
     let mut watch = HeadStart::new(looks);
     let found = search_with(space, &tables, &mut cache, &whole, &mut watch)?;
-    if watch.stopped() {
-        return Ok(None);
-    }
-    Ok(Some(finding_of(found)))
+    Ok(finding_of(found))
 }
 
 /// What is found against the set of a tree. One worker searches all schedules on the calling

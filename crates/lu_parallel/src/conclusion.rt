@@ -1,6 +1,6 @@
 //! What all workers found together.
 
-ghost use Rattle.std.specs.Prelude.{◌≡◌, IfOk, OnOk, All, Contains, length};
+ghost use Rattle.std.specs.Prelude.{◌≡◌, IfOk, IfSome, IsSome, OnOk, All, Contains, length};
 ghost use Rattle.lu_machine.specs.Sums.{total};
 ghost use Rattle.lu_board.specs.Close.{SharesOut};
 ghost use Rattle.lu_parallel.specs.Works.{IsSpentWork, found_pieces};
@@ -45,18 +45,18 @@ fn gather(alloc: Global, works: Vec<Work>) -> Result<Gathered, AllocError>
     })
 }
 
-/// The entry of a piece that has one.
-fn entry_of(found: Vec<FoundPiece>, piece: u64) -> FoundPiece
-    requires { Contains (found_pieces found.items) piece }
-    ensures piece { result.piece ≡ piece }
-    ensures entry { Contains found.items result }
+/// The first entry of a piece, if it has one.
+fn entry_of(found: Vec<FoundPiece>, piece: u64) -> Option<FoundPiece>
+    ensures some { Contains (found_pieces found.items) piece → IsSome result }
+    ensures piece { IfSome result (λ entry. entry.piece ≡ piece) }
+    ensures entry { IfSome result (Contains found.items) }
 {
     for entry in found {
         if entry.piece == piece {
-            return entry;
+            return Some(entry);
         }
     }
-    unreachable!()
+    None
 }
 
 /// What all workers found together, from the works of all seats of the board: the schedule of the
@@ -89,7 +89,7 @@ pub fn conclude(alloc: Global, board: Board, works: Vec<Work>) -> Result<Option<
                 piece: _,
                 schedule,
                 why,
-            } = entry_of(found, piece);
+            } = entry_of(found, piece).unwrap();
             Ok(Some(Found::Bad { schedule, why }))
         }
     }

@@ -4,7 +4,7 @@ ghost use Rattle.std.specs.Prelude.{◌≡◌, ◌<◌};
 
 use lu_tree::Watch;
 
-/// A watch that stops at the last of so many looks.
+/// A watch that stops at the last of this many looks.
 #[derive(Clone, Copy, Drop)]
 pub(crate) struct HeadStart {
     /// How many looks are left: none where it has stopped.

@@ -1,6 +1,6 @@
 //! A check on the calling thread.
 
-ghost use Rattle.std.specs.Prelude.{◌≡◌, ◌≤◌, IfOk, IsSome, OnOk, Some};
+ghost use Rattle.std.specs.Prelude.{◌≡◌, ◌≤◌, IfOk, OnOk};
 ghost use Rattle.lu_test.specs.Matrix.{IsMatrix};
 ghost use Rattle.lu_machine.specs.Starts.{CanRun};
 ghost use Rattle.lu_report.specs.Limits.{IsSerialBound, most_moves};
@@ -19,15 +19,14 @@ use lu_trie::SerialTree;
 use lu_witness::Cache;
 use std::alloc::{AllocError, Allocator, Global};
 
-/// What a search of all schedules finds that was not abandoned.
-pub(crate) fn finding_of(found: Found) -> Finding
-    requires { IsSome (finding_of found) }
-    ensures { finding_of found ≡ Some result }
+/// What a search of all schedules finds; none where it was abandoned.
+pub(crate) fn finding_of(found: Found) -> Option<Finding>
+    ensures { result ≡ finding_of found }
 {
     match found {
-        Found::Clean(counts) => Finding::Pass(counts),
-        Found::Bad { schedule, why } => Finding::Fail { schedule, why },
-        Found::Abandoned => unreachable!(),
+        Found::Clean(counts) => Some(Finding::Pass(counts)),
+        Found::Bad { schedule, why } => Some(Finding::Fail { schedule, why }),
+        Found::Abandoned => None,
     }
 }
 
@@ -49,7 +48,7 @@ pub(crate) fn search_all<T: SerialTree>(
     )?;
     let mut cache = Cache::new(space.alloc, tree, REMEMBERED)?;
     let found = search_with(space, &tables, &mut cache, &whole, &mut Unwatched)?;
-    Ok(finding_of(found))
+    Ok(finding_of(found).unwrap())
 }
 
 /// The least serial offence, or what a search of all schedules finds.

@@ -65,7 +65,7 @@ impl Options {
     }
 
     /// These options, where the calling thread first searches alone, in order, and workers are
-    /// started only where that search has not come to its end after so many looks of its watch.
+    /// started only where that search has not come to its end after this many looks of its watch.
     /// There is one look for each 64 further schedules, or for more of them that were counted
     /// together. With 0 the workers start at once, and one worker needs no head start.
     ///

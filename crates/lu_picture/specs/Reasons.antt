@@ -23,14 +23,14 @@ is_entry order t k i =
     (slice_get order i) false
 
 -- its number, from 1, where it is that call
-abbrev pub number_at_place : List SerialOp → ℕ → ℕ → ℕ → Option ℕ
-number_at_place order t k i = if is_entry order t k i then Some (i + 1) else None
+abbrev pub number_at : List SerialOp → ℕ → ℕ → ℕ → Option ℕ
+number_at order t k i = if is_entry order t k i then Some (i + 1) else None
 
 -- the number of call k of thread t, if it is among the first n operations of the order
 abbrev pub number_in_order : List SerialOp → ℕ → ℕ → ℕ → Option ℕ
 number_in_order order t k zero = None
 number_in_order order t k (suc n) =
-    option_or (number_in_order order t k n) (number_at_place order t k n)
+    option_or (number_in_order order t k n) (number_at order t k n)
 
 -- the number of call k of thread t in the order of an explanation
 abbrev pub order_number : Explanation → ℕ → ℕ → Option ℕ

@@ -1,5 +1,5 @@
--- What is written of a picture, with what an explanation in memory says, or none. All of it is told
--- where memory did not run out.
+-- What is written of a picture, with what an explanation in memory says, or none. All of it is
+-- shown where memory did not run out.
 use Rattle.std.specs.Prelude.{ℕ, List, length, Option, Result, IfOk, String, string_bytes}
 use Rattle.std.specs.Option.{option_copied}
 use denote.Ref.{Bor}

@@ -5,7 +5,7 @@ ghost use Rattle.lu_text.specs.Writing.{Writes};
 ghost use Rattle.lu_history.specs.Text.{outcome_text};
 ghost use Rattle.lu_picture.specs.Shapes as spec;
 
-use crate::places::pitch;
+use crate::coordinates::pitch;
 use lu_machine::{Event, Machine, Outcome};
 use std::alloc::{AllocError, Global};
 

@@ -13,9 +13,9 @@ use lu_machine::Machine;
 use std::alloc::AllocError;
 
 /// The number of operation `i` of the order, from 1, where it is call `k` of thread `t`.
-fn number_at_place(order: &[SerialOp], t: u8, k: u8, i: usize) -> Option<usize>
+fn number_at(order: &[SerialOp], t: u8, k: u8, i: usize) -> Option<usize>
     requires { i < length order.now }
-    ensures { result ≡ spec.number_at_place order.now t k i }
+    ensures { result ≡ spec.number_at order.now t k i }
 {
     if order[i].thread == t && count(&order[..i], t) == usize::from(k) {
         Some(i + 1)
@@ -30,7 +30,7 @@ fn number_in_order(order: &[SerialOp], t: u8, k: u8) -> Option<usize>
 {
     let mut found = None;
     for i in 0..order.len() {
-        found = found.or(number_at_place(order, t, k, i));
+        found = found.or(number_at(order, t, k, i));
     }
     found
 }

@@ -60,8 +60,8 @@ fn add_kids(
     Ok(())
 }
 
-/// Adds to `next` what the piece becomes one move deeper, from the machine at which so many of its
-/// moves are made.
+/// Adds to `next` what the piece becomes one move deeper, from the machine at which this many of
+/// its moves are made.
 fn deepen(
     alloc: Global,
     machine: &mut Machine,

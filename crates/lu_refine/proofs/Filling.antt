@@ -9,7 +9,8 @@ use Rattle.lu_component.specs.Component.{Component}
 use Rattle.lu_test.specs.declared.matrix.Call.{Call}
 use Rattle.lu_test.specs.Matrix.{AreArguments, AreThreads, IsCallOf, IsOf, Matrix}
 use Rattle.lu_machine.specs.Starts.{AllEnd, CanRun}
-use Rattle.lu_refine.specs.Choices.{AreEnough, ArePositions, IsChoiceIn, candidate_at}
+use Rattle.lu_choices.specs.Choices.{AreBases}
+use Rattle.lu_refine.specs.Choices.{AreEnough, IsChoiceIn, candidate_at}
 use Rattle.lu_refine.specs.Roles.{AllCallsOf, AllHaveArguments, AreWithinLimits, bases, chosen_calls, rows_matrix, calls_per_thread}
 
 abbrev pub AreBelow : ℕ → List ℕ → Type 0
@@ -27,11 +28,14 @@ bases_enough calls [] all = All-nil AreEnough
 bases_enough calls (thread ∷ threads) all =
     All-append AreEnough (replicate (calls_per_thread calls thread) (length thread)) (bases calls threads) (row_enough calls thread (all 0 [] (omega arith))) (bases_enough calls threads (λ k d h. all (suc k) d (omega arith)))
 
-pub positions : (calls : ℕ) (candidates : List (List Call)) → AreWithinLimits calls candidates → ArePositions (bases calls candidates)
-positions calls candidates limits = record {
-  each = bases_enough calls candidates limits.0.few_candidates;
-  few = limits.1.positions;
-}
+pub positions : (calls : ℕ) (candidates : List (List Call)) → AreWithinLimits calls candidates → AreBases (bases calls candidates)
+positions calls candidates limits =
+    let enough = bases_enough calls candidates limits.0.few_candidates in
+    record {
+      some = λ k d h. (enough k d h).0;
+      small = λ k d h. (let here = (enough k d h).1 in omega (arith, here));
+      few = limits.1.positions;
+    }
 
 -- the threads from i on
 pub threads_from : (candidates : List (List Call)) (i : ℕ) (thread : List Call) → i < length candidates → thread ≡ get_or candidates i thread → drop i candidates ≡ thread ∷ drop (i + 1) candidates

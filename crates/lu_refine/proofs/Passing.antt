@@ -13,7 +13,7 @@ use Rattle.lu_refine.specs.declared.campaigns.Campaign.TheVariants.{AllPass, Fir
 use Rattle.lu_refine.specs.declared.campaigns.CampaignFault.{CampaignFault}
 use Rattle.lu_refine.specs.ByThread.{Asked, IsFirstAmong, IsFoundByThread, IsFoundInSlice, IsRoleChoice, IsRoleReport, IsSliceAnswer, IsThreadsAnswer, IsWithinSlice, RolePasses, bases_of, matrix_count, choice_number, role_matrix}
 use Rattle.lu_refine.specs.Laws.{joined_answers}
-use Rattle.lu_refine.proofs.Numbered.{before_earlier, compare, choices_fit, place_below, place_same}
+use Rattle.lu_choices.proofs.Numbered.{before_less, choices_fit, compare, number_below, same_choice}
 use Rattle.lu_refine.proofs.Filling.{positions}
 
 -- the matrices with these numbers pass
@@ -23,38 +23,38 @@ PassWithin asked from to = (choice : List ℕ) → IsWithinSlice asked from to c
 pub passes_none : (asked : Asked) (start : ℕ) → PassWithin asked start start
 passes_none asked start other within = absurd (omega (arith, within.least, within.less))
 
-pub passes_more : (asked : Asked) (start place : ℕ) (choice : List ℕ) (r : Report) → PassWithin asked start place → IsRoleChoice asked choice → choice_number asked choice ≡ place → IsRoleReport asked choice r → IsPass r.finding → PassWithin asked start (place + 1)
-passes_more asked start place choice r before chosen is report passes other within = elim (cases_lt (choice_number asked other) place) [
+pub passes_more : (asked : Asked) (start number : ℕ) (choice : List ℕ) (r : Report) → PassWithin asked start number → IsRoleChoice asked choice → choice_number asked choice ≡ number → IsRoleReport asked choice r → IsPass r.finding → PassWithin asked start (number + 1)
+passes_more asked start number choice r before chosen is report passes other within = elim (cases_lt (choice_number asked other) number) [
   | inl less ↦ before other (record { chosen = within.chosen; least = within.least; less = less })
   | inr least ↦
       let here : choice_number asked other ≡ choice_number asked choice = omega (arith, is, within.less, least) in
-      let same : other ≡ choice = place_same (bases_of asked) other choice within.chosen chosen here in
+      let same : other ≡ choice = same_choice (bases_of asked) other choice within.chosen chosen here in
       subst (RolePasses asked) (sym same) (r, report, passes)
 ]
 
 -- the first that does not pass, in the slice that begins where the search did
-pub first_found : (asked : Asked) (from to start end place : ℕ) (choice : List ℕ) (matrix : Matrix) (r : Report) → end ≡ min to (matrix_count asked) → start ≡ min from end → start ≤ place → place < end → PassWithin asked start place → IsRoleChoice asked choice → choice_number asked choice ≡ place
+pub first_found : (asked : Asked) (from to start end number : ℕ) (choice : List ℕ) (matrix : Matrix) (r : Report) → end ≡ min to (matrix_count asked) → start ≡ min from end → start ≤ number → number < end → PassWithin asked start number → IsRoleChoice asked choice → choice_number asked choice ≡ number
     → matrix ≡ role_matrix asked choice → IsRoleReport asked choice r → (IsPass r.finding → ⊥) → IsFirstAmong asked (IsWithinSlice asked from to) matrix r
-first_found asked from to start end place choice matrix r end_is start_is least less before chosen is same report fails = record {
+first_found asked from to start end number choice matrix r end_is start_is least less before chosen is same report fails = record {
   choice = choice;
   among = record { chosen = chosen; least = omega arith; less = omega arith };
   is = same;
   report = report;
   no_pass = fails;
   before = λ other within earlier.
-      let sooner = before_earlier (bases_of asked) other choice within.chosen chosen earlier in
+      let sooner = before_less (bases_of asked) other choice within.chosen chosen earlier in
       before other (record { chosen = within.chosen; least = omega (arith, within.least, start_is, end_is, least, less); less = omega (arith, sooner, is) });
 }
 
 -- all of the slice pass
-pub passes_all : (asked : Asked) (from to start end place : ℕ) → end ≡ min to (matrix_count asked) → start ≡ min from end → end ≤ place → PassWithin asked start place → PassWithin asked from to
-passes_all asked from to start end place end_is start_is past before choice within =
-    let fits = place_below (bases_of asked) choice within.chosen in
+pub passes_all : (asked : Asked) (from to start end number : ℕ) → end ≡ min to (matrix_count asked) → start ≡ min from end → end ≤ number → PassWithin asked start number → PassWithin asked from to
+passes_all asked from to start end number end_is start_is past before choice within =
+    let fits = number_below (bases_of asked) choice within.chosen in
     before choice (record { chosen = within.chosen; least = omega (arith, within.least, start_is); less = omega (arith, within.less, fits, end_is, past) })
 
-pub slice_passes : (asked : Asked) (from to start end place count : ℕ) → end ≡ min to (matrix_count asked) → start ≡ min from end → end ≤ place → count ≡ end - start → PassWithin asked start place → IsFoundInSlice asked from to (AllPass count)
-slice_passes asked from to start end place count end_is start_is past count_is before =
-    (omega (arith, end_is, start_is, count_is), passes_all asked from to start end place end_is start_is past before)
+pub slice_passes : (asked : Asked) (from to start end number count : ℕ) → end ≡ min to (matrix_count asked) → start ≡ min from end → end ≤ number → count ≡ end - start → PassWithin asked start number → IsFoundInSlice asked from to (AllPass count)
+slice_passes asked from to start end number count end_is start_is past count_is before =
+    (omega (arith, end_is, start_is, count_is), passes_all asked from to start end number end_is start_is past before)
 
 -- ---- a slice of all
 
@@ -63,14 +63,14 @@ whole_found asked to (AllPass count) all is =
     (omega (arith, is.0, all), λ choice chosen. is.1 choice (in_all asked to choice all chosen))
   where
     in_all : (asked : Asked) (to : ℕ) (choice : List ℕ) → matrix_count asked ≤ to → IsRoleChoice asked choice → IsWithinSlice asked 0 to choice
-    in_all asked to choice all chosen = record { chosen = chosen; least = omega arith; less = omega (arith, all, place_below (bases_of asked) choice chosen) }
+    in_all asked to choice all chosen = record { chosen = chosen; least = omega arith; less = omega (arith, all, number_below (bases_of asked) choice chosen) }
 whole_found asked to (First matrix r) all is = record {
   choice = is.choice;
   among = is.among.chosen;
   is = is.is;
   report = is.report;
   no_pass = is.no_pass;
-  before = λ other chosen earlier. is.before other (record { chosen = chosen; least = omega arith; less = omega (arith, all, place_below (bases_of asked) other chosen) }) earlier;
+  before = λ other chosen earlier. is.before other (record { chosen = chosen; least = omega arith; less = omega (arith, all, number_below (bases_of asked) other chosen) }) earlier;
 }
 
 -- ---- slices that follow one another
@@ -89,7 +89,7 @@ slices_joined asked from middle to (First matrix r) later low high is then = rec
   report = is.report;
   no_pass = is.no_pass;
   before = λ other within earlier.
-      let sooner = before_earlier (bases_of asked) other is.choice within.chosen is.among.chosen earlier in
+      let sooner = before_less (bases_of asked) other is.choice within.chosen is.among.chosen earlier in
       is.before other (record { chosen = within.chosen; least = within.least; less = omega (arith, sooner, is.among.less) }) earlier;
 }
 slices_joined asked from middle to (AllPass count) (First matrix r) low high is then = record {

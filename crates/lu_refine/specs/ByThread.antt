@@ -12,7 +12,7 @@ use Rattle.lu_refine.specs.declared.campaigns.Campaign.{Campaign}
 use Rattle.lu_refine.specs.declared.campaigns.Campaign.TheVariants.{AllPass, First}
 use Rattle.lu_refine.specs.declared.campaigns.CampaignFault.{CampaignFault}
 use Rattle.lu_refine.specs.declared.campaigns.CampaignFault.TheVariants.{Candidates, Limit, Memory}
-use Rattle.lu_refine.specs.Choices.{IsBefore, IsChoiceIn, choice_count, place_in}
+use Rattle.lu_refine.specs.Choices.{IsBefore, IsChoiceIn, choice_count, number_in}
 use Rattle.lu_refine.specs.declared.roles.Roles.{Roles}
 use Rattle.lu_refine.specs.Campaigns.{AreCallsOf}
 use Rattle.lu_refine.specs.Roles.{AllCallsOf, AllHaveArguments, AreRoles, AreRowLimits, AreWithinLimits, bases, rows_matrix}
@@ -64,7 +64,7 @@ IsRoleChoice asked choice = IsChoiceIn (bases_of asked) choice
 
 -- the number of a choice in lexicographic order, from 0, and of the matrix that it fills
 abbrev pub choice_number : Asked → List ℕ → ℕ
-choice_number asked choice = place_in (bases_of asked) choice
+choice_number asked choice = number_in (bases_of asked) choice
 
 -- the matrix that a choice fills, with the setup
 abbrev pub role_matrix : Asked → List ℕ → Matrix

@@ -1,9 +1,8 @@
--- Laws of slices, and of the numbers of choices.
-use Rattle.std.specs.Prelude.{◌≡◌, ℕ, ◌+◌, ◌<◌, ◌≤◌, List}
+-- Laws of slices.
+use Rattle.std.specs.Prelude.{◌≡◌, ℕ, ◌+◌, ◌≤◌}
 use Rattle.lu_machine.specs.Starts.{AllEnd}
 use Rattle.lu_refine.specs.declared.campaigns.Campaign.{Campaign}
 use Rattle.lu_refine.specs.declared.campaigns.Campaign.TheVariants.{AllPass, First}
-use Rattle.lu_refine.specs.Choices.{IsBefore, IsChoiceIn, choice_count, place_in}
 use Rattle.lu_refine.specs.ByThread.{Asked, IsFoundByThread, IsFoundInSlice, matrix_count}
 
 -- what two answers say together: the first matrix that does not pass, or the sum
@@ -28,15 +27,3 @@ OneSliceAnswer =
     (asked : Asked) (from to : ℕ) (found other : Campaign) →
     AllEnd asked.component asked.setup → IsFoundInSlice asked from to found
     → IsFoundInSlice asked from to other → found ≡ other
-
--- The numbers of the choices are those below their count, each of one choice, and what comes before
--- has a lesser number.
-pub record ChoicesNumbered : Type 0 where
-  pub below : (bases choice : List ℕ) → IsChoiceIn bases choice
-      → place_in bases choice < choice_count bases
-  pub each : (bases : List ℕ) (n : ℕ) → n < choice_count bases
-      → (choice : List ℕ) × IsChoiceIn bases choice × (place_in bases choice ≡ n)
-  pub one : (bases u v : List ℕ) → IsChoiceIn bases u → IsChoiceIn bases v
-      → place_in bases u ≡ place_in bases v → u ≡ v
-  pub ordered : (bases u v : List ℕ) → IsChoiceIn bases u → IsChoiceIn bases v
-      → IsBefore u v → place_in bases u < place_in bases v

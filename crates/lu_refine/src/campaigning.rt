@@ -12,8 +12,9 @@ ghost use Rattle.lu_test.specs.declared.matrix.TheConstants.{MOST_CALLS_OF_THREA
 
 use crate::arena::check_in_arena;
 use crate::campaigns::{Campaign, CampaignFault};
-use crate::choice::{Positions, bases_of, choice_at, count_choices, fill, same_lists};
+use crate::choice::{Positions, bases_of, fill, same_lists};
 use crate::roles::Roles;
+use lu_choices::{choice_at, count_choices};
 use lu_component::Component;
 use lu_report::{Finding, Report};
 use lu_test::{Call, Calls, MOST_CALLS, MOST_CALLS_OF_THREAD, MOST_THREADS, Matrix};
@@ -62,7 +63,8 @@ fn positions_of(alloc: Global, candidates: &[Calls], calls: u8) -> Result<Positi
     Ok(positions)
 }
 
-/// That there are matrices of so many threads with so many calls each, over so many candidates.
+/// That there are matrices of this many threads with this many calls each, over this many
+/// candidates.
 fn check_grid(candidates: usize, threads: u8, calls: u8) -> Result<(), CampaignFault>
     ensures within { IsOk result → AreEnough candidates × IsGrid threads calls }
     ensures fault { IfErr result (IsLimitFault candidates threads calls) }
@@ -176,8 +178,8 @@ pub fn campaign_slice(
     let bases = positions.as_slice();
     let end = to.min(count_choices(bases));
     let start = from.min(end);
-    for place in start..end {
-        let choice = choice_at(alloc, bases, place)?;
+    for number in start..end {
+        let choice = choice_at(bases, number);
         let matrix = fill(alloc, roles, choice.as_slice())?;
         let report = check_in_arena(alloc, component, &matrix, roles.bound, roles.serial)?;
         if !report.is_pass() {
@@ -215,6 +217,6 @@ pub fn matrix_at(alloc: Global, roles: Roles<'_>, number: u64) -> Result<Matrix,
     ensures { IfOk result (IsMatrixAt (asked_of roles.entry) number) }
 {
     let bases = bases_of(alloc, roles.candidates, roles.calls)?;
-    let choice = choice_at(alloc, bases.as_slice(), number)?;
+    let choice = choice_at(bases.as_slice(), number);
     fill(alloc, roles, choice.as_slice())
 }

@@ -1,7 +1,7 @@
 //! Choices of candidates: a number for each position of a matrix.
 
 ghost use Rattle.std.specs.Prelude.{◌≡◌, ◌<◌, ◌≤◌, IfOk, length, map, replicate, All};
-ghost use Rattle.lu_refine.specs.Choices.{ArePositions, IsChoiceIn, candidate_at, choice_count, place_in};
+ghost use Rattle.lu_refine.specs.Choices.{candidate_at};
 ghost use Rattle.lu_refine.specs.Roles.{AreWithinLimits, bases, calls_per_thread};
 ghost use Rattle.lu_refine.specs.ByThread.{CanAsk, IsRoleChoice, asked_of, role_matrix};
 ghost use Rattle.lu_test.specs.declared.matrix.TheConstants.{MOST_CALLS_OF_THREAD};
@@ -43,36 +43,6 @@ pub(crate) fn bases_of(
     Ok(found)
 }
 
-/// How many choices there are.
-pub(crate) fn count_choices(bases: &[u8]) -> u64
-    requires { ArePositions bases.now }
-    ensures { result ≡ choice_count bases.now }
-{
-    let mut count: u64 = 1;
-    for base in bases {
-        count *= u64::from(*base);
-    }
-    count
-}
-
-/// The choice with this number in lexicographic order, from 0.
-pub(crate) fn choice_at(alloc: Global, bases: &[u8], place: u64) -> Result<Positions, AllocError>
-    requires positions { ArePositions bases.now }
-    requires place { place < choice_count bases.now }
-    ensures choice { IfOk result (λ choice. IsChoiceIn bases.now choice.items) }
-    ensures place { IfOk result (λ choice. place_in bases.now choice.items ≡ place) }
-{
-    let mut choice = Positions::new(alloc);
-    let mut round = count_choices(bases);
-    let mut rest = place;
-    for base in bases {
-        round /= u64::from(*base);
-        choice.push((rest / round) as u8)?;
-        rest %= round;
-    }
-    Ok(choice)
-}
-
 /// The calls of the candidates with these numbers.
 fn calls_of(alloc: Global, candidates: &[Call], numbers: &[u8]) -> Result<Calls, AllocError>
     requires { All (λ n. n < length candidates.now) numbers.now }
@@ -104,7 +74,7 @@ pub(crate) fn fill(alloc: Global, roles: Roles<'_>, choice: &[u8]) -> Result<Mat
     Ok(Matrix::new(roles.component, setup, chosen_calls).unwrap())
 }
 
-/// The same candidates for each of so many threads, as [`campaign`](crate::campaign) has them.
+/// The same candidates for each of this many threads, as [`campaign`](crate::campaign) has them.
 ///
 /// # Errors
 ///

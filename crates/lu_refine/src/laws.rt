@@ -1,7 +1,10 @@
 //! Laws of removals and of slices, for the crates above. Their functions do nothing.
 
-ghost use Rattle.lu_refine.specs.Laws.{ChoicesNumbered, OneSliceAnswer, SlicesJoin};
+ghost use Rattle.lu_refine.specs.Laws.{OneSliceAnswer, SlicesJoin};
 ghost use Rattle.lu_refine.specs.Removals.{OneShrunk};
+
+/// What is numbered in a slice: the choices of candidates.
+pub use lu_choices::laws::choices_numbered;
 
 /// A chain of least removals has one end: so a matrix that fails shrinks to one matrix.
 pub fn one_shrunk()
@@ -14,10 +17,4 @@ pub fn one_shrunk()
 pub fn slices_join()
     ensures join { SlicesJoin }
     ensures one_answer { OneSliceAnswer }
-{}
-
-/// What is numbered in a slice: each choice of candidates has a number of its own, from 0 to the
-/// one before their count, and in lexicographic order.
-pub fn choices_numbered()
-    ensures { ChoicesNumbered }
 {}

@@ -38,7 +38,7 @@ pub record IsFurther (old new : Walk) (m : Move) : Type 0 where
 abbrev pub EndsOutside : State → List (List SerialOp) → List Move → Type 0
 EndsOutside s members u = (q : List SerialOp) × IsSeriallyEnded s u q × (contains members q ≡ false)
 
--- The walk stands after so many moves of w, and these are the shortest beginning that ends with a
+-- The walk stands after this many moves of w, and these are the shortest beginning that ends with a
 -- whole entry and whose entries are no member.
 pub record IsStop (s : State) (members : List (List SerialOp)) (w : List Move) (walk : Walk)
     (count : ℕ) : Type 0 where

@@ -86,10 +86,8 @@ fn from_outside(
     requires outside { HasOutside test serial set.now }
     ensures { IfOk result (IsFromOutside test.entry serial set.now) }
 {
-    match first_outside(alloc, test.component, test.matrix, serial, set)? {
-        None => unreachable!(),
-        Some(outside) => shortest(alloc, test, &outside, set),
-    }
+    let outside = first_outside(alloc, test.component, test.matrix, serial, set)?.unwrap();
+    shortest(alloc, test, &outside, set)
 }
 
 /// What is answered to a report that is a confirmed failure, or confirmed nondeterminism, with this

@@ -29,13 +29,13 @@ ReplayOrFault =
     (c : Component) (matrix : Matrix) (u : List Move) (h : List Event) (a : Status) (i : ℕ) →
     PlaysToStatus c matrix u h a → IsInfeasibleAt c matrix u i → ⊥
 
--- a schedule is infeasible at one place at most
+-- a schedule is infeasible at one move at most
 abbrev pub OneFault : Type 0
 OneFault =
     (c : Component) (matrix : Matrix) (u : List Move) (i j : ℕ) →
     IsInfeasibleAt c matrix u i → IsInfeasibleAt c matrix u j → i ≡ j
 
--- a schedule shows something, or is infeasible at some place
+-- a schedule shows something, or is infeasible at some move
 abbrev pub AllReplayed : Type 0
 AllReplayed =
     (c : Component) (matrix : Matrix) (u : List Move) → Settles c matrix →

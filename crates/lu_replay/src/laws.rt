@@ -5,7 +5,7 @@ ghost use Rattle.lu_replay.specs.Laws.{AllConfirmed, AllConfirmedAgainst, AllRep
 pub use lu_serial::serial_short;
 
 /// Why a replay has one answer: a schedule shows a history and a status, and no others, or it is
-/// infeasible at a place, and at no other. The function does nothing.
+/// infeasible at a move, and at no other. The function does nothing.
 pub fn replay_laws()
     ensures one_replay { OneReplay }
     ensures replay_or_fault { ReplayOrFault }

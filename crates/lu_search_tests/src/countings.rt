@@ -60,8 +60,8 @@ fn cut_below(
     orders.orders_within(left, &horizon.caps(machine, left)?)
 }
 
-/// Below the machine's state so many moves are cut in so many ways, for each of these pairs; and no
-/// caps are known for 72 moves, which are more than the tables are for.
+/// Below the machine's state this many moves are cut in this many ways, for each of these pairs;
+/// and no caps are known for 72 moves, which are more than the tables are for.
 fn assert_cuts(
     rt: &impl Abort,
     horizon: &Horizon,
@@ -78,7 +78,7 @@ fn assert_cuts(
     assert!(rt; horizon.caps(machine, 72).is_none());
 }
 
-/// The same at the start of the case, with tables for so many moves.
+/// The same at the start of the case, with tables for this many moves.
 fn assert_cuts_ahead(
     rt: &(impl AllocGlobal + Abort),
     case: &Fixture,

@@ -66,7 +66,7 @@ fn found(
     found_below(rt, &case, &set, from, bound)
 }
 
-/// All schedules are found good: so many are complete and so many are cut, and none is stuck.
+/// All schedules are found good: this many are complete and this many are cut, and none is stuck.
 pub(crate) fn assert_clean(rt: &impl Abort, found: &Found, complete: u64, cut: u64) {
     match found {
         Found::Clean(counts) => assert_eq!(rt;

@@ -117,7 +117,7 @@ fn assert_abandoned(
     Ok(())
 }
 
-/// The search is not called off: so many schedules are complete, so many cut, and the watch is
+/// The search is not called off: this many schedules are complete, this many cut, and the watch is
 /// asked so often.
 fn assert_asked(
     rt: &(impl AllocGlobal + Abort),
@@ -191,7 +191,8 @@ fn a_watch_is_asked_of_what_is_counted(rt: HostRuntime) -> Result<(), Fail> {
     assert_abandoned(&rt, SPINS, NO_CALLS, 12, 64)
 }
 
-/// Two increments by compare-and-swap have 45 nodes. The watch is asked once more where none is left.
+/// Two increments by compare-and-swap have 45 nodes. The watch is asked once more where none is
+/// left.
 #[test]
 fn a_watch_is_asked_before_each_node(rt: HostRuntime) -> Result<(), Fail> {
     let mut watch = stops_at(0);

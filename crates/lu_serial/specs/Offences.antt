@@ -81,7 +81,7 @@ SerialShort =
     (s : State) (bound : ℕ) (u : List Move) (q : List SerialOp) (n : ℕ) →
     NoOffence s bound → IsSeriallyEnded s u q → Takes s u n → n ≤ bound
 
--- Where the least offence conflicts, the place and the outcome are determined.
+-- Where the least offence conflicts, the entry and the outcome are determined.
 abbrev pub OneConflict : Type 0
 OneConflict =
     (component : Component) (matrix : Matrix) (s : State) (bound : ℕ) (u : List Move) (i j : ℕ)

@@ -9,7 +9,7 @@ pub fn serial_short()
     ensures { SerialShort }
 {}
 
-/// The place and the outcome of a conflict are determined by the schedule that is the least
+/// The entry and the outcome of a conflict are determined by the schedule that is the least
 /// offence. The function does nothing.
 pub fn one_conflict()
     ensures { OneConflict }

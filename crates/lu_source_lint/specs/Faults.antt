@@ -80,7 +80,7 @@ abbrev pub spelled : List Word → List ℕ
 spelled [] = []
 spelled (word ∷ words) = word ++ 32 ∷ spelled words
 
--- so many words, and what stands after them
+-- this many words, and what stands after them
 abbrev pub line_with : List Word → ℕ × List ℕ → List ℕ
 line_with words (count, behind) = spelled (take count words) ++ behind
 
@@ -140,7 +140,7 @@ ends_all Limit words = word_is words 0 (codes "}")
 ends_all Missing words = is_declaration words
 ends_all _ words = false
 
--- whether nothing after the fault is told: it is at the end of the text, or such a one
+-- whether nothing after the fault is reported: it is at the end of the text, or such a one
 abbrev pub is_last : List (List ℕ) → LineFault → Bool
 is_last lines fault =
     nat_lt (length lines) fault.line
@@ -155,13 +155,13 @@ abbrev pub faults_from : (List (List ℕ) → List SourceMessage) → List (List
 faults_from rest lines fault =
     message fault ∷ (if is_last lines fault then [] else rest (mended lines fault))
 
--- the faults of these lines, at most so many: the first one, and then those that are left
+-- the faults of these lines, at most this many: the first one, and then those that are left
 unfoldable pub faults_by : ℕ → List (List ℕ) → List SourceMessage
 faults_by zero lines = []
 faults_by (suc most) lines =
     where_some (first_fault lines) [] (faults_from (faults_by most) lines)
 
--- this fault, and then at most so many more
+-- this fault, and then at most this many more
 abbrev pub faults_then : ℕ → List (List ℕ) → LineFault → List SourceMessage
 faults_then more lines fault = faults_from (faults_by more) lines fault
 
@@ -169,7 +169,7 @@ faults_then more lines fault = faults_from (faults_by more) lines fault
 abbrev pub faults_in : List ℕ → List SourceMessage
 faults_in text = faults_by 20 (lines_of text)
 
--- No fault is told of what is read; else the first that is told is the first there is.
+-- No fault is reported of what is read; else the first that is reported is the first there is.
 abbrev pub AgreeOn : Result Program (Fault Kind) → List SourceMessage → Type 0
 AgreeOn (Ok p) told = told ≡ []
 AgreeOn (Err (At kind n)) told =

@@ -79,7 +79,7 @@ depth_after depth words =
 abbrev pub stops : List Word → ℕ → Line → Bool
 stops shared depth words = nat_lt 16 depth || acts shared words
 
--- Whether a loop comes to its `}` with no line that acts. So many blocks are open, the loop with
+-- Whether a loop comes to its `}` with no line that acts. This many blocks are open, the loop with
 -- them; there are 16 at most.
 abbrev pub is_endless : List Word → ℕ → List Line → Bool
 is_endless shared depth [] = false

@@ -14,7 +14,7 @@ use lu_source_text::{SourceFaultKind, read_source_lines, source_words};
 use lu_text::{Fault, lines_of};
 use std::alloc::{AllocError, Global};
 
-/// The most faults that are told of a text.
+/// The most faults that are reported of a text.
 const MOST_FAULTS: usize = 20;
 
 /// A line's fault.
@@ -76,9 +76,9 @@ fn line_at(lines: &[Vec<u8>], line: usize) -> &[u8]
 fn with_line(mut lines: Vec<Vec<u8>>, line: usize, text: Vec<u8>) -> Vec<Vec<u8>>
     ensures { bytes_of result.items ≡ spec.with_line (bytes_of lines.items) line text.items }
 {
-    let place = line.saturating_sub(1);
-    if place < lines.len() {
-        lines[place] = text;
+    let index = line.saturating_sub(1);
+    if index < lines.len() {
+        lines[index] = text;
         lines
     } else {
         lines
@@ -134,7 +134,7 @@ fn ends_all(kind: SourceFaultKind, words: &[&[u8]]) -> bool
     }
 }
 
-/// Whether nothing after the fault is told.
+/// Whether nothing after the fault is reported.
 fn is_last(alloc: Global, lines: &[Vec<u8>], fault: LineFault) -> Result<bool, AllocError>
     ensures { IfOk result (λ last. last ≡ spec.is_last (bytes_of lines.now) fault) }
 {
@@ -154,7 +154,7 @@ fn message(fault: LineFault) -> SourceMessage
     }
 }
 
-/// The messages with one on this fault of the lines, and those on so many more that are left.
+/// The messages with one on this fault of the lines, and those on this many more that are left.
 #[cycle(telling)]
 fn with_fault(
     alloc: Global,
@@ -174,7 +174,7 @@ fn with_fault(
     }
 }
 
-/// The messages with those on the faults of the lines, at most so many.
+/// The messages with those on the faults of the lines, at most this many.
 #[cycle(telling)]
 fn with_faults(
     alloc: Global,

@@ -14,15 +14,15 @@ struct Mending {
     /// How many of its words stay.
     kept: usize,
 
-    /// What stands after them in place of the others.
+    /// What stands after them in position of the others.
     behind: &'static [u8],
 }
 
 /// Whether this word of a line, counted from 0, is that one.
-pub(crate) fn word_is(words: &[&[u8]], place: usize, text: &[u8]) -> bool
-    ensures { result ≡ spec.word_is (texts words.now) place text.now }
+pub(crate) fn word_is(words: &[&[u8]], position: usize, text: &[u8]) -> bool
+    ensures { result ≡ spec.word_is (texts words.now) position text.now }
 {
-    match words.get(place) {
+    match words.get(position) {
         None => false,
         Some(word) => *word == text,
     }
@@ -65,9 +65,9 @@ fn ends_arguments(word: &[u8]) -> bool
 fn arguments_end(words: &[&[u8]]) -> usize
     ensures { result ≡ spec.arguments_end (texts words.now) }
 {
-    for (place, word) in words.iter().enumerate() {
+    for (position, word) in words.iter().enumerate() {
         if ends_arguments(word) {
-            return place;
+            return position;
         }
     }
     words.len()
@@ -136,7 +136,7 @@ fn meant_by(kind: SourceFaultKind, words: &[&[u8]]) -> Mending
     }
 }
 
-/// The first words, so many or as many as there are.
+/// The first words, this many or as many as there are.
 fn first_words<'a, 'b>(words: &'a [&'b [u8]], count: usize) -> &'a [&'b [u8]]
     ensures { texts result.now ≡ take count (texts words.now) }
 {

@@ -296,14 +296,14 @@ pub fn wording(
     message: &SourceMessage,
     lines: &[&[u8]],
 ) -> Result<String, AllocError> {
-    let place = message.line.saturating_sub(1);
-    let Some(line) = lines.get(place) else {
+    let index = message.line.saturating_sub(1);
+    let Some(line) = lines.get(index) else {
         return text_of(
             alloc,
             "the text ends here: no `object NAME` begins it, or its last operation is open; close that with `}`",
         );
     };
-    let (above, _) = lines.split_at(place);
+    let (above, _) = lines.split_at(index);
     let words = source_words(alloc, line)?;
     match message.what {
         What::Fault(kind) => fault_words(alloc, kind, above, &words),

@@ -145,7 +145,7 @@ fn one_if(so: bool) -> usize
     if so { 1 } else { 0 }
 }
 
-/// How many blocks are open after a line, where so many are before it.
+/// How many blocks are open after a line, where this many are before it.
 fn depth_after(depth: usize, words: &[&[u8]]) -> usize
     requires { depth ≤ MOST_BLOCKS }
     ensures { result ≡ spec.depth_after depth (texts words.now) }

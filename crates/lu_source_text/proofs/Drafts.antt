@@ -20,7 +20,7 @@ use Rattle.lu_component.specs.Component.{AreDistinct, IsArray, IsComponent, IsIn
 use Rattle.lu_source.specs.declared.tree.Action.{Action}
 use Rattle.lu_source.specs.declared.tree.Action.TheVariants.{Set, Compute, Load, Store, Cas, Lock, Unlock, Await, AwaitNot, Pick, Return}
 use Rattle.lu_source.specs.Code.{instr_of, op_of, operation_code}
-use Rattle.lu_source_text.specs.Grammar.{Begun, Block, Drafted, Kind, all_read, aside, begun_as, last_number, op_fault, where_some, after_word, by_state, by_words, close_blocks, closes, end_block, whole_of, constant_in, const_line, declaration, else_line, end_line, first_number, init_in, inside, is_free_name, is_operation, is_taken, is_whole, is_word, keeps_going, len_in, line_of, local_in, local_line, lock_in, lock_line, names_from, names_in, new_name, nothing, object_line, on_first, on_ok, op_line, other_side, place_from, program_of, shared_from, shared_in, source_grammar, source_words, statement, whole_line, word_line}
+use Rattle.lu_source_text.specs.Grammar.{Begun, Block, Drafted, Kind, all_read, aside, begun_as, last_number, op_fault, where_some, after_word, by_state, by_words, close_blocks, closes, end_block, whole_of, constant_in, const_line, declaration, else_line, end_line, first_number, init_in, inside, is_free_name, is_operation, is_taken, is_whole, is_word, keeps_going, len_in, line_of, local_in, local_line, lock_in, lock_line, names_from, names_in, new_name, nothing, object_line, on_first, on_ok, op_line, other_side, position_from, program_of, shared_from, shared_in, source_grammar, source_words, statement, whole_line, word_line}
 use Rattle.lu_source.specs.Programs.{operation_of}
 use Rattle.lu_source_text.specs.Drafts.{begun_of, drafted_of}
 use Rattle.lu_source_text.specs.declared.draft.Begun.{Begun as HeldBegun}
@@ -73,11 +73,11 @@ shared_absent k (x ∷ xs) w h = by_test (bytes_eq x.array.name w) refl h (share
     by_test true is h rest = absurd cc
     by_test false is h rest = (is, rest h)
 
-place_absent : (k : ℕ) (xs : List Word) (w : Word) → is_some (place_from k xs w) ≡ false → AllByRecursion (λ (x : Word). bytes_eq x w ≡ false) xs
+place_absent : (k : ℕ) (xs : List Word) (w : Word) → is_some (position_from k xs w) ≡ false → AllByRecursion (λ (x : Word). bytes_eq x w ≡ false) xs
 place_absent k [] w h = tt
 place_absent k (x ∷ xs) w h = by_test (bytes_eq x w) refl h (place_absent (k + 1) xs w)
   where
-    by_test : (t : Bool) → bytes_eq x w ≡ t → is_some (if t then Some k else place_from (k + 1) xs w) ≡ false → (is_some (place_from (k + 1) xs w) ≡ false → AllByRecursion (λ (x : Word). bytes_eq x w ≡ false) xs) → AllByRecursion (λ (x : Word). bytes_eq x w ≡ false) (x ∷ xs)
+    by_test : (t : Bool) → bytes_eq x w ≡ t → is_some (if t then Some k else position_from (k + 1) xs w) ≡ false → (is_some (position_from (k + 1) xs w) ≡ false → AllByRecursion (λ (x : Word). bytes_eq x w ≡ false) xs) → AllByRecursion (λ (x : Word). bytes_eq x w ≡ false) (x ∷ xs)
     by_test true is h rest = absurd cc
     by_test false is h rest = (is, rest h)
 

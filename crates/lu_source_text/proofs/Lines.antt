@@ -16,7 +16,7 @@ use Rattle.lu_source.specs.declared.tree.Action.TheVariants as action
 use Rattle.lu_source.specs.Code.{falls, instr_of}
 use Rattle.lu_source.specs.Expressions.{Coded, Expr, as_test, coded, needed, past, put}
 use Rattle.lu_source.specs.Expressions.Expr.{Number, Local, Read, Swap, Pick, Binary, Not, And, Or}
-use Rattle.lu_source_text.specs.Grammar.{Begun, Block, Drafted, Kind, Opening, added, added_to, all_read, assign, await_tree, awaited, awaiting, awaits_equal, after_word, both_of, cas_in, cas_tree, cas_with, cell_in, closed_by, closing, code_for, compared, deeper, does_too, else_line, end_block, let_in, expr_before_brace, expr_from, expr_in, if_line, in_loop, inner_of, is_free_name, is_still, is_word, leave, let_line, local_in, lock_in, lock_number, loop_line, new_name, on_first, on_ok, or_fault, other_by, other_side, owner_tree, place_from, return_tree, scope_of, set_tree, simple, statement, steps_for, store_tree, tested, where_some, while_line, with_blocks, is_keyword, is_taken}
+use Rattle.lu_source_text.specs.Grammar.{Begun, Block, Drafted, Kind, Opening, added, added_to, all_read, assign, await_tree, awaited, awaiting, awaits_equal, after_word, both_of, cas_in, cas_tree, cas_with, cell_in, closed_by, closing, code_for, compared, deeper, does_too, else_line, end_block, let_in, expr_before_brace, expr_from, expr_in, if_line, in_loop, inner_of, is_free_name, is_still, is_word, leave, let_line, local_in, lock_in, lock_number, loop_line, new_name, on_first, on_ok, or_fault, other_by, other_side, owner_tree, position_from, return_tree, scope_of, set_tree, simple, statement, steps_for, store_tree, tested, where_some, while_line, with_blocks, is_keyword, is_taken}
 use Rattle.lu_source_text.specs.declared.fault.SourceFaultKind.TheVariants.{Form, Limit, Registers, Flow, Name}
 use Rattle.lu_source_text.specs.Grammar.Opening.{Whole, Test, Other, Turns}
 use Rattle.lu_source.specs.Sound.{IsExpr, IsTree}
@@ -71,11 +71,11 @@ GoesOn arrays locks b now = IsGoing arrays locks now × (now.locals ≡ b.locals
 abbrev pub Goes : ℕ → ℕ → Begun → Begun → Type 0
 Goes arrays locks b now = IsGoing arrays locks now × (now.name ≡ b.name)
 
-place_within : (k : ℕ) (xs : List Word) (w : Word) (n : ℕ) → place_from k xs w ≡ Some n → n < k + length xs
+place_within : (k : ℕ) (xs : List Word) (w : Word) (n : ℕ) → position_from k xs w ≡ Some n → n < k + length xs
 place_within k [] w n is = cc
 place_within k (x ∷ xs) w n is = by_test (bytes_eq x w) is (place_within (k + 1) xs w n)
   where
-    by_test : (t : Bool) → (if t then Some k else place_from (k + 1) xs w) ≡ Some n → (place_from (k + 1) xs w ≡ Some n → n < k + 1 + length xs) → n < k + length (x ∷ xs)
+    by_test : (t : Bool) → (if t then Some k else position_from (k + 1) xs w) ≡ Some n → (position_from (k + 1) xs w ≡ Some n → n < k + 1 + length xs) → n < k + length (x ∷ xs)
     by_test true is rest = let same : k ≡ n = cc in omega arith
     by_test false is rest = let l = rest is in omega arith
 
@@ -276,7 +276,7 @@ module _ (d : Drafted) (values : AreValues d.constants) where
   lock_there : (w : Word) → MatchOption (lock_in d w) (Unit {0}) (λ l. l < 0 + length d.locks)
   lock_there w = by_place (lock_in d w) refl
     where
-      by_place : (o : Option ℕ) → place_from 0 d.locks w ≡ o → MatchOption o (Unit {0}) (λ l. l < 0 + length d.locks)
+      by_place : (o : Option ℕ) → position_from 0 d.locks w ≡ o → MatchOption o (Unit {0}) (λ l. l < 0 + length d.locks)
       by_place None at = tt
       by_place (Some l) at = place_within 0 d.locks w l at
 

@@ -149,9 +149,9 @@ nothing = record {
 }
 
 -- where a name stands in a list of names, from k on
-abbrev pub place_from : ℕ → List Word → Word → Option ℕ
-place_from k [] name = None
-place_from k (x ∷ xs) name = if bytes_eq x name then Some k else place_from (k + 1) xs name
+abbrev pub position_from : ℕ → List Word → Word → Option ℕ
+position_from k [] name = None
+position_from k (x ∷ xs) name = if bytes_eq x name then Some k else position_from (k + 1) xs name
 
 abbrev pub constant_from : List Constant → Word → Option ℕ
 constant_from [] name = None
@@ -171,11 +171,11 @@ abbrev pub shared_in : Drafted → Word → Option (ℕ × Bool)
 shared_in d name = shared_from 0 d.words name
 
 abbrev pub lock_in : Drafted → Word → Option ℕ
-lock_in d name = place_from 0 d.locks name
+lock_in d name = position_from 0 d.locks name
 
 -- the register of a local
 abbrev pub local_in : List Word → Word → Option ℕ
-local_in locals name = place_from 0 locals name
+local_in locals name = position_from 0 locals name
 
 -- whether an operation has the name
 abbrev pub is_operation : List Operation → Word → Bool
@@ -336,7 +336,7 @@ unary_with w inner ws =
     else (if is_free_name w then name_with w inner ws
     else on_ok (or_fault Number' (value_in w)) (λ k. Ok (Number k, ws))))))))
 
--- Expressions, by so many steps at most: more than there are words is enough.
+-- Expressions, by this many steps at most: more than there are words is enough.
 abbrev mutual
   -- operators that bind at least so tightly
   pub expr_from : ℕ → Scope → ℕ → List Word → Read' Expr
@@ -357,7 +357,7 @@ abbrev mutual
       else on_ok (expr_from n s (binding by + 1) ws)
       (λ (right, rest). infix_from n s least (most_after by) (joined by left right) rest)))
 
--- expressions inside of another, by so many steps
+-- expressions inside of another, by this many steps
 abbrev pub inner_by : ℕ → Scope → Inner
 inner_by n s = record { scope = s; read = expr_from n s }
 
@@ -445,7 +445,7 @@ lock_line d ws =
     on_first ws (λ w rest. on_ok (new_name d [] w) (λ name. on_ok (all_read (name, rest)) (λ _.
     unless (nat_le 8 (length d.locks)) Limit (Ok (record d { locks = d.locks ++ name ∷ [] })))))
 
--- names parted by commas, and then `)`
+-- names separated by commas, and then `)`
 abbrev pub names_from : List Word → Drafted → List Word → Read' (List Word)
 names_from names d [] = Err Form
 names_from names d (w ∷ []) = Err Form

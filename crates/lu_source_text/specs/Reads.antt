@@ -69,7 +69,7 @@ in_begun said d b words = within d b said (texts words)
 abbrev pub meanings : Lent → Scope
 meanings s = record { constants = s.constants.now; words = s.words.now; locals = s.locals.now }
 
--- what is said of words inside of an expression, which is read by at most so many steps
+-- what is said of words inside of an expression, which is read by at most this many steps
 abbrev pub by_steps : {A : Type 0} → (Inner → List Word → A) → ℕ → Lent → List (Bor Word) → A
 by_steps said steps s words = said (inner_by steps (meanings s)) (texts words)
 

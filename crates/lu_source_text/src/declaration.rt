@@ -13,7 +13,7 @@ ghost use Rattle.lu_source_text.specs.Reads.{DraftIs, Reads, ReadsAlone, ReadsBe
 use crate::draft::{Begun, Block, Constant, Draft, Opening, Shared};
 use crate::expression::{after_word, first_number};
 use crate::fault::{Refusal, SourceFaultKind};
-use crate::names::{constant_from, is_free_name, place_from, shared_from};
+use crate::names::{constant_from, is_free_name, position_from, shared_from};
 use lu_component::{
     Array, MOST_ARGUMENTS, MOST_ARRAYS, MOST_CELLS, MOST_LOCAL, MOST_LOCKS, MOST_OPS,
 };
@@ -27,8 +27,8 @@ fn is_taken(draft: &Draft, locals: &[Name], word: &[u8]) -> bool
 {
     constant_from(&draft.constants, word).is_some()
         || shared_from(0, &draft.words, word).is_some()
-        || place_from(0, &draft.locks, word).is_some()
-        || place_from(0, locals, word).is_some()
+        || position_from(0, &draft.locks, word).is_some()
+        || position_from(0, locals, word).is_some()
 }
 
 /// A new name.
@@ -239,7 +239,7 @@ fn lock_line(alloc: Global, draft: &mut Draft, words: &[&[u8]]) -> Result<(), Re
     Ok(())
 }
 
-/// Names parted by commas and then `)`, after the names that were there; and the words after.
+/// Names separated by commas and then `)`, after the names that were there; and the words after.
 fn names_from<'a>(
     alloc: Global,
     draft: &Draft,

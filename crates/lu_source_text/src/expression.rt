@@ -13,7 +13,7 @@ ghost use Rattle.lu_source_text.specs.Reads.{ReadsCell, ReadsExchange, ReadsExpr
 use crate::draft::Constant;
 use crate::fault::{Refusal, SourceFaultKind};
 use crate::infix::{Infix, binding, infix_in, most_after};
-use crate::names::{constant_from, is_free_name, number_of, place_from, shared_from};
+use crate::names::{constant_from, is_free_name, number_of, position_from, shared_from};
 use crate::scope::{Cell, Scope};
 use lu_source::Expr;
 use lu_text::{Name, value_in};
@@ -74,7 +74,7 @@ pub(crate) fn local_in(locals: &[Name], word: &[u8]) -> Option<u8>
     requires { length locals.now ≤ REGISTERS }
     ensures { result ≡ spec.local_in locals.now word.now }
 {
-    Some(place_from(0, locals, word)? as u8)
+    Some(position_from(0, locals, word)? as u8)
 }
 
 /// What a name stands for that is not followed by an index.
@@ -144,10 +144,10 @@ pub(crate) fn cell_with<'a>(
 ) -> Result<(Cell, &'a [&'a [u8]]), Refusal>
     ensures { ReadsCell result (by_steps (spec.cell_with word.now) steps scope.entry words.now) }
 {
-    let Some((place, indexed)) = shared_from(0, scope.words, word) else {
+    let Some((number, indexed)) = shared_from(0, scope.words, word) else {
         return Err(Refusal::Kind(SourceFaultKind::Name));
     };
-    let array = place as u8;
+    let array = number as u8;
     if indexed {
         let inside = after_word(b"[".as_slice(), words)?;
         let (index, rest) = closed_with(alloc, steps, scope, b"]".as_slice(), inside)?;
@@ -293,7 +293,7 @@ fn unary_with<'a>(
     }
 }
 
-/// An expression with operators in it that bind at least so tightly, by so many steps at most.
+/// An expression with operators in it that bind at least so tightly, by this many steps at most.
 #[cycle(expression)]
 pub(crate) fn expr_from<'a>(
     alloc: Global,

@@ -24,7 +24,8 @@ pub enum SourceFaultKind {
     /// `O2`: a word or a sign in the wrong place, or none where one is wanted.
     Form,
 
-    /// `O4`: a word in a number's place that is neither a number up to 4294967295 nor a constant.
+    /// `O4`: a word where a number is wanted that is neither a number up to 4294967295 nor a
+    /// constant.
     Number,
 
     /// `O5`: a limit is passed: of a number, of a name's length, of a line's words, or by one

@@ -9,10 +9,10 @@ use crate::draft::{Constant, Shared};
 use lu_text::{Name, has_name_form, value_in};
 
 /// Where a name stands in a list of names, counted on from a number.
-pub(crate) fn place_from(before: usize, names: &[Name], word: &[u8]) -> Option<usize>
+pub(crate) fn position_from(before: usize, names: &[Name], word: &[u8]) -> Option<usize>
     requires { before + length names.now < 2 ^ 64 }
-    ensures place { result ≡ spec.place_from before names.now word.now }
-    ensures within { IfSome result (λ place. place < before + length names.now) }
+    ensures position { result ≡ spec.position_from before names.now word.now }
+    ensures within { IfSome result (λ position. position < before + length names.now) }
 {
     match names {
         [] => None,
@@ -20,7 +20,7 @@ pub(crate) fn place_from(before: usize, names: &[Name], word: &[u8]) -> Option<u
             if first.is(word) {
                 Some(before)
             } else {
-                place_from(before + 1, rest, word)
+                position_from(before + 1, rest, word)
             }
         }
     }

@@ -81,7 +81,7 @@ fn copied(alloc: Global, names: &[Name]) -> Result<Vec<Name>, AllocError>
     Ok(copies)
 }
 
-/// Adds entries of this line until there are so many.
+/// Adds entries of this line until there are this many.
 fn fill(
     alloc: Global,
     row: &mut Vec<Origin>,

@@ -17,7 +17,7 @@ use crate::expression::{
     after_word, cas_with, cell_with, expr_from, last_word, local_in, nothing_left,
 };
 use crate::fault::{Refusal, SourceFaultKind};
-use crate::names::{is_free_name, place_from};
+use crate::names::{is_free_name, position_from};
 use crate::scope::{Awaited, Cell, Scope};
 use lu_component::Operand;
 use lu_source::{Action, Evaluation, Expr, Stmt, coded, past, put, then};
@@ -391,9 +391,9 @@ fn lock_number(draft: &Draft, words: &[&[u8]]) -> Result<u8, Refusal>
     if let Some(_) = rest.split_first() {
         return Err(Refusal::Kind(SourceFaultKind::Form));
     }
-    match place_from(0, &draft.locks, word) {
+    match position_from(0, &draft.locks, word) {
         None => Err(Refusal::Kind(SourceFaultKind::Name)),
-        Some(place) => Ok(place as u8),
+        Some(number) => Ok(number as u8),
     }
 }
 

@@ -32,8 +32,8 @@ fn is_pair(first: u8, second: u8) -> bool
 
 /// Where the first byte stands that is no letter, digit or `_`.
 fn name_end(bytes: &[u8]) -> Option<usize>
-    ensures place { result ≡ position (λ b. not (names.is_name_part b)) bytes.now }
-    ensures within { IfSome result (λ place. place < length bytes.now) }
+    ensures end { result ≡ position (λ b. not (names.is_name_part b)) bytes.now }
+    ensures within { IfSome result (λ end. end < length bytes.now) }
 {
     bytes.iter().position(|byte| !is_name_part(*byte))
 }
@@ -45,7 +45,7 @@ fn name_len(bytes: &[u8]) -> usize
 {
     match name_end(bytes) {
         None => bytes.len(),
-        Some(place) => place,
+        Some(end) => end,
     }
 }
 

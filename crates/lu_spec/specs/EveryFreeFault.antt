@@ -67,8 +67,8 @@ abbrev pub ListsGiven : Matrix → List ℕ → Type 0
 ListsGiven matrix text =
     MatchBool (has_free_entries text) (ListsFreely matrix text) (ListsInOrder matrix text)
 
--- Where nothing is told of a text it lists histories of the matrix; else the first fault that is
--- told is the reader's.
+-- Where nothing is reported of a text it lists histories of the matrix; else the first fault that
+-- is reported is the reader's.
 abbrev pub IsGivenToldAsRead : Matrix → List ℕ → List SpecLineFault → Type 0
 IsGivenToldAsRead matrix text [] = ListsGiven matrix text
 IsGivenToldAsRead matrix text (first ∷ others) =

@@ -30,20 +30,20 @@ ReadAgain =
     IsMatrix matrix → IsSpec members → AreOf matrix members → IsListing members listed →
     IsReadAs matrix (spec_text listed) members
 
--- Where nothing is told of a text it lists histories of the matrix; else the first fault that is
--- told is the reader's.
+-- Where nothing is reported of a text it lists histories of the matrix; else the first fault that
+-- is reported is the reader's.
 abbrev pub IsToldAsRead : Matrix → List ℕ → List SpecLineFault → Type 0
 IsToldAsRead matrix text [] =
     (listed : List (List SerialOp)) × AreListed matrix listed × (text ≡ spec_text listed)
 IsToldAsRead matrix text (first ∷ others) = IsSpecFault matrix text (At first.kind first.line)
 
--- What is told of a text agrees with its reader.
+-- What is reported of a text agrees with its reader.
 abbrev pub ToldAsRead : Type 0
 ToldAsRead =
     (matrix : Matrix) (text : List ℕ) (faults : List SpecLineFault) →
     AreSpecFaults matrix text faults → IsToldAsRead matrix text faults
 
--- Nothing is told of a text that is read.
+-- Nothing is reported of a text that is read.
 abbrev pub NoneTold : Type 0
 NoneTold =
     (matrix : Matrix) (text : List ℕ) (members : List (List SerialOp))

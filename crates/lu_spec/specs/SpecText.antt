@@ -82,8 +82,8 @@ SaysHistory line q = IsListable q × (line ≡ history_line q)
 abbrev pub SaysNoHistory : List ℕ → Type 0
 SaysNoHistory line = (q : List SerialOp) → IsListable q → line ≡ history_line q → ⊥
 
--- At the first place where they differ q has the greater entry: so it is greater than p, and does
--- not begin with it.
+-- At the first entry in which they differ q has the greater entry: so it is greater than p, and
+-- does not begin with it.
 abbrev pub ComesAfter : List SerialOp → List SerialOp → Type 0
 ComesAfter [] q = ⊥
 ComesAfter (a ∷ p) [] = ⊥

@@ -139,9 +139,9 @@ pub fn collect_spec(alloc: Global, matrix: &Matrix, text: &[u8]) -> Result<Spec,
 {
     let mut draft = nothing_collected(alloc)?;
     let lines = lines_of(alloc, text)?;
-    for (place, line) in lines.iter().enumerate() {
+    for (index, line) in lines.iter().enumerate() {
         let words = words_of(alloc, line)?;
-        draft = collect_line(alloc, matrix, draft, &words, place + 1)?;
+        draft = collect_line(alloc, matrix, draft, &words, index + 1)?;
     }
     Ok(Spec::of_closed(draft.set))
 }

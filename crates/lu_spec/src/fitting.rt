@@ -21,7 +21,7 @@ pub(crate) fn calls_of(matrix: &Matrix) -> [u8; MOST_THREADS]
     calls
 }
 
-/// Whether each history below the place has at most so many operations of each thread.
+/// Whether each history below the place has at most this many operations of each thread.
 pub(crate) fn all_fit<T: SerialTree>(tree: &T, place: T::Place, left: [u8; MOST_THREADS]) -> bool
     requires place { T.is_place tree.now place }
     requires size { length left ≡ MOST_THREADS }
@@ -42,7 +42,7 @@ pub(crate) fn all_fit<T: SerialTree>(tree: &T, place: T::Place, left: [u8; MOST_
     true
 }
 
-/// Whether a history has at most so many operations of each thread.
+/// Whether a history has at most this many operations of each thread.
 pub(crate) fn fits_in(history: &[SerialOp], left: [u8; MOST_THREADS]) -> bool
     requires { length left ≡ MOST_THREADS }
     ensures { IsTrue result ↔ FitsIn left history.now }

@@ -137,9 +137,9 @@ pub fn collect_free_spec(alloc: Global, matrix: &Matrix, text: &[u8]) -> Result<
 {
     let mut draft = no_lines(alloc)?;
     let lines = lines_of(alloc, text)?;
-    for (place, line) in lines.iter().enumerate() {
+    for (index, line) in lines.iter().enumerate() {
         let words = words_of(alloc, line)?;
-        draft = collect_free_line(alloc, matrix, draft, &words, place + 1)?;
+        draft = collect_free_line(alloc, matrix, draft, &words, index + 1)?;
     }
     Ok(FreeSpec::of_closed(draft.set))
 }

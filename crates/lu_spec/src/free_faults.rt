@@ -58,9 +58,9 @@ pub fn free_spec_faults(
     let mut draft = no_lines(alloc)?;
     let mut faults = Vec::new(alloc);
     let lines = lines_of(alloc, text)?;
-    for (place, line) in lines.iter().enumerate() {
+    for (index, line) in lines.iter().enumerate() {
         let words = words_of(alloc, line)?;
-        let (next, fault) = judge_free_line(alloc, matrix, draft, &words, place + 1)?;
+        let (next, fault) = judge_free_line(alloc, matrix, draft, &words, index + 1)?;
         draft = next;
         faults = with_fault(faults, fault)?;
     }

@@ -81,7 +81,7 @@ fn is_serial(history: &[SerialOp]) -> bool
     }
 }
 
-/// Whether the history has the greater operation at the first place where it differs from `last`.
+/// Whether the history has the greater operation at the first one in which it differs from `last`.
 pub(crate) fn comes_after(last: &[SerialOp], history: &[SerialOp]) -> bool
     ensures { IsTrue result ↔ ComesAfter last.now history.now }
 {

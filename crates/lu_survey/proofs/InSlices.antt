@@ -6,7 +6,7 @@ use Rattle.lu_test.specs.Matrix.{IsOf, Matrix}
 use Rattle.lu_machine.specs.Starts.{CanRun}
 use Rattle.lu_refine.specs.ByThread.{Asked, CanAsk, IsMatrixAt, IsWithinSlice, bases_of, choice_number, matrix_count}
 use Rattle.lu_refine.proofs.Filling.{positions, rows_of, rows_run}
-use Rattle.lu_refine.proofs.Numbered.{before_earlier, choices_fit, compare, place_below, place_same}
+use Rattle.lu_choices.proofs.Numbered.{before_less, choices_fit, compare, number_below, same_choice}
 use Rattle.lu_survey.specs.Laws.{WholeSlices}
 use Rattle.lu_survey.specs.Slices.{AreAllSo, IsFirstOther}
 
@@ -35,7 +35,7 @@ module _ (asked : Asked) (IsSo : List ℕ → Type 0) where
     | inl less ↦ before choice (record { chosen = within.chosen; least = within.least; less = less })
     | inr least ↦
         let there : choice_number asked choice ≡ choice_number asked at.choice = omega (arith, at.is_at, within.less, least) in
-        subst IsSo (sym (place_same (bases_of asked) choice at.choice within.chosen at.chosen there)) here
+        subst IsSo (sym (same_choice (bases_of asked) choice at.choice within.chosen at.chosen there)) here
   ]
 
   -- all of the slice
@@ -43,7 +43,7 @@ module _ (asked : Asked) (IsSo : List ℕ → Type 0) where
   so_all from to start end number end_is start_is past before = record {
     number = omega (arith, end_is, start_is);
     each = λ choice within.
-        let fits = place_below (bases_of asked) choice within.chosen in
+        let fits = number_below (bases_of asked) choice within.chosen in
         before choice (record { chosen = within.chosen; least = omega (arith, within.least, start_is); less = omega (arith, within.less, fits, end_is, past) });
   }
 
@@ -56,7 +56,7 @@ module _ (asked : Asked) (IsSo : List ℕ → Type 0) where
       is = at.fills;
       other = here;
       before = λ earlier within sooner.
-          let lower = before_earlier (bases_of asked) earlier at.choice within.chosen at.chosen sooner in
+          let lower = before_less (bases_of asked) earlier at.choice within.chosen at.chosen sooner in
           before earlier (record { chosen = within.chosen; least = omega (arith, within.least, start_is, end_is, least, less); less = omega (arith, lower, at.is_at) });
     }
 
@@ -69,7 +69,7 @@ module _ (asked : Asked) (IsSo : List ℕ → Type 0) where
       is = first.is;
       other = first.other;
       before = λ earlier within sooner.
-          let lower = before_earlier (bases_of asked) earlier first.choice within.chosen first.within.chosen sooner in
+          let lower = before_less (bases_of asked) earlier first.choice within.chosen first.within.chosen sooner in
           first.before earlier (record { chosen = within.chosen; least = within.least; less = omega (arith, lower, first.within.less) }) sooner;
     }
 
@@ -112,7 +112,7 @@ module _ (asked : Asked) (IsSo : List ℕ → Type 0) where
 
 pub whole_slices : WholeSlices
 whole_slices = record {
-  each = λ asked to choice all chosen. record { chosen = chosen; least = omega arith; less = omega (arith, all, place_below (bases_of asked) choice chosen) };
+  each = λ asked to choice all chosen. record { chosen = chosen; least = omega arith; less = omega (arith, all, number_below (bases_of asked) choice chosen) };
   size = λ asked to all. omega (arith, all);
   few = λ asked limits. choices_fit (bases_of asked) (positions asked.calls asked.candidates limits);
 }

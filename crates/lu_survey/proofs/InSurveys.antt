@@ -14,7 +14,7 @@ use Rattle.lu_certify.specs.Certificates.{AreSame}
 use Rattle.lu_history.specs.declared.serial.SerialOp.{SerialOp}
 use Rattle.lu_machine.specs.Starts.{AllEnd}
 use Rattle.lu_refine.specs.ByThread.{Asked, IsMatrixAt, bases_of, matrix_count, role_matrix}
-use Rattle.lu_refine.proofs.Numbered.{place_same}
+use Rattle.lu_choices.proofs.Numbered.{same_choice}
 use Rattle.lu_survey.specs.declared.survey.CertifiedMatrix.{CertifiedMatrix}
 use Rattle.lu_survey.specs.declared.survey.Survey.{Survey}
 use Rattle.lu_survey.specs.declared.survey.Tally.{Tally}
@@ -258,7 +258,7 @@ Alike x y = (x.matrix ≡ y.matrix) × AreSame x.certificate y.certificate
 
 alike_at : (asked : Asked) (nodes number : ℕ) (x y : CertifiedMatrix) → AllEnd asked.component asked.setup → IsCertifiedAt asked nodes number x → IsCertifiedAt asked nodes number y → Alike x y
 alike_at asked nodes number x y ends a b =
-    let same : a.choice ≡ b.choice = place_same (bases_of asked) a.choice b.choice a.chosen b.chosen (a.is_at ∙ sym b.is_at) in (
+    let same : a.choice ≡ b.choice = same_choice (bases_of asked) a.choice b.choice a.chosen b.chosen (a.is_at ∙ sym b.is_at) in (
       a.fills ∙ (ap (role_matrix asked) same ∙ sym b.fills),
       one_certificate asked nodes b.choice x.certificate y.certificate ends (subst (λ (choice : List ℕ). IsRoleCertificate asked nodes choice x.certificate) same a.certified) b.certified,
     )

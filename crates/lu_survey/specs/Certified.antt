@@ -12,7 +12,7 @@ use Rattle.lu_survey.specs.declared.certified_campaign.CertifiedCampaign.{Certif
 use Rattle.lu_survey.specs.declared.certified_campaign.CertifiedCampaign.TheVariants.{AllLinearizable, First}
 use Rattle.lu_survey.specs.Slices.{AreAllSo, IsFirstOther}
 
--- the bounds that are asked for, and so many nodes
+-- the bounds that are asked for, and this many nodes
 abbrev pub limits_for : Asked → ℕ → Limits
 limits_for asked nodes =
     record { bound = asked.bound; serial = asked.serial; nodes = nodes }

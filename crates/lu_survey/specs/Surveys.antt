@@ -64,7 +64,7 @@ is_undecided (Undecided smaller r) = true
 
 -- ---- surveys
 
--- so many of the list have a certificate of this kind, and which is the first of them
+-- this many of the list have a certificate of this kind, and which is the first of them
 pub record IsTally (is_kind : Certificate → Bool) (list : List CertifiedMatrix) (tally : Tally)
     : Type 0 where
   pub count : tally.count ≡ count_by (λ one. is_kind one.certificate) list

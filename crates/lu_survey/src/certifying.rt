@@ -52,7 +52,7 @@ pub(crate) fn certified_at(
 }
 
 /// Certifies some of the matrices of [`campaign_by_thread`](lu_refine::campaign_by_thread), within
-/// the bounds of the roles and with at most so many nodes of each cut: those with the numbers
+/// the bounds of the roles and with at most this many nodes of each cut: those with the numbers
 /// `from` to `to - 1` in its order, counted from 0; a `to` past the last matrix is the end. Returns
 /// the first of them whose certificate says anything but that the component is linearizable, with
 /// that certificate, or how many they are: 0 where `from` is not below `to` or not below the number

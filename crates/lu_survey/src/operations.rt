@@ -22,8 +22,8 @@ pub fn have_same_operations(component: &Component, other: &Component) -> bool
     if ops.len() != others.len() {
         return false;
     }
-    for place in 0..ops.len() {
-        if !is_alike(&ops[place], &others[place]) {
+    for number in 0..ops.len() {
+        if !is_alike(&ops[number], &others[number]) {
             return false;
         }
     }

@@ -21,7 +21,7 @@ use Rattle.lu_component.specs.Component.{Component, IsComponent, IsOp}
 use Rattle.lu_component.proofs.Named.{name_has, place_at}
 use Rattle.lu_test.specs.declared.matrix.Call.{Call}
 use Rattle.lu_test.specs.Matrix.{AreArguments, IsMatrix, IsOf, IsCallOf, Matrix}
-use Rattle.lu_test.specs.Signatures.{signature, signature_place, signatures}
+use Rattle.lu_test.specs.Signatures.{signature, signature_number, signatures}
 use Rattle.lu_test.proofs.Signatures.{same_place, signature_at}
 use Rattle.lu_test.specs.MatrixText.{MatrixDraft, nothing, matrix_of, has_name, has_operation, has_arguments, has_values, call_of, calls_said, calls_after, calls_fault, is_full, with_thread, with_setup, by_keyword, by_parts, parts_in, line_of, matrix_grammar, operation_name, arguments_text, call_text, others_text, calls_text, line_text, thread_text, setup_text, matrix_text}
 
@@ -93,7 +93,7 @@ is_said c is call fits arguments =
     said : (op : Op) → call.op < length c.operations → slice_get c.operations call.op ≡ Some op → IsSaid c call
     said op within at =
         let small = recursion_from_All (λ n. n < 2 ^ 32) call.args arguments.1 in
-        let place : signature_place (signatures c.operations) (operation_name c.operations call.op) ≡ Some call.op = same_place c.operations (operation_name c.operations call.op) ∙ place_at (λ o. o.name) c.operations call.op within is.operations_apart in
+        let place : signature_number (signatures c.operations) (operation_name c.operations call.op) ≡ Some call.op = same_place c.operations (operation_name c.operations call.op) ∙ place_at (λ o. o.name) c.operations call.op within is.operations_apart in
         let sign : slice_get (signatures c.operations) call.op ≡ Some (signature op) = signature_at c.operations call.op ∙ ap (λ (o : Option Op). option_map signature o) at in
         let name = name_has IsName (λ o. o.name) c.operations call.op within (op_names c is) in
         let many : length call.args ≡ op.args = rw at at fits in

@@ -5,7 +5,7 @@ use Rattle.std.specs.List.{filter_map, list_all}
 use denote.Ref.{Bor}
 use Rattle.lu_text.specs.Lines.{texts}
 use Rattle.lu_test.specs.MatrixText.{named_operation}
-use Rattle.lu_test.specs.Signatures.{Signature, signature_place}
+use Rattle.lu_test.specs.Signatures.{Signature, signature_number}
 
 pub all_texts : (p : List ℕ → Bool) (words : List (Bor (List ℕ))) → list_all (λ w. p w.now) words ≡ list_all p (texts words)
 all_texts p [] = refl
@@ -20,7 +20,7 @@ filter_map_texts {A = A} f (w ∷ ws) = go (f w.now) refl (filter_map_texts f ws
     go (Some x) e rest = rw e (ap (λ xs. x ∷ xs) rest)
 
 -- the signature of the first word
-pub first_named : (signatures : List Signature) (words : List (Bor (List ℕ))) (d : Bor (List ℕ)) → 1 ≤ length words → signature_place signatures (get_or words 0 d).now ≡ named_operation signatures (texts words)
+pub first_named : (signatures : List Signature) (words : List (Bor (List ℕ))) (d : Bor (List ℕ)) → 1 ≤ length words → signature_number signatures (get_or words 0 d).now ≡ named_operation signatures (texts words)
 first_named signatures [] d h = absurd (omega arith)
 first_named signatures (w ∷ ws) d h = refl
 

@@ -9,7 +9,7 @@ use Rattle.std.proofs.lemmas.Option.{slice_get-map}
 use Rattle.lu_component.specs.declared.component.Op.{Op}
 use Rattle.lu_component.specs.Component.{Component, IsComponent, operation_number}
 use Rattle.lu_test.specs.MatrixText.{AreFew}
-use Rattle.lu_test.specs.Signatures.{Signature, signature, signature_place, signatures}
+use Rattle.lu_test.specs.Signatures.{Signature, signature, signature_number, signatures}
 
 -- the place of the first that passes, or the length
 place_or_len : (p : Signature → Bool) (ops : List Op) → position_or_len p (signatures ops) ≡ position_or_len (λ op. p (signature op)) ops
@@ -17,7 +17,7 @@ place_or_len p [] = refl
 place_or_len p (op ∷ ops) = ap (λ (n : ℕ). cond (not (p (signature op))) (1 + n) 0) (place_or_len p ops)
 
 -- a name has the same place among both
-pub same_place : (ops : List Op) (name : List ℕ) → signature_place (signatures ops) name ≡ operation_number ops name
+pub same_place : (ops : List Op) (name : List ℕ) → signature_number (signatures ops) name ≡ operation_number ops name
 same_place ops name =
     let many : length (signatures ops) ≡ length ops = length-map ops signature in
     let place = place_or_len (λ s. bytes_eq s.name name) ops in

@@ -17,14 +17,14 @@ use Rattle.lu_test.specs.declared.matrix.Call.{Call}
 use Rattle.lu_test.specs.declared.matrix_fault.MatrixFaultKind.{MatrixFaultKind}
 use Rattle.lu_test.specs.declared.matrix_fault.MatrixFaultKind.TheVariants.{Byte, Form, UnknownOp, Arguments, Number, Limit}
 use Rattle.lu_test.specs.Matrix.{Matrix, AreThreads, IsSetup}
-use Rattle.lu_test.specs.Signatures.{Signature, signature_place, signatures, takes}
+use Rattle.lu_test.specs.Signatures.{Signature, signature_number, signatures, takes}
 
 -- ---- the words of a call: a name and arguments
 
--- the place of the signature that the first word names
+-- the number of the signature that the first word names
 abbrev pub named_operation : List Signature → List Word → Option ℕ
 named_operation signatures [] = None
-named_operation signatures (name ∷ arguments) = signature_place signatures name
+named_operation signatures (name ∷ arguments) = signature_number signatures name
 
 -- the signature itself
 abbrev pub signature_of : List Signature → List Word → Option Signature

@@ -50,7 +50,7 @@ move_with (Some t) None = Err Number
 move_with (Some t) (Some p) =
     if nat_le t 7 && nat_le p 7 then Ok (record { thread = t; pick = p }) else Err Limit
 
--- the move that a word says, by the place of its first colon
+-- the move that a word says, by the position of its first colon
 abbrev pub move_cut : List ℕ → Option ℕ → Result Move ScheduleFault
 move_cut word None = move_with (number_in word) (Some 0)
 move_cut word (Some colon) =

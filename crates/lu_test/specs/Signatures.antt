@@ -15,11 +15,11 @@ signature op = record { name = op.name; arity = Some op.args }
 abbrev pub signatures : List Op → List Signature
 signatures operations = map signature operations
 
--- the place of the signature with this name
-abbrev pub signature_place : List Signature → List ℕ → Option ℕ
-signature_place signatures name = position (λ s. bytes_eq s.name name) signatures
+-- the number of the signature with this name
+abbrev pub signature_number : List Signature → List ℕ → Option ℕ
+signature_number signatures name = position (λ s. bytes_eq s.name name) signatures
 
--- a call may have so many arguments: any number, where it is not known how many
+-- a call may have this many arguments: any number, where it is not known how many
 abbrev pub takes : Option ℕ → ℕ → Bool
 takes None count = true
 takes (Some arity) count = arity == count

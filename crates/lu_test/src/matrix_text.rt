@@ -19,7 +19,7 @@ use crate::matrix::{
     Arguments, Call, Calls, MOST_CALLS, MOST_CALLS_OF_THREAD, MOST_THREADS, Matrix,
 };
 use crate::matrix_fault::{MatrixFault, MatrixFaultKind};
-use crate::signature::{Signature, signature_place, signatures_of};
+use crate::signature::{Signature, signature_number, signatures_of};
 use lu_component::Component;
 use lu_text::{Fault, are_allowed, before_comment, lines_of, parts_of, value_in, words_of};
 use std::alloc::{AllocError, Global};
@@ -68,13 +68,13 @@ impl Part<'_> {
     }
 }
 
-/// The place of the signature that a part's first word names.
+/// The number of the signature that a part's first word names.
 fn named_operation(signatures: &[Signature<'_>], part: &Part<'_>) -> Option<usize>
     ensures { result ≡ spec.named_operation signatures.now part.now }
 {
     match part.words.as_slice() {
         [] => None,
-        [name, ..] => signature_place(signatures, name),
+        [name, ..] => signature_number(signatures, name),
     }
 }
 
@@ -236,7 +236,7 @@ fn total_calls(threads: &[Calls]) -> usize
     threads.iter().map(|calls| calls.as_slice().len()).sum()
 }
 
-/// Whether there is no room for one more thread of so many calls.
+/// Whether there is no room for one more thread of this many calls.
 fn is_full(threads: &[Calls], calls: usize) -> bool
     requires { sum_by length threads.now ≤ MOST_CALLS }
     ensures { result ≡ spec.is_full threads.now calls }

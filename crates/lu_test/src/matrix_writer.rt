@@ -115,9 +115,9 @@ fn put_threads(text: &mut String, operations: &[Op], threads: &[Calls]) -> Resul
 }
 
 /// The canonical text of a matrix: `setup`, where it has calls, and `thread` for each thread, and
-/// where there are calls a space and the calls, parted by `;` without blanks; one space before each
-/// argument; each line ends with LF. Read again it is the same matrix. Asks for a matrix of the
-/// component.
+/// where there are calls a space and the calls, separated by `;` without blanks; one space before
+/// each argument; each line ends with LF. Read again it is the same matrix. Asks for a matrix of
+/// the component.
 ///
 /// # Errors
 ///

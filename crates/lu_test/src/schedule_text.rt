@@ -12,7 +12,7 @@ ghost use Rattle.lu_test.specs.ScheduleText as spec;
 
 use crate::schedule::{MOST_LISTED_MOVES, Move, Schedule};
 use crate::schedule_fault::ScheduleFault;
-use lu_text::{is_number, number_up_to, parts_of, place_of};
+use lu_text::{is_number, number_up_to, parts_of, position_of};
 use std::alloc::{AllocError, Global};
 
 /// The move of a thread and a pick, which these words say.
@@ -41,7 +41,7 @@ fn move_with(thread: &[u8], pick: &[u8]) -> Result<Move, ScheduleFault>
 pub fn move_in(word: &[u8]) -> Result<Move, ScheduleFault>
     ensures { result ≡ move_of word.now }
 {
-    match place_of(b':', word) {
+    match position_of(b':', word) {
         None => move_with(word, b"0"),
         Some(colon) => {
             let (thread, pick) = (&word[..colon], &word[colon + 1..]);
@@ -56,7 +56,7 @@ pub fn move_in(word: &[u8]) -> Result<Move, ScheduleFault>
 pub(crate) fn line_in(text: &[u8]) -> Option<&[u8]>
     ensures { option_map (λ line. line.now) result ≡ one_line text.now }
 {
-    match place_of(b'\n', text) {
+    match position_of(b'\n', text) {
         Some(end) if end + 1 == text.len() => Some(&text[..end]),
         _ => None,
     }

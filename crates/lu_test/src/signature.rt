@@ -49,7 +49,7 @@ impl Signature<'_> {
         self.name.is(name)
     }
 
-    /// Whether a call may have so many arguments.
+    /// Whether a call may have this many arguments.
     pub fn takes(&self, count: usize) -> bool
         ensures { result ≡ spec.takes self.now.arity count }
     {
@@ -60,9 +60,9 @@ impl Signature<'_> {
     }
 }
 
-/// The place of the signature with this name, from 0, where there is one.
-pub(crate) fn signature_place(signatures: &[Signature<'_>], name: &[u8]) -> Option<usize>
-    ensures { result ≡ spec.signature_place signatures.now name.now }
+/// The number of the signature with this name, from 0, where there is one.
+pub(crate) fn signature_number(signatures: &[Signature<'_>], name: &[u8]) -> Option<usize>
+    ensures { result ≡ spec.signature_number signatures.now name.now }
 {
     signatures.iter().position(|signature| signature.is(name))
 }

@@ -53,7 +53,7 @@ is_blank b = b == 32 || (b == 9 || b == 13)
 
 abbrev pub cut_at : List ℕ → Option ℕ → List ℕ
 cut_at line None = line
-cut_at line (Some place) = take place line
+cut_at line (Some position) = take position line
 
 -- `#` begins a comment, up to the line's end
 abbrev pub before_comment : List ℕ → List ℕ

@@ -1,4 +1,4 @@
--- So many words and no more.
+-- This many words and no more.
 use Rattle.std.specs.Prelude.{ℕ, List, [], ◌∷◌, Option, Some, None}
 use denote.Ref.{Bor}
 

@@ -16,4 +16,4 @@ pub use fault::Fault;
 pub use line::{are_allowed, before_comment, cut_line, kept_lines, lines_of, parts_of, words_of};
 pub use name::{MOST_NAME, Name, has_name_form, is_long};
 pub use number::{is_number, number_up_to, value_in};
-pub use words::{exactly_five, exactly_four, exactly_one, exactly_three, exactly_two, place_of};
+pub use words::{exactly_five, exactly_four, exactly_one, exactly_three, exactly_two, position_of};

@@ -5,7 +5,7 @@ ghost use Rattle.std.specs.List.{list_all};
 ghost use Rattle.lu_text.specs.Lines as spec;
 ghost use Rattle.lu_text.specs.Lines.{texts, first_len, IsFirstLine};
 
-use crate::words::place_of;
+use crate::words::position_of;
 use std::alloc::{AllocError, Global};
 
 pub(crate) fn is_blank(byte: u8) -> bool
@@ -26,7 +26,7 @@ pub fn are_allowed(line: &[u8]) -> bool
 pub fn before_comment(line: &[u8]) -> &[u8]
     ensures { result.now ≡ spec.before_comment line.now }
 {
-    match place_of(b'#', line) {
+    match position_of(b'#', line) {
         None => line,
         Some(hash) => &line[..hash],
     }

@@ -7,7 +7,7 @@ ghost use Rattle.lu_text.specs.Lines.{texts};
 ghost use Rattle.lu_text.specs.Words as spec;
 
 /// Where a byte first stands in a text.
-pub fn place_of(byte: u8, text: &[u8]) -> Option<usize>
+pub fn position_of(byte: u8, text: &[u8]) -> Option<usize>
     ensures { result ≡ position (λ b. b == byte) text.now }
 {
     text.iter().position(|other| *other == byte)
@@ -24,7 +24,7 @@ pub fn exactly_one<'a>(words: &[&'a [u8]]) -> Option<&'a [u8]>
     Some(words[0])
 }
 
-/// The two words, where there are so many and no more.
+/// The two words, where there are this many and no more.
 #[tactic(auto, using(crate::proofs::Arity::are_two, crate::proofs::Arity::are_not_two))]
 pub fn exactly_two<'a>(words: &[&'a [u8]]) -> Option<(&'a [u8], &'a [u8])>
     ensures { option_map spec.two_texts result ≡ spec.exactly_two (texts words.now) }
@@ -35,7 +35,7 @@ pub fn exactly_two<'a>(words: &[&'a [u8]]) -> Option<(&'a [u8], &'a [u8])>
     Some((words[0], words[1]))
 }
 
-/// The three words, where there are so many and no more.
+/// The three words, where there are this many and no more.
 #[tactic(auto, using(crate::proofs::Arity::are_three, crate::proofs::Arity::are_not_three))]
 pub fn exactly_three<'a>(words: &[&'a [u8]]) -> Option<(&'a [u8], &'a [u8], &'a [u8])>
     ensures { option_map spec.three_texts result ≡ spec.exactly_three (texts words.now) }
@@ -46,7 +46,7 @@ pub fn exactly_three<'a>(words: &[&'a [u8]]) -> Option<(&'a [u8], &'a [u8], &'a 
     Some((words[0], words[1], words[2]))
 }
 
-/// The four words, where there are so many and no more.
+/// The four words, where there are this many and no more.
 #[tactic(auto, using(crate::proofs::Arity::are_four, crate::proofs::Arity::are_not_four))]
 pub fn exactly_four<'a>(words: &[&'a [u8]]) -> Option<(&'a [u8], &'a [u8], &'a [u8], &'a [u8])>
     ensures { option_map spec.four_texts result ≡ spec.exactly_four (texts words.now) }
@@ -57,7 +57,7 @@ pub fn exactly_four<'a>(words: &[&'a [u8]]) -> Option<(&'a [u8], &'a [u8], &'a [
     Some((words[0], words[1], words[2], words[3]))
 }
 
-/// The five words, where there are so many and no more.
+/// The five words, where there are this many and no more.
 #[tactic(auto, using(crate::proofs::Arity::are_five, crate::proofs::Arity::are_not_five))]
 pub fn exactly_five<'a>(
     words: &[&'a [u8]],

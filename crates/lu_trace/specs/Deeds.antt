@@ -20,7 +20,7 @@ use Rattle.lu_trace.specs.Wordings.{goes_on_at, is_indexed, register_becomes, re
 
 -- ---- words
 
--- `[2]`, where cells are told with their index
+-- `[2]`, where cells are shown with their index
 abbrev pub index_word : Bool → ℕ → List ℕ
 index_word indexed i = if indexed then codes "[" ++ decimal i ++ codes "]" else []
 

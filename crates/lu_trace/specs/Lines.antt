@@ -97,7 +97,7 @@ labelled_line labels c f instr =
     named_label labels f.op (code_of_operation c f.op) f.place
     ++ labelled_instr labels c f.op instr ++ codes "  # "
 
--- what the instruction at the operation's place is told by, and what begins a remark
+-- what the instruction at the operation's place is shown by, and what begins a remark
 abbrev pub told_by : Wording → AComponent → Frame → Instr → List ℕ
 told_by Component c f instr = component_line c f instr
 told_by (Labelled labels) c f instr = labelled_line labels.now c f instr
@@ -108,7 +108,7 @@ told_by (Source lines origins) c f instr =
 abbrev pub call_words : AComponent → Call → List ℕ
 call_words c call = codes "call " ++ call_text c.operations call
 
--- the next call of thread t, which has made so many
+-- the next call of thread t, which has made this many
 abbrev pub next_call : State → ℕ → ℕ → List ℕ
 next_call s t done =
     option_map_or (λ call. call_words s.component call) (slice_get (calls_of s.matrix t) done) []

@@ -27,7 +27,7 @@ indent = codes "     "
 abbrev pub setup_line : Wording → State → List ℕ
 setup_line how s = indent ++ step_words how s first_move ++ codes "\n"
 
--- Thread 0 leads from the state s to the state `end` by so many calls and instructions, each pick
+-- Thread 0 leads from the state s to the state `end` by this many calls and instructions, each pick
 -- 0, and these are their lines.
 abbrev pub SetupLines : Wording → ℕ → State → State → List ℕ → Type 0
 SetupLines how zero s end lines = (end ≡ s) × (lines ≡ [])
@@ -49,7 +49,8 @@ abbrev pub setup_heading : List Call → List ℕ
 setup_heading [] = []
 setup_heading (call ∷ calls) = codes "setup\n"
 
--- the lines from the state s to the state `end`, of so many steps or of all that thread 0 can make
+-- the lines from the state s to the state `end`, of this many steps or of all that thread 0 can
+-- make
 abbrev pub LinesUpTo : Wording → ℕ → State → State → List ℕ → Type 0
 LinesUpTo how most s end lines =
     (steps : ℕ) × SetupLines how steps s end lines

@@ -1,4 +1,4 @@
--- How instructions are told: as the component's text has them, with its labels or without, or as
+-- How instructions are shown: as the component's text has them, with its labels or without, or as
 -- the source has them that the component was compiled from.
 use Rattle.std.specs.Prelude.{ℕ, ◌-◌, ◌++◌, if◌then◌else◌, Bool, true, List, [], codes, Option, Some, None, slice_get}
 use Rattle.std.specs.Option.{option_and_then, option_map, option_map_or, unwrap_or}
@@ -64,7 +64,7 @@ goes_on_to (Some target) = codes "goes on at " ++ target
 abbrev pub goes_on_at : Wording → Frame → ℕ → List ℕ
 goes_on_at how f place = goes_on_to (target_name how f place)
 
--- whether the cells of array w are told with their index
+-- whether the cells of array w are shown with their index
 abbrev pub is_indexed : Wording → ℕ → Bool
 is_indexed Component w = true
 is_indexed (Labelled labels) w = true

@@ -37,7 +37,7 @@ pub(crate) struct Swap {
     desired: u32,
 }
 
-/// Adds the name of a cell, with its index where the cells of its array are told with it.
+/// Adds the name of a cell, with its index where the cells of its array are shown with it.
 fn write_cell_name(
     text: &mut String,
     how: &Wording<'_>,
@@ -138,8 +138,8 @@ pub(crate) fn value_in(
     requires index { IsOperand index }
     ensures { result ≡ spec.seen machine.now frame.now array index }
 {
-    let place = machine.cell(array, frame.value(index))?;
-    Some(machine.value_at(place))
+    let cell = machine.cell(array, frame.value(index))?;
+    Some(machine.value_at(cell))
 }
 
 /// Adds what a read of this value does.

@@ -3,7 +3,7 @@
 //! [`write_trace`] plays a schedule of a component and a matrix, and writes a line for each step.
 //! Each thread has a column of its own, so that it is seen how their steps interleave.
 //! [`write_trace_from_setup`] begins before, with what the calls of the matrix's setup do and
-//! leave. A component is told with the labels that its text has, and one that was compiled from a
+//! leave. A component is shown with the labels that its text has, and one that was compiled from a
 //! source by the source's lines and names, with [`write_worded_trace`] and a [`Wording`].
 //!
 //! ```text

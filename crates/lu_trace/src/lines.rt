@@ -156,7 +156,7 @@ fn write_labelled_line(
     text.push_str("  # ")
 }
 
-/// Adds what the instruction at the operation's place is told by, and what begins a remark.
+/// Adds what the instruction at the operation's place is shown by, and what begins a remark.
 pub(crate) fn write_instr_text(
     text: &mut String,
     how: &Wording<'_>,

@@ -104,7 +104,7 @@ fn write_value(
 {
     match machine.cell(array, u32::from(index)) {
         None => Ok(()),
-        Some(place) => write!(text, " {}", machine.value_at(place)),
+        Some(cell) => write!(text, " {}", machine.value_at(cell)),
     }
 }
 

@@ -64,8 +64,8 @@ fn write_move(
 /// after `#` what it did. Local instructions that run with a move stand below it, without a
 /// number. Last comes a line for each thread that is blocked in the end, with what it waits for.
 ///
-/// An instruction is told as the component's text has it, `load r1 top 0`, and its remark by
-/// registers, cells and labels, which have the names that the text gives them or are told by their
+/// An instruction is shown as the component's text has it, `load r1 top 0`, and its remark by
+/// registers, cells and labels, which have the names that the text gives them or are shown by their
 /// places; or by the line of the source that it comes from, and its remark by locals, words and
 /// lines:
 ///

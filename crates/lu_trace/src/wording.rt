@@ -1,4 +1,4 @@
-//! How instructions are told.
+//! How instructions are shown.
 
 ghost use Rattle.std.specs.Prelude.{◌≡◌, is_some};
 ghost use Rattle.std.specs.Option.{option_copied};
@@ -13,7 +13,7 @@ use lu_text::{Name, before_comment};
 use std::alloc::AllocError;
 use std::str;
 
-/// How instructions are told.
+/// How instructions are shown.
 #[derive(Clone, Copy)]
 pub enum Wording<'a> {
     /// As the component's text has them, its labels by their places: `L3`.
@@ -28,7 +28,7 @@ pub enum Wording<'a> {
         /// The lines of the source, in their order and without their LFs.
         lines: &'a [&'a [u8]],
 
-        /// Where the instructions of the component come from. What it lacks is told without line
+        /// Where the instructions of the component come from. What it lacks is shown without line
         /// and locals.
         origins: &'a Origins,
     },
@@ -80,7 +80,7 @@ pub(crate) fn write_register(
     }
 }
 
-/// Whether the cells of an array are told with their index.
+/// Whether the cells of an array are shown with their index.
 pub(crate) fn is_indexed(how: &Wording<'_>, array: u8) -> bool
     ensures { result ≡ spec.is_indexed how.now array }
 {

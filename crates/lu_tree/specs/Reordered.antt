@@ -13,7 +13,7 @@ MayChange (Call t k) (Return u l outcome) = ⊥
 MayChange (Return t k outcome) (Call u l) = Unit {0}
 MayChange (Return t k outcome) (Return u l other) = t ≢ u
 
--- two such events that stand beside one another have changed places
+-- two such events that stand beside one another were exchanged
 pub record AreExchanged (h k : List Event) : Type 0 where
   pub front : List Event
   pub back : List Event
@@ -23,7 +23,7 @@ pub record AreExchanged (h k : List Event) : Type 0 where
   pub before : h ≡ front ++ first ∷ second ∷ back
   pub after : k ≡ front ++ second ∷ first ∷ back
 
--- by so many exchanges, one after the other; and by any number of them
+-- by this many exchanges, one after the other; and by any number of them
 abbrev pub AreReorderedBy : ℕ → List Event → List Event → Type 0
 AreReorderedBy zero h k = h ≡ k
 AreReorderedBy (suc n) h k = (g : List Event) × AreExchanged h g × AreReorderedBy n g k
@@ -31,7 +31,7 @@ AreReorderedBy (suc n) h k = (g : List Event) × AreExchanged h g × AreReordere
 abbrev pub AreReordered : List Event → List Event → Type 0
 AreReordered h k = (n : ℕ) × AreReorderedBy n h k
 
--- two events have no more precedence in the other order: one is none, or they may change places
+-- two events have no more precedence in the other order: one is none, or they may be exchanged
 abbrev pub AreUnordered : Option Event → Option Event → Type 0
 AreUnordered None event = Unit {0}
 AreUnordered (Some one) None = Unit {0}

@@ -18,7 +18,7 @@ AreRunTables c matrix tables = ServesRuns c matrix tables.horizon × IsDeadTable
 abbrev pub AreTablesOf : Test → Tables → Type 0
 AreTablesOf test tables = AreRunTables test.component.now test.matrix.now tables
 
--- and count the orders of so many moves
+-- and count the orders of this many moves
 abbrev pub CountOrdersUpTo : ℕ → Tables → Type 0
 CountOrdersUpTo moves tables = CountsUpTo tables.orders moves
 

@@ -32,11 +32,11 @@ one_stuck = record { complete = 0; stuck = 1; cut = 0 }
 abbrev pub one_cut : Counts
 one_cut = record { complete = 0; stuck = 0; cut = 1 }
 
--- so many that are complete
+-- this many that are complete
 abbrev pub completes : ℕ → Counts
 completes n = record { complete = n; stuck = 0; cut = 0 }
 
--- so many that are cut
+-- this many that are cut
 abbrev pub cuts : ℕ → Counts
 cuts n = record { complete = 0; stuck = 0; cut = n }
 

@@ -13,7 +13,7 @@ use lu_machine::{Activity, Frame, Machine, Thread};
 /// A cell or a lock.
 #[derive(Clone, Copy)]
 pub(crate) enum Location {
-    /// The cell at this place among all cells.
+    /// The cell of this number among all cells.
     Cell(usize),
 
     Lock(u8),
@@ -64,9 +64,9 @@ fn cell_access(
         spec.cell_access writes machine.now.component frame.now array index }
     ensures there { IfSome result (λ access. HasLocation machine.now access.location) }
 {
-    let place = machine.cell(array, frame.value(index))?;
+    let cell = machine.cell(array, frame.value(index))?;
     Some(Access {
-        location: Location::Cell(place),
+        location: Location::Cell(cell),
         writes,
     })
 }
@@ -109,7 +109,7 @@ fn are_one(one: Location, other: Location) -> bool
     ensures { result ≡ spec.are_one one other }
 {
     match (one, other) {
-        (Location::Cell(place), Location::Cell(other)) => place == other,
+        (Location::Cell(cell), Location::Cell(other)) => cell == other,
         (Location::Lock(lock), Location::Lock(other)) => lock == other,
         (Location::Cell(_), Location::Lock(_)) | (Location::Lock(_), Location::Cell(_)) => false,
     }
@@ -136,7 +136,7 @@ fn held_at(machine: &Machine<'_>, location: Location) -> Held
     ensures { result ≡ spec.held_at machine.now location }
 {
     match location {
-        Location::Cell(place) => Held::Value(machine.value_at(place)),
+        Location::Cell(cell) => Held::Value(machine.value_at(cell)),
         Location::Lock(lock) => Held::Owner(machine.owner(lock)),
     }
 }

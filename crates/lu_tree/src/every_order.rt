@@ -96,7 +96,7 @@ fn has_every_order<T: SerialTree>(
     true
 }
 
-/// Whether the tree has the operations of the history in every order after the first so many to
+/// Whether the tree has the operations of the history in every order after this many first ones to
 /// return.
 pub(crate) fn has_orders<'t, T: SerialTree>(
     alloc: Global,

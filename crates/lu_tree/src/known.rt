@@ -48,7 +48,7 @@ impl<'k> Hints<'k> {
         }
     }
 
-    /// The same of a thread with so many moves.
+    /// The same of a thread with this many moves.
     #[inline(always)]
     pub(crate) fn after_one_of(&self, picks: u8, thread: u8) -> Option<&'k Known>
         ensures only { IfSome result (λ _. picks ≡ 1) }
@@ -105,7 +105,7 @@ impl Known {
         self.counts = self.counts.plus(below);
     }
 
-    /// Keeps what is known after a move of a thread with so many moves: where it is the only one,
+    /// Keeps what is known after a move of a thread with this many moves: where it is the only one,
     /// and memory is not refused.
     pub(crate) fn keep(&mut self, picks: u8, thread: u8, below: Known)
         ensures counts { counts_of self.new ≡ counts_of self.old }
@@ -120,7 +120,7 @@ impl Known {
         }
     }
 
-    /// Of how many beginnings it tells that are no more than so many moves longer. No clause says
+    /// Of how many beginnings it tells that are no more than this many moves longer. No clause says
     /// so: it only saves room.
     fn size_within(&self, moves: u8) -> u32 {
         let mut size: u32 = 1;
@@ -132,7 +132,7 @@ impl Known {
         size
     }
 
-    /// How many moves on it may tell of, where it tells of at most so many beginnings. No clause
+    /// How many moves on it may tell of, where it tells of at most this many beginnings. No clause
     /// says so: it only saves room.
     fn moves_within(&self, most: u32) -> u8 {
         for moves in 0..u8::MAX {
@@ -143,8 +143,8 @@ impl Known {
         u8::MAX
     }
 
-    /// What it tells of beginnings that are no more than so many moves longer, and in which some of
-    /// these threads have not moved.
+    /// What it tells of beginnings that are no more than this many moves longer, and in which some
+    /// of these threads have not moved.
     fn within(self, alloc: Global, moves: u8, waiting: ThreadSet) -> Known
         ensures { TellsNoMore self result }
     {

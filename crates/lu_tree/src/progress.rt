@@ -50,7 +50,7 @@ impl WalkProgress {
         !watch.stop()
     }
 
-    /// Passes so many schedules together. Returns whether the walk goes on: the watch is asked as
+    /// Passes this many schedules together. Returns whether the walk goes on: the watch is asked as
     /// often as if they had been passed one after another.
     pub(crate) fn pass_many<W: Watch>(&mut self, passed: Counts, watch: &mut W) -> bool
         requires { W.is_stopped watch.old ≡ false }

@@ -8,7 +8,7 @@ pub(crate) enum Judging {
     /// By its verdict, which is that of all where no call is opened any more.
     OneVerdict,
 
-    /// By its operations: the set has them in every order, after the first so many to return.
+    /// By its operations: the set has them in every order, after this many first ones to return.
     EveryOrder(usize),
 }
 

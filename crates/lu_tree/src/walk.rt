@@ -99,7 +99,7 @@ fn end<'t, T: SerialTree, W: Watch>(
     }
 }
 
-/// Passes the schedules below a node, which are so many. Returns what is then known, or that the
+/// Passes the schedules below a node, which are this many. Returns what is then known, or that the
 /// watch stopped the walk.
 #[inline(always)]
 fn pass<W: Watch>(

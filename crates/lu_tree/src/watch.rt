@@ -27,8 +27,8 @@ pub trait Watch {
     fn stopped(&self) -> bool
         ensures { result ≡ is_stopped self.now };
 
-    /// Whether the search is to stop, asked so many times in a row, until it is. A watch that gives
-    /// one answer all the while may be asked once.
+    /// Whether the search is to stop, asked this many times in a row, until it is. A watch that
+    /// gives one answer all the while may be asked once.
     fn stop_within(&mut self, times: u64) -> bool
         requires { is_stopped self.old ≡ false }
         ensures base { base self.new ≡ base self.old }

@@ -33,20 +33,20 @@ AreAllTaken taken h = (t : ℕ) → get_or taken t 0 ≡ length (part t h)
 abbrev pub GoesOnToWitness : (List SerialOp → Type 0) → List SerialOp → List Event → Type 0
 GoesOnToWitness Set p h = (q : List SerialOp) × Set q × IsWitness (p ++ q) h
 
--- whether a beginning of which so many operations are taken goes on to a witness in this set
+-- whether a beginning of which this many operations are taken goes on to a witness in this set
 abbrev pub Finds : (List SerialOp → Type 0) → List ℕ → List Event → Bool → Type 0
 Finds Set taken h found =
     (p : List SerialOp) → AreTaken p taken → IsBeginning h p
     → IsTrue found ↔ GoesOnToWitness Set p h
 
--- whether a beginning of which so many operations are taken is a witness, and nothing goes on from
--- it
+-- whether a beginning of which this many operations are taken is a witness, and nothing goes on
+-- from it
 abbrev pub FindsEnd : (List SerialOp → Type 0) → List ℕ → List Event → Bool → Type 0
 FindsEnd Set taken h found =
     (p : List SerialOp) → AreTaken p taken → IsBeginning h p
     → IsTrue found ↔ (Set [] × IsWitness p h)
 
--- whether the operation is next after those of which so many are taken
+-- whether the operation is next after those of which this many are taken
 abbrev pub TellsNext : List ℕ → List Event → SerialOp → Bool → Type 0
 TellsNext taken h op found =
     (p : List SerialOp) → AreTaken p taken → IsTrue found ↔ CanComeNext h p op

@@ -15,7 +15,7 @@ abbrev pub entries : ℕ → List SerialOp → List SerialOutcome
 entries t [] = []
 entries t (op ∷ q) = if op.thread == t then op.outcome ∷ entries t q else entries t q
 
--- place i has the operation: that of its thread with as many before it as the number of its call
+-- entry i is the operation: that of its thread with as many before it as the number of its call
 abbrev pub IsEntryAt : List SerialOp → ℕ → OpId → Type 0
 IsEntryAt q i a =
     (op : SerialOp) × (slice_get q i ≡ Some op) × (op.thread ≡ a.t)

@@ -38,7 +38,8 @@ impl<'a> Kept<'a> {
         ensures events { result ≡ history.now }
         ensures well_formed { IsWellFormed result }
     {
-        // For the proof: a history's own rule is told by its calls, and no other call comes before.
+        // For the proof: a history's own rule is known from its calls, and no other call comes
+        // before.
         let _events = history.events();
         Kept {
             history,

@@ -7,7 +7,7 @@ use lu_text::{Name, are_allowed, has_name_form, is_long, value_in, words_of};
 use std::alloc::{AllocError, Global};
 use std::{fmt, str};
 
-/// A word as text; a fault is told of words in ASCII alone.
+/// A word as text; a fault is reported of words in ASCII alone.
 pub(crate) fn shown(word: &[u8]) -> &str {
     match str::from_utf8(word) {
         Ok(text) => text,
@@ -49,16 +49,16 @@ pub(crate) fn unknown_byte(alloc: Global, text: &[u8]) -> Result<String, AllocEr
         .position(|byte| !matches!(*byte, 32..=126 | b'\t' | b'\r'))
     {
         None => String::from_str(alloc, "a byte stands here that no text may have"),
-        Some(place) => {
-            let byte = text[place];
+        Some(before) => {
+            let byte = text[before];
             format!(in alloc;
-                "a byte {byte} stands behind {place} bytes of the line; only printed ASCII, tab and CR may, in comments too"
+                "a byte {byte} stands behind {before} bytes of the line; only printed ASCII, tab and CR may, in comments too"
             )
         }
     }
 }
 
-/// That so many words stand somewhere.
+/// That this many words stand somewhere.
 fn are_words(alloc: Global, count: usize) -> Result<String, AllocError> {
     match count {
         0 => String::from_str(alloc, "is nothing"),
@@ -162,7 +162,7 @@ fn no_register(alloc: Global, shape: &Shape, first: &[u8]) -> Result<String, All
 }
 
 /// An instruction with no name where its array or its label is to be.
-fn no_place(alloc: Global, shape: &Shape, first: &[u8]) -> Result<String, AllocError> {
+fn no_label_or_name(alloc: Global, shape: &Shape, first: &[u8]) -> Result<String, AllocError> {
     let (array, word, form) = (shown(first), shape.word, shape.form);
     if form.as_bytes().contains(&b'W') {
         return format!(in alloc;
@@ -187,7 +187,7 @@ fn form_of_words(alloc: Global, shape: &Shape, rest: &[&[u8]]) -> Result<String,
     }
     match shape.word {
         "lock" | "unlock" | "jump" => no_name(alloc, rest),
-        _ => no_place(alloc, shape, first),
+        _ => no_label_or_name(alloc, shape, first),
     }
 }
 
@@ -240,7 +240,7 @@ fn no_operand(alloc: Global, word: &[u8], rest: &[&[u8]]) -> Result<String, Allo
     match operands(word, rest).iter().find(|word| !is_operand(word)) {
         None => String::from_str(alloc, "a register or a number is wanted here"),
         Some(other) => {
-            // A name in an operand's place is mostly an array.
+            // A name where an operand is wanted is mostly an array.
             let load = if has_name_form(other) {
                 "; a cell is read by `load`"
             } else {
@@ -511,7 +511,7 @@ fn flow(alloc: Global, draft: &ComponentDraft) -> Result<String, AllocError> {
     }
 }
 
-/// A word with a comma or a semicolon at its end, which is told before other faults.
+/// A word with a comma or a semicolon at its end, which is reported before other faults.
 fn comma_in<'a>(kind: LangFaultKind, words: &[&'a [u8]]) -> Option<&'a [u8]> {
     if kind == LangFaultKind::Missing {
         return None;
@@ -562,7 +562,7 @@ pub(crate) fn component_wording(
     }
 }
 
-/// The words for a jump to a label that is not there, which so many instructions of the open
+/// The words for a jump to a label that is not there, which this many instructions of the open
 /// operation follow with it.
 pub(crate) fn jump_wording(
     alloc: Global,

@@ -66,7 +66,7 @@ fn form(
     )
 }
 
-/// The operations that there are, parted by commas.
+/// The operations that there are, separated by commas.
 fn names(alloc: Global, signatures: &[Signature<'_>]) -> Result<String, AllocError> {
     let mut out = String::new(alloc);
     for signature in signatures {
@@ -174,7 +174,7 @@ fn of_calls(
     String::from_str(alloc, "a call of this line has a fault")
 }
 
-/// A line for which there is no room: of so many calls.
+/// A line for which there is no room: of this many calls.
 fn limit(
     alloc: Global,
     draft: &MatrixDraft,

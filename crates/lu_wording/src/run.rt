@@ -6,36 +6,29 @@ use lu_test::Call;
 use std::alloc::{AllocError, Global};
 use std::fmt::Write;
 
-/// Adds call `place` of these: the operation and the arguments, as a matrix says them.
+/// Adds call `number` of these: the operation and the arguments, as a matrix says them.
 fn write_call(
     text: &mut String,
     runs: MatrixRuns<'_>,
     calls: &[Call],
-    place: usize,
+    number: usize,
 ) -> Result<(), AllocError> {
-    let Some(call) = calls.get(place) else {
-        return text.push_str("a call");
-    };
-    match runs.component.operation(call.op) {
-        None => text.push_str("an operation")?,
-        Some(op) => text.push_str(op.name.as_str())?,
+    match calls.get(number) {
+        None => text.push_str("a call"),
+        Some(call) => lu_test::write_call(text, runs.component.operations(), call),
     }
-    for argument in call.args.as_slice() {
-        write!(text, " {argument}")?;
-    }
-    Ok(())
 }
 
-/// Adds call `place` of the thread.
+/// Adds call `number` of the thread.
 fn write_call_of(
     text: &mut String,
     runs: MatrixRuns<'_>,
     thread: u8,
-    place: usize,
+    number: usize,
 ) -> Result<(), AllocError> {
     match runs.matrix.as_slice().get(usize::from(thread)) {
         None => text.push_str("a call"),
-        Some(calls) => write_call(text, runs, calls.as_slice(), place),
+        Some(calls) => write_call(text, runs, calls.as_slice(), number),
     }
 }
 
@@ -49,9 +42,9 @@ fn write_after(
         return text.push_str(" when it comes first");
     }
     text.push_str(" behind ")?;
-    for (place, op) in ops.iter().enumerate() {
-        let (before, _) = ops.split_at(place);
-        if place > 0 {
+    for (position, op) in ops.iter().enumerate() {
+        let (before, _) = ops.split_at(position);
+        if position > 0 {
             text.push_str(", ")?;
         }
         write_call_of(text, runs, op.thread, operation_count(op.thread, before))?;

@@ -13,7 +13,7 @@ fn common_front(left: &[u8], right: &[u8]) -> usize {
         .position(|(one, other)| !one.eq_ignore_ascii_case(other))
     {
         None => left.len().min(right.len()),
-        Some(place) => place,
+        Some(common) => common,
     }
 }
 
@@ -25,7 +25,7 @@ fn common_back(left: &[u8], right: &[u8]) -> usize {
         .position(|(one, other)| !one.eq_ignore_ascii_case(other))
     {
         None => left.len().min(right.len()),
-        Some(place) => place,
+        Some(common) => common,
     }
 }
 

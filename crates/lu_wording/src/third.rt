@@ -4,7 +4,7 @@ use crate::component::shown;
 use lu_report::{LineForm, ReportLineFault};
 use lu_spec::{SpecFaultKind, SpecLineFault};
 use lu_test::{Matrix, ScheduleFault};
-use lu_text::{is_number, number_up_to, place_of, words_of};
+use lu_text::{is_number, number_up_to, position_of, words_of};
 use std::alloc::{AllocError, Global};
 
 /// Whether each byte is printed ASCII or a space.
@@ -69,9 +69,9 @@ pub(crate) fn schedule_form_wording(alloc: Global, text: &[u8]) -> Result<String
     )
 }
 
-/// A number above 7 in the place of a thread or a pick.
+/// A number above 7 where a thread or a pick is wanted.
 fn range_wording(alloc: Global, word: &[u8]) -> Result<String, AllocError> {
-    let (thread, pick) = match place_of(b':', word) {
+    let (thread, pick) = match position_of(b':', word) {
         None => word.split_at(word.len()),
         Some(colon) => word.split_at(colon),
     };
@@ -107,7 +107,7 @@ pub(crate) fn move_wording(
     )
 }
 
-/// The words for a schedule of so many words.
+/// The words for a schedule of this many words.
 pub(crate) fn length_wording(alloc: Global, words: usize) -> Result<String, AllocError> {
     format!(in alloc; "a schedule has at most 4,112 moves, and here are {words}")
 }

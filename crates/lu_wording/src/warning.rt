@@ -15,7 +15,7 @@ fn second_word(alloc: Global, text: &[u8]) -> Result<&[u8], AllocError> {
     }
 }
 
-/// The label at the instruction that so many of the operation follow with it.
+/// The label at the instruction that this many of the operation follow with it.
 fn label_at(op: &OpenOp, back: usize) -> &str {
     let place = op.statements.len().saturating_sub(back);
     match op
@@ -36,7 +36,7 @@ fn operation_name(draft: &ComponentDraft) -> &str {
     }
 }
 
-/// The label at the instruction of the open operation that so many of it follow with it.
+/// The label at the instruction of the open operation that this many of it follow with it.
 fn open_label_at(draft: &ComponentDraft, back: usize) -> &str {
     match &draft.begun {
         None => "of this line",
@@ -50,7 +50,7 @@ fn unnamed_wording(alloc: Global, text: &[u8], kind: &str) -> Result<String, All
     format!(in alloc; "no instruction names the {kind} {name}")
 }
 
-/// That no jump leads to the label at the instruction that so many follow with it.
+/// That no jump leads to the label at the instruction that this many follow with it.
 fn unused_label_wording(
     alloc: Global,
     draft: &ComponentDraft,
@@ -70,7 +70,7 @@ fn operation_wording(
     format!(in alloc; "{name} {does}")
 }
 
-/// The words of a warning that is found at a line after this draft, and stands so many lines with
+/// The words of a warning that is found at a line after this draft, and stands this many lines with
 /// words before it.
 pub(crate) fn warning_wording(
     alloc: Global,

@@ -53,7 +53,7 @@ pub enum Fault {
     /// A text was refused, or memory: the program's line.
     Refused(String),
 
-    /// The move at this place, from 0, is not feasible where it stands.
+    /// The move of this number, from 0, is not feasible where it stands.
     Infeasible(usize),
 }
 
@@ -61,7 +61,7 @@ impl std::fmt::Display for Fault {
     fn fmt(&self, f: &mut std::fmt::Formatter<'_>) -> std::fmt::Result {
         match self {
             Fault::Refused(line) => f.write_str(line),
-            Fault::Infeasible(place) => write!(f, "infeasible {place}"),
+            Fault::Infeasible(number) => write!(f, "infeasible {number}"),
         }
     }
 }

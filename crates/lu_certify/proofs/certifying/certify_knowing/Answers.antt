@@ -2,14 +2,14 @@ use Rattle.std.proofs.Common.{arith, ◌≤◌, not, sym, subst}
 use Rattle.lu_certify.specs.declared.certificate.Certificate.TheVariants.{NotLinearizable}
 use Rattle.lu_certify.specs.Certificates.{IsFailingReport}
 use Rattle.lu_certify.specs.Looking.{IsLooked}
-use Rattle.lu_certify.specs.Places.{IsNext, cut_count}
+use Rattle.lu_certify.specs.Cuts.{IsNext, cut_count}
 use Rattle.lu_certify.proofs.Livelocks.{next_sought}
 use Rattle.lu_certify.proofs.One.{decided, decides_where}
 use Rattle.lu_certify.proofs.Rounds.{concluded_where, cut_runs, first_here, known_next, names_where, none_known, none_more, none_offends, none_yet}
 use Rattle.lu_certify.proofs.certifying.certify_knowing.Goals as goal
 
-pub loop-place-init : goal.loop-place-init
-loop-place-init g c = record {
+pub loop-number-init : goal.loop-number-init
+loop-number-init g c = record {
   none = none_yet c.args.test.component.now c.args.test.matrix.now c.args.test.limits;
   known = none_known c.args.test.component.now c.args.test.matrix.now c.args.test.limits;
   others = c.requires.known;
@@ -19,56 +19,56 @@ pub cut_at-requires : goal.cut_at-requires
 cut_at-requires g c = omega (arith, c.count_cuts-cuts.ensures)
 
 pub invariant_of-cut-clause-can_run : goal.invariant_of-cut-clause-can_run
-invariant_of-cut-clause-can_run g c = cut_runs c.args.test.component.now c.args.test.matrix.now c.loop-place.place c.in_ok-matrix.matrix c.args.test.can_run c.in_ok-matrix.ensures
+invariant_of-cut-clause-can_run g c = cut_runs c.args.test.component.now c.args.test.matrix.now c.loop-number.number c.in_ok-matrix.matrix c.args.test.can_run c.in_ok-matrix.ensures
 
 pub look_further-requires-clause-found : goal.look_further-requires-clause-found
 look_further-requires-clause-found g c = λ κs lives.
-    c.take-found.ensures.taken c.args.test.component.now c.args.test.matrix.now c.args.test.limits c.loop-place.invariant.others c.in_ok-matrix.matrix c.in_ok-matrix.ensures
+    c.take-found.ensures.taken c.args.test.component.now c.args.test.matrix.now c.args.test.limits c.loop-number.invariant.others c.in_ok-matrix.matrix c.in_ok-matrix.ensures
 
 pub returns-in-Failing-clause-certificate : goal.returns-in-Failing-clause-certificate
 returns-in-Failing-clause-certificate g c =
     let fails : IsFailingReport c.args.test.component.now c.args.test.limits c.in_ok-matrix.matrix c.in-Failing.report = subst (IsLooked (not c.is_lost-is_sought.result) c.args.test.component.now c.args.test.limits c.in_ok-matrix.matrix) c.in-Failing.is c.in_ok-report.ensures in
-    first_here c.args.test.component.now c.args.test.matrix.now c.args.test.limits c.args.test.can_run.settles c.loop-place.place c.in_ok-matrix.matrix c.in_ok-matrix.ensures c.in-Failing.report c.loop-place.invariant.none fails
+    first_here c.args.test.component.now c.args.test.matrix.now c.args.test.limits c.args.test.can_run.settles c.loop-number.number c.in_ok-matrix.matrix c.in_ok-matrix.ensures c.in-Failing.report c.loop-number.invariant.none fails
 
 pub returns-in-Failing-clause-decides : goal.returns-in-Failing-clause-decides
 returns-in-Failing-clause-decides g c =
     let fails : IsFailingReport c.args.test.component.now c.args.test.limits c.in_ok-matrix.matrix c.in-Failing.report = subst (IsLooked (not c.is_lost-is_sought.result) c.args.test.component.now c.args.test.limits c.in_ok-matrix.matrix) c.in-Failing.is c.in_ok-report.ensures in
     decided c.args.test.component.now c.args.test.matrix.now c.args.test.limits c.args.test.can_run.settles (NotLinearizable c.in_ok-matrix.matrix c.in-Failing.report)
-    (first_here c.args.test.component.now c.args.test.matrix.now c.args.test.limits c.args.test.can_run.settles c.loop-place.place c.in_ok-matrix.matrix c.in_ok-matrix.ensures c.in-Failing.report c.loop-place.invariant.none fails)
+    (first_here c.args.test.component.now c.args.test.matrix.now c.args.test.limits c.args.test.can_run.settles c.loop-number.number c.in_ok-matrix.matrix c.in_ok-matrix.ensures c.in-Failing.report c.loop-number.invariant.none fails)
 
 pub returns-in-Failing-clause-of : goal.returns-in-Failing-clause-of
-returns-in-Failing-clause-of g c = (cut_runs c.args.test.component.now c.args.test.matrix.now c.loop-place.place c.in_ok-matrix.matrix c.args.test.can_run c.in_ok-matrix.ensures).of
+returns-in-Failing-clause-of g c = (cut_runs c.args.test.component.now c.args.test.matrix.now c.loop-number.number c.in_ok-matrix.matrix c.args.test.can_run c.in_ok-matrix.ensures).of
 
-pub loop-place-preserved : goal.loop-place-preserved
-loop-place-preserved g c =
+pub loop-number-preserved : goal.loop-number-preserved
+loop-number-preserved g c =
     let is = subst (IsLooked (not c.is_lost-is_sought.result) c.args.test.component.now c.args.test.limits c.in_ok-matrix.matrix) c.in-Stands.is c.in_ok-report.ensures in
-    let next : IsNext c.args.test.component.now c.args.test.limits c.loop-place.so_far c.in_ok-matrix.matrix c.after-so_far.result =
-    subst (IsNext c.args.test.component.now c.args.test.limits c.loop-place.so_far c.in_ok-matrix.matrix) (sym c.after-so_far.ensures)
-    (next_sought c.args.test.component.now c.args.test.limits c.in_ok-matrix.matrix c.loop-place.so_far c.is_lost-is_sought.result c.in-Stands.livelock c.in-Stands.standing c.is_lost-is_sought.ensures is.1 is.0) in
+    let next : IsNext c.args.test.component.now c.args.test.limits c.loop-number.so_far c.in_ok-matrix.matrix c.after-so_far.result =
+    subst (IsNext c.args.test.component.now c.args.test.limits c.loop-number.so_far c.in_ok-matrix.matrix) (sym c.after-so_far.ensures)
+    (next_sought c.args.test.component.now c.args.test.limits c.in_ok-matrix.matrix c.loop-number.so_far c.is_lost-is_sought.result c.in-Stands.livelock c.in-Stands.standing c.is_lost-is_sought.ensures is.1 is.0) in
     record {
-      none = none_more c.args.test.component.now c.args.test.matrix.now c.args.test.limits c.args.test.can_run.settles c.loop-place.place c.in_ok-matrix.matrix c.in_ok-matrix.ensures c.loop-place.invariant.none c.in-Stands.standing is.0;
-      known = known_next c.args.test.component.now c.args.test.matrix.now c.args.test.limits c.args.test.can_run.settles c.loop-place.place c.in_ok-matrix.matrix c.in_ok-matrix.ensures c.loop-place.so_far c.after-so_far.result next c.loop-place.invariant.known;
-      others = c.take-found.ensures.known c.args.test.component.now c.args.test.matrix.now c.args.test.limits c.loop-place.invariant.others;
+      none = none_more c.args.test.component.now c.args.test.matrix.now c.args.test.limits c.args.test.can_run.settles c.loop-number.number c.in_ok-matrix.matrix c.in_ok-matrix.ensures c.loop-number.invariant.none c.in-Stands.standing is.0;
+      known = known_next c.args.test.component.now c.args.test.matrix.now c.args.test.limits c.args.test.can_run.settles c.loop-number.number c.in_ok-matrix.matrix c.in_ok-matrix.ensures c.loop-number.so_far c.after-so_far.result next c.loop-number.invariant.known;
+      others = c.take-found.ensures.known c.args.test.component.now c.args.test.matrix.now c.args.test.limits c.loop-number.invariant.others;
     }
 
 pub conclude-requires : goal.conclude-requires
 conclude-requires g c =
-    let all : cut_count c.args.test.matrix.now.threads ≤ c.loop-place.place = omega (arith, c.count_cuts-cuts.ensures, c.loop-place-test.false) in
-    none_offends c.args.test.component.now c.args.test.matrix.now c.args.test.limits c.loop-place.place c.loop-place.so_far all c.loop-place.invariant.known
+    let all : cut_count c.args.test.matrix.now ≤ c.loop-number.number = omega (arith, c.count_cuts-cuts.ensures, c.loop-number-test.false) in
+    none_offends c.args.test.component.now c.args.test.matrix.now c.args.test.limits c.loop-number.number c.loop-number.so_far all c.loop-number.invariant.known
 
 pub returns-clause-certificate : goal.returns-clause-certificate
 returns-clause-certificate g c =
-    let all : cut_count c.args.test.matrix.now.threads ≤ c.loop-place.place = omega (arith, c.count_cuts-cuts.ensures, c.loop-place-test.false) in
-    concluded_where c.args.test.component.now c.args.test.matrix.now c.args.test.limits c.loop-place.place c.loop-place.so_far all c.loop-place.invariant.none c.loop-place.invariant.known c.conclude.result c.conclude.ensures
+    let all : cut_count c.args.test.matrix.now ≤ c.loop-number.number = omega (arith, c.count_cuts-cuts.ensures, c.loop-number-test.false) in
+    concluded_where c.args.test.component.now c.args.test.matrix.now c.args.test.limits c.loop-number.number c.loop-number.so_far all c.loop-number.invariant.none c.loop-number.invariant.known c.conclude.result c.conclude.ensures
 
 pub returns-clause-decides : goal.returns-clause-decides
 returns-clause-decides g c =
-    let all : cut_count c.args.test.matrix.now.threads ≤ c.loop-place.place = omega (arith, c.count_cuts-cuts.ensures, c.loop-place-test.false) in
+    let all : cut_count c.args.test.matrix.now ≤ c.loop-number.number = omega (arith, c.count_cuts-cuts.ensures, c.loop-number-test.false) in
     decides_where c.args.test.component.now c.args.test.matrix.now c.args.test.limits c.args.test.can_run.settles c.conclude.result
-    (concluded_where c.args.test.component.now c.args.test.matrix.now c.args.test.limits c.loop-place.place c.loop-place.so_far all c.loop-place.invariant.none c.loop-place.invariant.known c.conclude.result c.conclude.ensures)
+    (concluded_where c.args.test.component.now c.args.test.matrix.now c.args.test.limits c.loop-number.number c.loop-number.so_far all c.loop-number.invariant.none c.loop-number.invariant.known c.conclude.result c.conclude.ensures)
 
 pub returns-clause-of : goal.returns-clause-of
 returns-clause-of g c =
-    let all : cut_count c.args.test.matrix.now.threads ≤ c.loop-place.place = omega (arith, c.count_cuts-cuts.ensures, c.loop-place-test.false) in
+    let all : cut_count c.args.test.matrix.now ≤ c.loop-number.number = omega (arith, c.count_cuts-cuts.ensures, c.loop-number-test.false) in
     names_where c.args.test.component.now c.args.test.matrix.now c.args.test.limits c.args.test.can_run.of c.conclude.result
-    (concluded_where c.args.test.component.now c.args.test.matrix.now c.args.test.limits c.loop-place.place c.loop-place.so_far all c.loop-place.invariant.none c.loop-place.invariant.known c.conclude.result c.conclude.ensures)
+    (concluded_where c.args.test.component.now c.args.test.matrix.now c.args.test.limits c.loop-number.number c.loop-number.so_far all c.loop-number.invariant.none c.loop-number.invariant.known c.conclude.result c.conclude.ensures)

@@ -1,7 +1,7 @@
 use Rattle.std.proofs.Common.{rules, ◌≡◌, true, not, Option, subst}
 use Rattle.lu_certify.specs.declared.judged.Judged.{Judged}
 use Rattle.lu_certify.specs.Certificates.{IsFailure, IsFullPass}
-use Rattle.lu_certify.specs.Places.{IsJudgedFirst, IsLeftOpen}
+use Rattle.lu_certify.specs.Cuts.{IsJudgedFirst, IsLeftOpen}
 use Rattle.lu_certify.proofs.Behind.{open_never_clear, open_never_fails, tried_either}
 use Rattle.lu_certify.proofs.judging.judge_checked.Goals as goal
 

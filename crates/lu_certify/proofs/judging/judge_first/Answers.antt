@@ -1,5 +1,5 @@
 use Rattle.std.proofs.Common.{inr, subst}
-use Rattle.lu_certify.specs.Places.{IsTold}
+use Rattle.lu_certify.specs.Cuts.{IsTold}
 use Rattle.lu_certify.proofs.judging.judge_first.Goals as goal
 
 pub returns-in_ok-report-in-BadAfter-clause-judged : goal.returns-in_ok-report-in-BadAfter-clause-judged

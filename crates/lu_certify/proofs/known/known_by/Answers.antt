@@ -2,7 +2,7 @@ use Rattle.std.proofs.Common.{Global, Vec, List, sym, subst}
 use Rattle.std.specs.Vec.Iter.{into_iter_items}
 use Rattle.lu_certify.specs.declared.looked.FoundAt.{FoundAt}
 use Rattle.lu_certify.specs.Looking.{AreAllFoundAt, AreFoundAt}
-use Rattle.lu_certify.proofs.Placed.{all_first, all_rest}
+use Rattle.lu_certify.proofs.KnownCuts.{all_first, all_rest}
 use Rattle.lu_certify.proofs.known.known_by.Goals as goal
 
 pub loop-list-init : goal.loop-list-init

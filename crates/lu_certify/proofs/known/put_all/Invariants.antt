@@ -9,4 +9,4 @@ use Rattle.lu_certify.proofs.known.put_all.Given as goal
 abbrev pub invariant-loop-one : goal.invariant-loop-one
 invariant-loop-one l =
     (c : Component) (m : Matrix) (limits : Limits) → AreKnown c m limits l.fn.known.items → AreFoundAt c m limits l.fn.found.items
-    → AreKnown c m limits l.known.items × All (λ one. IsFoundAt c m limits one.place one.found) (into_iter_items l.one-iterator)
+    → AreKnown c m limits l.known.items × All (λ one. IsFoundAt c m limits one.number one.found) (into_iter_items l.one-iterator)

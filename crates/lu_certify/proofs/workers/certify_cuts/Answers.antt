@@ -4,14 +4,14 @@ use Rattle.lu_certify.specs.declared.limits.Limits.{Limits}
 use Rattle.lu_certify.specs.declared.so_far.SoFar.TheVariants.{Clear}
 use Rattle.lu_certify.specs.Certificates.{IsFailingReport, limits_of}
 use Rattle.lu_certify.specs.Looking.{IsLooked}
-use Rattle.lu_certify.specs.Places.{IsNext, IsWithoutOffence, cut_count}
+use Rattle.lu_certify.specs.Cuts.{IsNext, IsWithoutOffence, cut_count}
 use Rattle.lu_certify.proofs.Livelocks.{next_sought}
 use Rattle.lu_certify.proofs.One.{decided}
 use Rattle.lu_certify.proofs.Rounds.{concluded, cut_runs, first_here, known_next, names_cut, none_known, none_more, none_offends, none_yet}
 use Rattle.lu_certify.proofs.workers.certify_cuts.Goals as goal
 
-pub loop-place-init : goal.loop-place-init
-loop-place-init g c = record {
+pub loop-number-init : goal.loop-number-init
+loop-number-init g c = record {
   none = none_yet c.args.test.component.now c.args.test.matrix.now (limits_of c.args.options c.args.nodes);
   known = none_known c.args.test.component.now c.args.test.matrix.now (limits_of c.args.options c.args.nodes);
 }
@@ -20,52 +20,52 @@ pub cut_at-requires : goal.cut_at-requires
 cut_at-requires g c = omega (arith, c.count_cuts-cuts.ensures)
 
 pub invariant_of-cut : goal.invariant_of-cut
-invariant_of-cut g c = record { can_run = cut_runs c.args.test.component.now c.args.test.matrix.now c.loop-place.place c.in_ok-matrix.matrix c.args.test.can_run c.in_ok-matrix.ensures }
+invariant_of-cut g c = record { can_run = cut_runs c.args.test.component.now c.args.test.matrix.now c.loop-number.number c.in_ok-matrix.matrix c.args.test.can_run c.in_ok-matrix.ensures }
 
 pub returns-in-Failing-clause-certificate : goal.returns-in-Failing-clause-certificate
 returns-in-Failing-clause-certificate g c =
     let fails : IsFailingReport c.args.test.component.now (limits_of c.args.options c.args.nodes) c.in_ok-matrix.matrix c.in-Failing.report = subst (IsLooked (not c.is_lost-is_sought.result) c.args.test.component.now (limits_of c.args.options c.args.nodes) c.in_ok-matrix.matrix) c.in-Failing.is c.in_ok-report.ensures in
-    first_here c.args.test.component.now c.args.test.matrix.now (limits_of c.args.options c.args.nodes) c.args.test.can_run.settles c.loop-place.place c.in_ok-matrix.matrix c.in_ok-matrix.ensures c.in-Failing.report c.loop-place.invariant.none fails
+    first_here c.args.test.component.now c.args.test.matrix.now (limits_of c.args.options c.args.nodes) c.args.test.can_run.settles c.loop-number.number c.in_ok-matrix.matrix c.in_ok-matrix.ensures c.in-Failing.report c.loop-number.invariant.none fails
 
 pub returns-in-Failing-clause-decides : goal.returns-in-Failing-clause-decides
 returns-in-Failing-clause-decides g c =
     let fails : IsFailingReport c.args.test.component.now (limits_of c.args.options c.args.nodes) c.in_ok-matrix.matrix c.in-Failing.report = subst (IsLooked (not c.is_lost-is_sought.result) c.args.test.component.now (limits_of c.args.options c.args.nodes) c.in_ok-matrix.matrix) c.in-Failing.is c.in_ok-report.ensures in
     decided c.args.test.component.now c.args.test.matrix.now (limits_of c.args.options c.args.nodes) c.args.test.can_run.settles (NotLinearizable c.in_ok-matrix.matrix c.in-Failing.report)
-    (first_here c.args.test.component.now c.args.test.matrix.now (limits_of c.args.options c.args.nodes) c.args.test.can_run.settles c.loop-place.place c.in_ok-matrix.matrix c.in_ok-matrix.ensures c.in-Failing.report c.loop-place.invariant.none fails)
+    (first_here c.args.test.component.now c.args.test.matrix.now (limits_of c.args.options c.args.nodes) c.args.test.can_run.settles c.loop-number.number c.in_ok-matrix.matrix c.in_ok-matrix.ensures c.in-Failing.report c.loop-number.invariant.none fails)
 
 pub returns-in-Failing-clause-of : goal.returns-in-Failing-clause-of
-returns-in-Failing-clause-of g c = (cut_runs c.args.test.component.now c.args.test.matrix.now c.loop-place.place c.in_ok-matrix.matrix c.args.test.can_run c.in_ok-matrix.ensures).of
+returns-in-Failing-clause-of g c = (cut_runs c.args.test.component.now c.args.test.matrix.now c.loop-number.number c.in_ok-matrix.matrix c.args.test.can_run c.in_ok-matrix.ensures).of
 
-pub loop-place-preserved : goal.loop-place-preserved
-loop-place-preserved g c =
+pub loop-number-preserved : goal.loop-number-preserved
+loop-number-preserved g c =
     let is = subst (IsLooked (not c.is_lost-is_sought.result) c.args.test.component.now (limits_of c.args.options c.args.nodes) c.in_ok-matrix.matrix) c.in-Stands.is c.in_ok-report.ensures in
-    let next : IsNext c.args.test.component.now (limits_of c.args.options c.args.nodes) c.loop-place.so_far c.in_ok-matrix.matrix c.after-so_far.result =
-    subst (IsNext c.args.test.component.now (limits_of c.args.options c.args.nodes) c.loop-place.so_far c.in_ok-matrix.matrix) (sym c.after-so_far.ensures)
-    (next_sought c.args.test.component.now (limits_of c.args.options c.args.nodes) c.in_ok-matrix.matrix c.loop-place.so_far c.is_lost-is_sought.result c.in-Stands.livelock c.in-Stands.standing c.is_lost-is_sought.ensures is.1 is.0) in
+    let next : IsNext c.args.test.component.now (limits_of c.args.options c.args.nodes) c.loop-number.so_far c.in_ok-matrix.matrix c.after-so_far.result =
+    subst (IsNext c.args.test.component.now (limits_of c.args.options c.args.nodes) c.loop-number.so_far c.in_ok-matrix.matrix) (sym c.after-so_far.ensures)
+    (next_sought c.args.test.component.now (limits_of c.args.options c.args.nodes) c.in_ok-matrix.matrix c.loop-number.so_far c.is_lost-is_sought.result c.in-Stands.livelock c.in-Stands.standing c.is_lost-is_sought.ensures is.1 is.0) in
     record {
-      none = none_more c.args.test.component.now c.args.test.matrix.now (limits_of c.args.options c.args.nodes) c.args.test.can_run.settles c.loop-place.place c.in_ok-matrix.matrix c.in_ok-matrix.ensures c.loop-place.invariant.none c.in-Stands.standing is.0;
-      known = known_next c.args.test.component.now c.args.test.matrix.now (limits_of c.args.options c.args.nodes) c.args.test.can_run.settles c.loop-place.place c.in_ok-matrix.matrix c.in_ok-matrix.ensures c.loop-place.so_far c.after-so_far.result next c.loop-place.invariant.known;
+      none = none_more c.args.test.component.now c.args.test.matrix.now (limits_of c.args.options c.args.nodes) c.args.test.can_run.settles c.loop-number.number c.in_ok-matrix.matrix c.in_ok-matrix.ensures c.loop-number.invariant.none c.in-Stands.standing is.0;
+      known = known_next c.args.test.component.now c.args.test.matrix.now (limits_of c.args.options c.args.nodes) c.args.test.can_run.settles c.loop-number.number c.in_ok-matrix.matrix c.in_ok-matrix.ensures c.loop-number.so_far c.after-so_far.result next c.loop-number.invariant.known;
     }
 
 pub conclude-requires : goal.conclude-requires
 conclude-requires g c =
-    let all : cut_count c.args.test.matrix.now.threads ≤ c.loop-place.place = omega (arith, c.count_cuts-cuts.ensures, c.loop-place-test.false) in
-    subst (λ (x : Limits). c.loop-place.so_far ≡ Clear → IsWithoutOffence c.args.test.component.now c.args.test.matrix.now x.serial) (sym c.of.ensures.limits)
-    (none_offends c.args.test.component.now c.args.test.matrix.now (limits_of c.args.options c.args.nodes) c.loop-place.place c.loop-place.so_far all c.loop-place.invariant.known)
+    let all : cut_count c.args.test.matrix.now ≤ c.loop-number.number = omega (arith, c.count_cuts-cuts.ensures, c.loop-number-test.false) in
+    subst (λ (x : Limits). c.loop-number.so_far ≡ Clear → IsWithoutOffence c.args.test.component.now c.args.test.matrix.now x.serial) (sym c.of.ensures.limits)
+    (none_offends c.args.test.component.now c.args.test.matrix.now (limits_of c.args.options c.args.nodes) c.loop-number.number c.loop-number.so_far all c.loop-number.invariant.known)
 
 pub returns-clause-certificate : goal.returns-clause-certificate
 returns-clause-certificate g c =
-    let all : cut_count c.args.test.matrix.now.threads ≤ c.loop-place.place = omega (arith, c.count_cuts-cuts.ensures, c.loop-place-test.false) in
-    concluded c.args.test.component.now c.args.test.matrix.now (limits_of c.args.options c.args.nodes) c.loop-place.place c.loop-place.so_far all c.loop-place.invariant.none c.loop-place.invariant.known c.in_ok-conclude.field-0 c.in_ok-conclude.ensures
+    let all : cut_count c.args.test.matrix.now ≤ c.loop-number.number = omega (arith, c.count_cuts-cuts.ensures, c.loop-number-test.false) in
+    concluded c.args.test.component.now c.args.test.matrix.now (limits_of c.args.options c.args.nodes) c.loop-number.number c.loop-number.so_far all c.loop-number.invariant.none c.loop-number.invariant.known c.in_ok-conclude.field-0 c.in_ok-conclude.ensures
 
 pub returns-clause-decides : goal.returns-clause-decides
 returns-clause-decides g c =
-    let all : cut_count c.args.test.matrix.now.threads ≤ c.loop-place.place = omega (arith, c.count_cuts-cuts.ensures, c.loop-place-test.false) in
+    let all : cut_count c.args.test.matrix.now ≤ c.loop-number.number = omega (arith, c.count_cuts-cuts.ensures, c.loop-number-test.false) in
     decided c.args.test.component.now c.args.test.matrix.now (limits_of c.args.options c.args.nodes) c.args.test.can_run.settles c.in_ok-conclude.field-0
-    (concluded c.args.test.component.now c.args.test.matrix.now (limits_of c.args.options c.args.nodes) c.loop-place.place c.loop-place.so_far all c.loop-place.invariant.none c.loop-place.invariant.known c.in_ok-conclude.field-0 c.in_ok-conclude.ensures)
+    (concluded c.args.test.component.now c.args.test.matrix.now (limits_of c.args.options c.args.nodes) c.loop-number.number c.loop-number.so_far all c.loop-number.invariant.none c.loop-number.invariant.known c.in_ok-conclude.field-0 c.in_ok-conclude.ensures)
 
 pub returns-clause-of : goal.returns-clause-of
 returns-clause-of g c =
-    let all : cut_count c.args.test.matrix.now.threads ≤ c.loop-place.place = omega (arith, c.count_cuts-cuts.ensures, c.loop-place-test.false) in
+    let all : cut_count c.args.test.matrix.now ≤ c.loop-number.number = omega (arith, c.count_cuts-cuts.ensures, c.loop-number-test.false) in
     names_cut c.args.test.component.now c.args.test.matrix.now (limits_of c.args.options c.args.nodes) c.in_ok-conclude.field-0 c.args.test.can_run.of
-    (concluded c.args.test.component.now c.args.test.matrix.now (limits_of c.args.options c.args.nodes) c.loop-place.place c.loop-place.so_far all c.loop-place.invariant.none c.loop-place.invariant.known c.in_ok-conclude.field-0 c.in_ok-conclude.ensures)
+    (concluded c.args.test.component.now c.args.test.matrix.now (limits_of c.args.options c.args.nodes) c.loop-number.number c.loop-number.so_far all c.loop-number.invariant.none c.loop-number.invariant.known c.in_ok-conclude.field-0 c.in_ok-conclude.ensures)

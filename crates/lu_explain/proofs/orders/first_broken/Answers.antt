@@ -40,7 +40,7 @@ returns-in-Some c =
     let number = ap (λ x. get_or taken x 0) c.from.ensures in
     let call = is_called h c.requires.history q c.requires.parts i _ at taken c.loop-op.invariant.are (get_or taken c.from.result 0) number in
     record {
-      place = i;
+      position = i;
       second = entry_is h c.requires.history q c.requires.parts i _ at taken c.loop-op.invariant.are (get_or taken c.from.result 0) number;
       first = c.in-Some.ensures (take i q) call.0 c.loop-op.invariant.are call.1;
       before = c.loop-op.invariant.before;

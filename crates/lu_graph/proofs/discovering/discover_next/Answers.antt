@@ -10,7 +10,7 @@ use Rattle.lu_graph.proofs.Searching.{below_all, below_more, below_none, below_t
 use Rattle.lu_graph.proofs.discovering.discover_next.Goals as goal
 
 pub loop-thread-init : goal.loop-thread-init
-loop-thread-init c = record { machine = refl; stay = ([], sym (append-nil c.args.found.now.positions.keys)); below = below_none c.args.machine.now c.args.place c.args.found.now }
+loop-thread-init c = record { machine = refl; stay = ([], sym (append-nil c.args.found.now.positions.keys)); below = below_none c.args.machine.now c.args.number c.args.found.now }
 
 pub loop-pick-preserved : goal.loop-pick-preserved
 loop-pick-preserved c =
@@ -22,8 +22,8 @@ loop-pick-preserved c =
     let move : IsMove m = feasible_is_move now c.requires c.threads-thread-end.ensures.few m (step_feasible now m made c.apply-undo.result.event step) in
     record {
       machine = c.undo.ensures ∙ (c.apply-undo.ensures.back ∙ home);
-      stay = stays_more made c.args.place m c.args.found.now c.loop-pick.found c.discover.new.found c.loop-pick.invariant.stay c.in_ok-discover.ensures;
-      below = below_more now c.args.place c.loop-thread.thread c.loop-pick.pick c.args.found.now c.loop-pick.found c.discover.new.found made c.apply-undo.result.event move step c.loop-pick.invariant.below c.in_ok-discover.ensures;
+      stay = stays_more made c.args.number m c.args.found.now c.loop-pick.found c.discover.new.found c.loop-pick.invariant.stay c.in_ok-discover.ensures;
+      below = below_more now c.args.number c.loop-thread.thread c.loop-pick.pick c.args.found.now c.loop-pick.found c.discover.new.found made c.apply-undo.result.event move step c.loop-pick.invariant.below c.in_ok-discover.ensures;
     }
 
 pub loop-thread-preserved : goal.loop-thread-preserved
@@ -33,10 +33,10 @@ loop-thread-preserved c =
     record {
       machine = c.loop-pick.invariant.machine;
       stay = c.loop-pick.invariant.stay;
-      below = below_turn c.args.machine.now c.args.place c.loop-thread.thread c.loop-pick.pick c.args.found.now c.loop-pick.found here c.loop-pick.invariant.below;
+      below = below_turn c.args.machine.now c.args.number c.loop-thread.thread c.loop-pick.pick c.args.found.now c.loop-pick.found here c.loop-pick.invariant.below;
     }
 
 pub returns-clause-next : goal.returns-clause-next
 returns-clause-next c =
     let past : length c.args.machine.now.threads ≤ c.loop-thread.thread = omega (arith, c.threads-thread-end.ensures.value) in
-    below_all c.args.machine.now c.args.place c.loop-thread.thread c.args.found.now c.loop-thread.found past c.loop-thread.invariant.below
+    below_all c.args.machine.now c.args.number c.loop-thread.thread c.args.found.now c.loop-thread.found past c.loop-thread.invariant.below

@@ -7,12 +7,12 @@ abbrev pub invariant-loop-thread : goal.invariant-loop-thread
 invariant-loop-thread l = record {
   machine : l.machine ≡ l.fn.machine;
   stay : Extends l.fn.found.positions.keys l.found.positions.keys;
-  below : SearchesBelow l.fn.machine l.place l.fn.found l.found (record { thread = l.thread; pick = 0 });
+  below : SearchesBelow l.fn.machine l.number l.fn.found l.found (record { thread = l.thread; pick = 0 });
 }
 
 abbrev pub invariant-loop-pick : goal.invariant-loop-pick
 invariant-loop-pick l = record {
   machine : l.machine ≡ l.fn.machine;
   stay : Extends l.fn.found.positions.keys l.found.positions.keys;
-  below : SearchesBelow l.fn.machine l.place l.fn.found l.found (record { thread = l.thread; pick = l.pick });
+  below : SearchesBelow l.fn.machine l.number l.fn.found l.found (record { thread = l.thread; pick = l.pick });
 }

@@ -9,17 +9,17 @@ use Rattle.lu_graph.proofs.expanding.expand_each.Goals as goal
 
 pub expand-requires-clause-stand : goal.expand-requires-clause-stand
 expand-requires-clause-stand c =
-    let was = c.loop-place.invariant in
-    let m = c.loop-place.machine in
+    let was = c.loop-number.invariant in
+    let m = c.loop-number.machine in
     let lent = c.args.frontier in
     subst (λ x. AllCanStand m.component x lent.nodes.now) (sym was.matrix_is) (subst (λ d. AllCanStand d lent.matrix.now lent.nodes.now) (sym was.component) c.requires.stand)
 
 -- the same arrays are guarded
 pub expand-requires-clause-guards : goal.expand-requires-clause-guards
-expand-requires-clause-guards c = subst (λ (d : Component). TellsGuarded d c.args.frontier.guards.now) (sym c.loop-place.invariant.component) c.requires.guards
+expand-requires-clause-guards c = subst (λ (d : Component). TellsGuarded d c.args.frontier.guards.now) (sym c.loop-number.invariant.component) c.requires.guards
 
-pub loop-place-init : goal.loop-place-init
-loop-place-init c =
+pub loop-number-init : goal.loop-number-init
+loop-number-init c =
     let lent = c.args.frontier in
     record {
       component = start_component lent.component.now lent.matrix.now c.in_ok-machine.machine c.in_ok-machine.ensures.starts;
@@ -28,18 +28,18 @@ loop-place-init c =
       found = between_nothing lent.component.now lent.matrix.now lent.members.now lent.nodes.now lent.visited lent.end c.new-found.result c.new-found.ensures.nodes c.new-found.ensures.rows;
     }
 
-pub loop-place-preserved : goal.loop-place-preserved
-loop-place-preserved c =
+pub loop-number-preserved : goal.loop-number-preserved
+loop-number-preserved c =
     let lent = c.args.frontier in
-    let was = c.loop-place.invariant in
+    let was = c.loop-number.invariant in
     let home = c.in_ok-expand.ensures.home in
     let members = lent.members.now in
     let nodes = lent.nodes.now in
-    let old = c.loop-place.found in
+    let old = c.loop-number.found in
     let new = c.expand.new.all in
-    let more : AreFoundBetween c.loop-place.machine.component c.loop-place.machine.matrix members nodes lent.visited lent.end old → AreFoundBetween c.loop-place.machine.component c.loop-place.machine.matrix members nodes lent.visited lent.end new =
-    c.in_ok-expand.ensures.more lent.visited lent.end (omega arith) (omega arith) in
-    let as_matrix = subst (λ (x : Matrix). AreFoundBetween c.loop-place.machine.component x members nodes lent.visited lent.end old → AreFoundBetween c.loop-place.machine.component x members nodes lent.visited lent.end new) was.matrix_is more in
+    let more : AreFoundBetween c.loop-number.machine.component c.loop-number.machine.matrix members nodes lent.visited lent.end old → AreFoundBetween c.loop-number.machine.component c.loop-number.machine.matrix members nodes lent.visited lent.end new =
+    c.in_ok-expand.ensures.all lent.visited lent.end (omega arith) (omega arith) in
+    let as_matrix = subst (λ (x : Matrix). AreFoundBetween c.loop-number.machine.component x members nodes lent.visited lent.end old → AreFoundBetween c.loop-number.machine.component x members nodes lent.visited lent.end new) was.matrix_is more in
     let as_component = subst (λ (d : Component). AreFoundBetween d lent.matrix.now members nodes lent.visited lent.end old → AreFoundBetween d lent.matrix.now members nodes lent.visited lent.end new) was.component as_matrix in
     record {
       component = home.component ∙ was.component;

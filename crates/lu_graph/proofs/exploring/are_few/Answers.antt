@@ -71,16 +71,16 @@ loop-at-preserved g c =
     let v = was.visited in
     let m = c.loop-at.machine in
     let nodes = c.loop-at.nodes in
-    let place = c.loop-at.at in
-    let one = next_there members nodes v.0 v.1 place c.in-Some.row (sym c.in-Some.is ∙ c.row.ensures) in
+    let number = c.loop-at.at in
+    let one = next_there members nodes v.0 v.1 number c.in-Some.row (sym c.in-Some.is ∙ c.row.ensures) in
     let kept = one.0 in
     let known : KnowsDead m.component nodes.parts.dead = subst (λ x. KnowsDead x nodes.parts.dead) (sym was.component) v.3 in
     let looked = c.in_ok-look_ahead.ensures.more v.0 v.1 known in
     let then = c.look_ahead.new.nodes in
     let dead : KnowsDead decl then.parts.dead = subst (λ (x : Parts). KnowsDead decl x.dead) (sym looked.parts) v.3 in
-    let visited = visited_then members decl matrix c.requires.runs.settles nodes.parts.dead v.3 v.0 place v.2 m was.component was.matrix_is _ looked.now looked.grows
-    (let within = slice_get_within v.0 place kept one.1 in omega (arith, within)) in
-    let here = there_then v.0 looked.grows.0 looked.now looked.grows.1 place kept one.1 in
+    let visited = visited_then members decl matrix c.requires.runs.settles nodes.parts.dead v.3 v.0 number v.2 m was.component was.matrix_is _ looked.now looked.grows
+    (let within = slice_get_within v.0 number kept one.1 in omega (arith, within)) in
+    let here = there_then v.0 looked.grows.0 looked.now looked.grows.1 number kept one.1 in
     let its = subst (λ x. IsRowOf x kept c.in-Some.row) (sym looked.parts) one.2 in
     let known_now : KnowsDead m.component then.parts.dead = subst (λ x. KnowsDead x then.parts.dead) (sym was.component) dead in
     let through = c.in_ok-go_through.ensures.done looked.now kept looked.hold here its known_now in
@@ -94,7 +94,7 @@ loop-at-preserved g c =
       visited = (
         more.list,
         more.hold,
-        visited_next members decl matrix c.requires.runs.settles then.parts.dead dead looked.now place visited
+        visited_next members decl matrix c.requires.runs.settles then.parts.dead dead looked.now number visited
             m was.component was.matrix_is kept here
             (state_of m.component m.matrix kept) kept.alive refl refl more.list more.grown,
         subst (KnowsDead decl) (sym more.parts.dead) dead,

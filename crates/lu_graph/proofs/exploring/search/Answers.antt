@@ -24,8 +24,8 @@ use Rattle.lu_graph.proofs.exploring.search.Goals as goal
 known_there : (c : Component) (dead : DeadTable) → KnowsDead c dead → (d : Component) (table : DeadTable) → d ≡ c → table ≡ dead → KnowsDead d table
 known_there c dead known d table one two = subst (λ x. KnowsDead x table) (sym one) (subst (KnowsDead c) (sym two) known)
 
-before_end : (list : List Kept) (place : ℕ) (kept : Kept) → slice_get list place ≡ Some kept → place ≤ length list
-before_end list place kept at = let within = slice_get_within list place kept at in omega (arith, within)
+before_end : (list : List Kept) (number : ℕ) (kept : Kept) → slice_get list number ≡ Some kept → number ≤ length list
+before_end list number kept at = let within = slice_get_within list number kept at in omega (arith, within)
 
 -- where the parts are the same, the same is known of dead registers, and a row is that of the same
 known_parts : (c : Component) (old new : Parts) → new ≡ old → KnowsDead c old.dead → KnowsDead c new.dead
@@ -74,9 +74,9 @@ returns-then-known-most-clause-ends g c =
     let hold = c.loop-at.invariant.known.1 in
     let visited = c.loop-at.invariant.known.2 in
     let searched = c.loop-at.invariant.known.3 in
-    let place = c.loop-at.at in
+    let number = c.loop-at.at in
     let many = hold.many in
-    too_many members decl matrix settles dead dead_known list place visited c.args.most (subst (λ d. AreDifferent d list) c.loop-at.invariant.dead (all_differ members c.loop-at.nodes list hold c.len-known.ensures.unique)) (omega (arith, many, c.len-known.ensures.len))
+    too_many members decl matrix settles dead dead_known list number visited c.args.most (subst (λ d. AreDifferent d list) c.loop-at.invariant.dead (all_differ members c.loop-at.nodes list hold c.len-known.ensures.unique)) (omega (arith, many, c.len-known.ensures.len))
 
 differ : (b : Bool) → b ≡ false → b ≡ true → ⊥
 differ b p q = cc
@@ -93,10 +93,10 @@ returns-in-None-clause-ends g c =
     let hold = c.loop-at.invariant.known.1 in
     let visited = c.loop-at.invariant.known.2 in
     let searched = c.loop-at.invariant.known.3 in
-    let place = c.loop-at.at in
+    let number = c.loop-at.at in
     let many = hold.many in
-    let past : length list ≤ place = none_waits members c.loop-at.nodes list hold place (sym c.in-None.is ∙ c.row.ensures) in
-    ends_well_there members decl matrix settles dead dead_known list place visited c.args.most past (omega (arith, many, c.len-known.ensures.len)) c.args.guards.now c.requires.guards c.loop-at.level.moves c.loop-at.level.end searched
+    let past : length list ≤ number = none_waits members c.loop-at.nodes list hold number (sym c.in-None.is ∙ c.row.ensures) in
+    ends_well_there members decl matrix settles dead dead_known list number visited c.args.most past (omega (arith, many, c.len-known.ensures.len)) c.args.guards.now c.requires.guards c.loop-at.level.moves c.loop-at.level.end searched
 
 pub look_ahead-requires-clause-visited : goal.look_ahead-requires-clause-visited
 look_ahead-requires-clause-visited g c =
@@ -110,12 +110,12 @@ look_ahead-requires-clause-visited g c =
     let hold = c.loop-at.invariant.known.1 in
     let visited = c.loop-at.invariant.known.2 in
     let searched = c.loop-at.invariant.known.3 in
-    let place = c.loop-at.at in
+    let number = c.loop-at.at in
     let m = c.loop-at.machine in
     let was = c.loop-at.invariant in (
       list,
       hold,
-      from_same m.component decl m.matrix matrix was.component was.matrix_is (λ s. AreVisited members s list place) visited,
+      from_same m.component decl m.matrix matrix was.component was.matrix_is (λ s. AreVisited members s list number) visited,
       known_there decl dead dead_known m.component c.loop-at.nodes.parts.dead was.component was.dead,
     )
 
@@ -138,16 +138,16 @@ go_through-requires-clause-can g c =
     let hold = c.loop-at.invariant.known.1 in
     let visited = c.loop-at.invariant.known.2 in
     let searched = c.loop-at.invariant.known.3 in
-    let place = c.loop-at.at in
+    let number = c.loop-at.at in
     let m = c.loop-at.machine in
     let was = c.loop-at.invariant in
-    let one = next_there members c.loop-at.nodes list hold place c.in-Some.row (sym c.in-Some.is ∙ c.row.ensures) in
+    let one = next_there members c.loop-at.nodes list hold number c.in-Some.row (sym c.in-Some.is ∙ c.row.ensures) in
     let kept = one.0 in
     let here = one.1 in
     let known : KnowsDead m.component c.loop-at.nodes.parts.dead = known_there decl dead dead_known m.component c.loop-at.nodes.parts.dead was.component was.dead in
     let looked = c.in_ok-look_ahead.ensures.more list hold known in
     subst (λ x. CanStandAtRow m.component m.matrix x c.in-Some.row) (sym looked.parts)
-    (kept, one.2, can_stand members decl matrix settles dead dead_known list place visited m was.component was.matrix_is kept here)
+    (kept, one.2, can_stand members decl matrix settles dead dead_known list number visited m was.component was.matrix_is kept here)
 
 pub are_few-requires-clause-guards : goal.are_few-requires-clause-guards
 are_few-requires-clause-guards g c =
@@ -165,19 +165,19 @@ are_few-requires-clause-ahead g c =
     let hold = c.loop-at.invariant.known.1 in
     let visited = c.loop-at.invariant.known.2 in
     let searched = c.loop-at.invariant.known.3 in
-    let place = c.loop-at.at in
+    let number = c.loop-at.at in
     let m = c.loop-at.machine in
     let was = c.loop-at.invariant in
-    let one = next_there members c.loop-at.nodes list hold place c.in-Some.row (sym c.in-Some.is ∙ c.row.ensures) in
+    let one = next_there members c.loop-at.nodes list hold number c.in-Some.row (sym c.in-Some.is ∙ c.row.ensures) in
     let kept = one.0 in
     let here = one.1 in
     let known : KnowsDead m.component c.loop-at.nodes.parts.dead = known_there decl dead dead_known m.component c.loop-at.nodes.parts.dead was.component was.dead in
     let looked = c.in_ok-look_ahead.ensures.more list hold known in
     let then = c.look_ahead.new.nodes in
-    let now_there = there_then list looked.grows.0 looked.now looked.grows.1 place kept here in
-    let within : place ≤ length list = before_end list place kept here in
+    let now_there = there_then list looked.grows.0 looked.now looked.grows.1 number kept here in
+    let within : number ≤ length list = before_end list number kept here in
     let end = c.batch_end-end.result in
-    let visited_now = visited_then members decl matrix settles dead dead_known list place visited m was.component was.matrix_is end looked.now looked.grows within in
+    let visited_now = visited_then members decl matrix settles dead dead_known list number visited m was.component was.matrix_is end looked.now looked.grows within in
     let known_now : KnowsDead m.component then.parts.dead = known_parts m.component c.loop-at.nodes.parts then.parts looked.parts known in
     let through = c.in_ok-is_good.ensures.done looked.now kept looked.hold now_there (row_then kept c.in-Some.row c.loop-at.nodes.parts then.parts looked.parts one.2) known_now in
     let more = through.more in
@@ -200,19 +200,19 @@ are_few-requires-clause-visited g c =
     let hold = c.loop-at.invariant.known.1 in
     let visited = c.loop-at.invariant.known.2 in
     let searched = c.loop-at.invariant.known.3 in
-    let place = c.loop-at.at in
+    let number = c.loop-at.at in
     let m = c.loop-at.machine in
     let was = c.loop-at.invariant in
-    let one = next_there members c.loop-at.nodes list hold place c.in-Some.row (sym c.in-Some.is ∙ c.row.ensures) in
+    let one = next_there members c.loop-at.nodes list hold number c.in-Some.row (sym c.in-Some.is ∙ c.row.ensures) in
     let kept = one.0 in
     let here = one.1 in
     let known : KnowsDead m.component c.loop-at.nodes.parts.dead = known_there decl dead dead_known m.component c.loop-at.nodes.parts.dead was.component was.dead in
     let looked = c.in_ok-look_ahead.ensures.more list hold known in
     let then = c.look_ahead.new.nodes in
-    let now_there = there_then list looked.grows.0 looked.now looked.grows.1 place kept here in
-    let within : place ≤ length list = before_end list place kept here in
+    let now_there = there_then list looked.grows.0 looked.now looked.grows.1 number kept here in
+    let within : number ≤ length list = before_end list number kept here in
     let end = c.batch_end-end.result in
-    let visited_now = visited_then members decl matrix settles dead dead_known list place visited m was.component was.matrix_is end looked.now looked.grows within in
+    let visited_now = visited_then members decl matrix settles dead dead_known list number visited m was.component was.matrix_is end looked.now looked.grows within in
     let known_now : KnowsDead m.component then.parts.dead = known_parts m.component c.loop-at.nodes.parts then.parts looked.parts known in
     let through = c.in_ok-is_good.ensures.done looked.now kept looked.hold now_there (row_then kept c.in-Some.row c.loop-at.nodes.parts then.parts looked.parts one.2) known_now in
     let more = through.more in
@@ -223,8 +223,8 @@ are_few-requires-clause-visited g c =
     let now = state_of m.component m.matrix kept in (
       more.list,
       more.hold,
-      from_same last.component decl last.matrix matrix component_is matrix_is (λ s. AreVisited members s more.list (place + 1))
-          (visited_next members decl matrix settles dead dead_known looked.now place visited_now m was.component was.matrix_is kept now_there now kept.alive refl refl more.list more.grown),
+      from_same last.component decl last.matrix matrix component_is matrix_is (λ s. AreVisited members s more.list (number + 1))
+          (visited_next members decl matrix settles dead dead_known looked.now number visited_now m was.component was.matrix_is kept now_there now kept.alive refl refl more.list more.grown),
       known_there decl dead dead_known last.component c.go_through.new.nodes.parts.dead component_is (more.parts.dead ∙ (ap (λ (x : Parts). x.dead) looked.parts ∙ was.dead)),
     )
 
@@ -240,19 +240,19 @@ returns-then-not-branch-clause-ends g c =
     let hold = c.loop-at.invariant.known.1 in
     let visited = c.loop-at.invariant.known.2 in
     let searched = c.loop-at.invariant.known.3 in
-    let place = c.loop-at.at in
+    let number = c.loop-at.at in
     let m = c.loop-at.machine in
     let was = c.loop-at.invariant in
-    let one = next_there members c.loop-at.nodes list hold place c.in-Some.row (sym c.in-Some.is ∙ c.row.ensures) in
+    let one = next_there members c.loop-at.nodes list hold number c.in-Some.row (sym c.in-Some.is ∙ c.row.ensures) in
     let kept = one.0 in
     let here = one.1 in
     let known : KnowsDead m.component c.loop-at.nodes.parts.dead = known_there decl dead dead_known m.component c.loop-at.nodes.parts.dead was.component was.dead in
     let looked = c.in_ok-look_ahead.ensures.more list hold known in
     let then = c.look_ahead.new.nodes in
-    let now_there = there_then list looked.grows.0 looked.now looked.grows.1 place kept here in
-    let within : place ≤ length list = before_end list place kept here in
+    let now_there = there_then list looked.grows.0 looked.now looked.grows.1 number kept here in
+    let within : number ≤ length list = before_end list number kept here in
     let end = c.batch_end-end.result in
-    let visited_now = visited_then members decl matrix settles dead dead_known list place visited m was.component was.matrix_is end looked.now looked.grows within in
+    let visited_now = visited_then members decl matrix settles dead dead_known list number visited m was.component was.matrix_is end looked.now looked.grows within in
     let known_now : KnowsDead m.component then.parts.dead = known_parts m.component c.loop-at.nodes.parts then.parts looked.parts known in
     let through = c.in_ok-is_good.ensures.done looked.now kept looked.hold now_there (row_then kept c.in-Some.row c.loop-at.nodes.parts then.parts looked.parts one.2) known_now in
     let more = through.more in
@@ -278,19 +278,19 @@ returns-then-not-is_good-clause-ends g c =
     let hold = c.loop-at.invariant.known.1 in
     let visited = c.loop-at.invariant.known.2 in
     let searched = c.loop-at.invariant.known.3 in
-    let place = c.loop-at.at in
+    let number = c.loop-at.at in
     let m = c.loop-at.machine in
     let was = c.loop-at.invariant in
-    let one = next_there members c.loop-at.nodes list hold place c.in-Some.row (sym c.in-Some.is ∙ c.row.ensures) in
+    let one = next_there members c.loop-at.nodes list hold number c.in-Some.row (sym c.in-Some.is ∙ c.row.ensures) in
     let kept = one.0 in
     let here = one.1 in
     let known : KnowsDead m.component c.loop-at.nodes.parts.dead = known_there decl dead dead_known m.component c.loop-at.nodes.parts.dead was.component was.dead in
     let looked = c.in_ok-look_ahead.ensures.more list hold known in
     let then = c.look_ahead.new.nodes in
-    let now_there = there_then list looked.grows.0 looked.now looked.grows.1 place kept here in
-    let within : place ≤ length list = before_end list place kept here in
+    let now_there = there_then list looked.grows.0 looked.now looked.grows.1 number kept here in
+    let within : number ≤ length list = before_end list number kept here in
     let end = c.batch_end-end.result in
-    let visited_now = visited_then members decl matrix settles dead dead_known list place visited m was.component was.matrix_is end looked.now looked.grows within in
+    let visited_now = visited_then members decl matrix settles dead dead_known list number visited m was.component was.matrix_is end looked.now looked.grows within in
     let known_now : KnowsDead m.component then.parts.dead = known_parts m.component c.loop-at.nodes.parts then.parts looked.parts known in
     let through = c.in_ok-is_good.ensures.done looked.now kept looked.hold now_there (row_then kept c.in-Some.row c.loop-at.nodes.parts then.parts looked.parts one.2) known_now in
     let more = through.more in
@@ -299,10 +299,10 @@ returns-then-not-is_good-clause-ends g c =
     let matrix_is = home.matrix_is ∙ was.matrix_is in
     let last = c.go_through.new.machine in
     let now = state_of m.component m.matrix kept in
-    let level = searched_at members decl matrix settles dead dead_known list place visited c.loop-at.level c.at-level.result c.len-known.result (c.len-known.ensures.len ∙ hold.many) searched was.moves kept (sym here) c.at-level.ensures in
+    let level = searched_at members decl matrix settles dead dead_known list number visited c.loop-at.level c.at-level.result c.len-known.result (c.len-known.ensures.len ∙ hold.many) searched was.moves kept (sym here) c.at-level.ensures in
     let other : c.in_ok-is_good.is_good ≡ false = search rules in
     λ s is. (
-      badly members decl matrix settles dead dead_known list place visited m was.component was.matrix_is kept here now kept.alive refl refl
+      badly members decl matrix settles dead dead_known list number visited m was.component was.matrix_is kept here now kept.alive refl refl
           c.args.guards.now c.requires.guards c.at-level.result.moves c.at-level.result.end level.2 level.0 c.in_ok-is_good.is_good other through.good_is s is,
       (λ far. elim c.else-is_far.branch as (λ _. HasFewNodes (IsOneOf members) s c.args.most) [
         | else-is_far-via-then-is_far+in_ok-are_few+else-not-branch w ↦
@@ -325,19 +325,19 @@ loop-at-preserved g c =
     let hold = c.loop-at.invariant.known.1 in
     let visited = c.loop-at.invariant.known.2 in
     let searched = c.loop-at.invariant.known.3 in
-    let place = c.loop-at.at in
+    let number = c.loop-at.at in
     let m = c.loop-at.machine in
     let was = c.loop-at.invariant in
-    let one = next_there members c.loop-at.nodes list hold place c.in-Some.row (sym c.in-Some.is ∙ c.row.ensures) in
+    let one = next_there members c.loop-at.nodes list hold number c.in-Some.row (sym c.in-Some.is ∙ c.row.ensures) in
     let kept = one.0 in
     let here = one.1 in
     let known : KnowsDead m.component c.loop-at.nodes.parts.dead = known_there decl dead dead_known m.component c.loop-at.nodes.parts.dead was.component was.dead in
     let looked = c.in_ok-look_ahead.ensures.more list hold known in
     let then = c.look_ahead.new.nodes in
-    let now_there = there_then list looked.grows.0 looked.now looked.grows.1 place kept here in
-    let within : place ≤ length list = before_end list place kept here in
+    let now_there = there_then list looked.grows.0 looked.now looked.grows.1 number kept here in
+    let within : number ≤ length list = before_end list number kept here in
     let end = c.batch_end-end.result in
-    let visited_now = visited_then members decl matrix settles dead dead_known list place visited m was.component was.matrix_is end looked.now looked.grows within in
+    let visited_now = visited_then members decl matrix settles dead dead_known list number visited m was.component was.matrix_is end looked.now looked.grows within in
     let known_now : KnowsDead m.component then.parts.dead = known_parts m.component c.loop-at.nodes.parts then.parts looked.parts known in
     let through = c.in_ok-is_good.ensures.done looked.now kept looked.hold now_there (row_then kept c.in-Some.row c.loop-at.nodes.parts then.parts looked.parts one.2) known_now in
     let more = through.more in
@@ -346,7 +346,7 @@ loop-at-preserved g c =
     let matrix_is = home.matrix_is ∙ was.matrix_is in
     let last = c.go_through.new.machine in
     let now = state_of m.component m.matrix kept in
-    let level = searched_at members decl matrix settles dead dead_known list place visited c.loop-at.level c.at-level.result c.len-known.result (c.len-known.ensures.len ∙ hold.many) searched was.moves kept (sym here) c.at-level.ensures in
+    let level = searched_at members decl matrix settles dead dead_known list number visited c.loop-at.level c.at-level.result c.len-known.result (c.len-known.ensures.len ∙ hold.many) searched was.moves kept (sym here) c.at-level.ensures in
     record {
       component = component_is;
       matrix_is = matrix_is;
@@ -356,10 +356,10 @@ loop-at-preserved g c =
       known = (
         more.list,
         more.hold,
-        visited_next members decl matrix settles dead dead_known looked.now place visited_now m was.component was.matrix_is kept now_there now kept.alive refl refl more.list more.grown,
-        searched_next members decl matrix settles dead dead_known looked.now place visited_now m was.component was.matrix_is kept now_there now kept.alive refl refl more.list more.grown
+        visited_next members decl matrix settles dead dead_known looked.now number visited_now m was.component was.matrix_is kept now_there now kept.alive refl refl more.list more.grown,
+        searched_next members decl matrix settles dead dead_known looked.now number visited_now m was.component was.matrix_is kept now_there now kept.alive refl refl more.list more.grown
             c.at-level.result.moves c.at-level.result.end
-            (searched_then members decl matrix settles dead dead_known list place visited m was.component was.matrix_is c.at-level.result.end looked.now (grows_within members m.component m.matrix list place end c.at-level.result.end c.batch_end-end.ensures looked.now looked.grows) c.at-level.result.moves level.0 level.2) level.0 c.in_ok-is_good.is_good (search rules) through.good_is,
+            (searched_then members decl matrix settles dead dead_known list number visited m was.component was.matrix_is c.at-level.result.end looked.now (grows_within members m.component m.matrix list number end c.at-level.result.end c.batch_end-end.ensures looked.now looked.grows) c.at-level.result.moves level.0 level.2) level.0 c.in_ok-is_good.is_good (search rules) through.good_is,
       );
       ahead = found_same m.component decl m.matrix matrix members c.go_through.new.nodes c.go_through.new.ahead was.component was.matrix_is (c.in_ok-is_good.ensures.left looked.now looked.hold known_now);
       moves = level.1;
@@ -377,9 +377,9 @@ returns-then-len-most-clause-ends g c =
     let hold = c.loop-at.invariant.known.1 in
     let visited = c.loop-at.invariant.known.2 in
     let searched = c.loop-at.invariant.known.3 in
-    let place = c.loop-at.at in
+    let number = c.loop-at.at in
     let many = hold.many in
-    too_many members decl matrix settles dead dead_known list place visited c.args.most (subst (λ d. AreDifferent d list) c.loop-at.invariant.dead (all_differ members c.loop-at.nodes list hold c.len-2.ensures.unique)) (omega (arith, many, c.len-2.ensures.len))
+    too_many members decl matrix settles dead dead_known list number visited c.args.most (subst (λ d. AreDifferent d list) c.loop-at.invariant.dead (all_differ members c.loop-at.nodes list hold c.len-2.ensures.unique)) (omega (arith, many, c.len-2.ensures.len))
 
 pub returns-clause-ends : goal.returns-clause-ends
 returns-clause-ends g c =
@@ -393,9 +393,9 @@ returns-clause-ends g c =
     let hold = c.loop-at.invariant.known.1 in
     let visited = c.loop-at.invariant.known.2 in
     let searched = c.loop-at.invariant.known.3 in
-    let place = c.loop-at.at in
+    let number = c.loop-at.at in
     let many = hold.many in
-    ends_well_there members decl matrix settles dead dead_known list place visited c.args.most (omega (arith, many, c.len-2.ensures.len)) (omega (arith, many, c.len-2.ensures.len)) c.args.guards.now c.requires.guards c.loop-at.level.moves c.loop-at.level.end searched
+    ends_well_there members decl matrix settles dead dead_known list number visited c.args.most (omega (arith, many, c.len-2.ensures.len)) (omega (arith, many, c.len-2.ensures.len)) c.args.guards.now c.requires.guards c.loop-at.level.moves c.loop-at.level.end searched
 
 -- what is ahead was found in the same runs
 pub look_ahead-requires-clause-ahead : goal.look_ahead-requires-clause-ahead

@@ -5,6 +5,6 @@ use Rattle.lu_graph.proofs.judging.is_stuck.Goals as goal
 
 pub returns-in-Some : goal.returns-in-Some
 returns-in-Some c =
-    stuck_found c.args.member.now c.args.thread (ended c.args.machine.now c.args.thread) c.in-Some.place
-    (entry_found c.args.member.now c.args.thread (ended c.args.machine.now c.args.thread) c.ended.result c.in-Some.place c.place_of.result c.place_of.ensures c.in-Some.is c.ended.ensures)
+    stuck_found c.args.member.now c.args.thread (ended c.args.machine.now c.args.thread) c.in-Some.position
+    (entry_found c.args.member.now c.args.thread (ended c.args.machine.now c.args.thread) c.ended.result c.in-Some.position c.position_of.result c.position_of.ensures c.in-Some.is c.ended.ensures)
     _ c.is_stuck_so.result c.is_stuck_so.ensures

@@ -31,7 +31,7 @@ schedule_to-requires-clause-there g c =
     let now = written c.in-Some.graph.ended.len c.deref-2.result.now c.mark_back.new.marks c.in-Some.graph.ended.items whole same c.deref-2.ensures.value in
     place_within c.args.component.now c.args.matrix.now c.requires.runs.settles c.args.most c.in-Some.graph (λ s is. subst (IsExplored c.args.most s) c.in-Some.is (c.in_ok-explore.ensures.explored s is))
     c.deref.result.now c.deref_mut.result.now c.mark_back.new.marks c.deref.ensures.value c.deref_mut.ensures.value size c.mark_back.ensures
-    c.in-Some-first_unmarked.place (subst (λ xs. Some c.in-Some-first_unmarked.place ≡ position not xs) now c.in-Some-first_unmarked.ensures)
+    c.in-Some-first_unmarked.number (subst (λ xs. Some c.in-Some-first_unmarked.number ≡ position not xs) now c.in-Some-first_unmarked.ensures)
     c.deref-in-Some-first_unmarked.result.now c.deref-in-Some-first_unmarked.ensures.value
 
 pub schedule_to-requires-clause-order : goal.schedule_to-requires-clause-order
@@ -52,5 +52,5 @@ returns-clause-first g c =
     let now = written c.in-Some.graph.ended.len c.deref-2.result.now c.mark_back.new.marks c.in-Some.graph.ended.items whole same c.deref-2.ensures.value in
     found_by_path c.args.component.now c.args.matrix.now c.requires.runs.settles c.args.most c.in-Some.graph (λ s is. subst (IsExplored c.args.most s) c.in-Some.is (c.in_ok-explore.ensures.explored s is))
     c.deref.result.now c.deref_mut.result.now c.mark_back.new.marks c.deref.ensures.value c.deref_mut.ensures.value size c.mark_back.ensures
-    c.in-Some-first_unmarked.place (subst (λ xs. Some c.in-Some-first_unmarked.place ≡ position not xs) now c.in-Some-first_unmarked.ensures)
+    c.in-Some-first_unmarked.number (subst (λ xs. Some c.in-Some-first_unmarked.number ≡ position not xs) now c.in-Some-first_unmarked.ensures)
     {E = Halted} c.deref-in-Some-first_unmarked.result.now c.deref-in-Some-first_unmarked.ensures.value (Ok c.in_ok-schedule_to-in-Some-first_unmarked.field-0) c.in_ok-schedule_to-in-Some-first_unmarked.ensures

@@ -15,13 +15,13 @@ loop-at-init c = record {
   within = c.requires.there;
   few = (let empty = ap (λ (x : List Move). length x) c.new-moves.ensures.items in omega (arith, empty));
   moves = subst (All IsMove) (sym c.new-moves.ensures.items) (All-nil IsMove);
-  goes = goes_none c.args.ways.now c.args.place c.new-moves.result.items c.requires.there c.new-moves.ensures.items;
+  goes = goes_none c.args.ways.now c.args.number c.new-moves.result.items c.requires.there c.new-moves.ensures.items;
 }
 
 pub returns-then-len-eq-MOST_LISTED_MOVES : goal.returns-then-len-eq-MOST_LISTED_MOVES
 returns-then-len-eq-MOST_LISTED_MOVES c =
     let many : length c.loop-at.moves.items ≡ 4112 = omega (arith, c.len.ensures, c.loop-at.moves.ok.0, c.if-len-eq-MOST_LISTED_MOVES.true) in
-    goes_long c.args.ways.now c.args.place c.loop-at.at c.loop-at.moves.items c.loop-at-test.true c.loop-at.invariant.within many c.loop-at.invariant.goes
+    goes_long c.args.ways.now c.args.number c.loop-at.at c.loop-at.moves.items c.loop-at-test.true c.loop-at.invariant.within many c.loop-at.invariant.goes
 
 pub loop-at-smaller : goal.loop-at-smaller
 loop-at-smaller c = c.requires.order c.loop-at.at _ c.loop-at-test.true (slice_get-get_or c.args.ways.now c.loop-at.at (discovery 0 (record { thread = 0; pick = 0 })) c.loop-at.invariant.within)
@@ -38,5 +38,5 @@ loop-at-preserved c =
       within = omega (arith, less, within);
       few = omega (arith, long, one, c.loop-at.invariant.few, c.len.ensures, c.loop-at.moves.ok.0, c.if-len-eq-MOST_LISTED_MOVES.false);
       moves = subst (All IsMove) (sym c.in_ok-push.ensures.items) (All-push IsMove c.loop-at.moves.items way.made c.loop-at.invariant.moves (All-get_or (λ (d : Discovery). IsMove d.made) c.args.ways.now c.loop-at.at (discovery 0 (record { thread = 0; pick = 0 })) within c.requires.moves));
-      goes = goes_more c.args.ways.now c.args.place c.loop-at.at way c.loop-at.moves.items c.push.new.self.items c.loop-at-test.true there c.in_ok-push.ensures.items c.loop-at.invariant.goes;
+      goes = goes_more c.args.ways.now c.args.number c.loop-at.at way c.loop-at.moves.items c.push.new.self.items c.loop-at-test.true there c.in_ok-push.ensures.items c.loop-at.invariant.goes;
     }

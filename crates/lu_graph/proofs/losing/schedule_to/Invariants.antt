@@ -9,7 +9,7 @@ invariant-loop-at l = record {
   within : l.at < length l.ways;
   few : length l.moves.items ≤ 4112;
   moves : All IsMove l.moves.items;
-  goes : GoesBy l.ways l.place l.at l.moves.items;
+  goes : GoesBy l.ways l.number l.at l.moves.items;
 }
 
 abbrev pub decreases-loop-at : goal.decreases-loop-at

@@ -19,7 +19,7 @@ loop-thread-preserved c =
       | in-Some+in_ok-numbers w ↦
           so_far_more dead s old old old done w.in_ok-numbers.field-0 c.loop-thread.numbers c.match-standing.numbers w.in-Some.standing.now w.live.result c.loop-thread.invariant few
           (sym w.in-Some.ensures.value) w.in-Some.ensures.stands w.in-Some.ensures.in_code w.live.ensures (record { number = w.in_ok-numbers.ensures; grows = extends_none old })
-          (w.numbers-is ∙ ap (λ k. set c.loop-thread.numbers k w.in_ok-numbers.field-0) w.from-place.ensures)
+          (w.numbers-is ∙ ap (λ k. set c.loop-thread.numbers k w.in_ok-numbers.field-0) w.from-index.ensures)
       | in_default w ↦ absurd
           (let one = some_at s.threads done (omega (arith, c.loop-thread-test.true, c.threads-thread-end.ensures.value)) in
           let wrong = w.in_default.ensures.value ∙ one.1 in

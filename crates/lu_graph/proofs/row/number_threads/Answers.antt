@@ -18,7 +18,7 @@ loop-thread-preserved c =
     elim c.match-standing.branch as (λ _. AreNumbersSoFar c.args.dead.now c.args.machine.now c.args.table.now.keys c.match-standing.table.keys (c.loop-thread.thread + 1) c.match-standing.numbers) [
       | in-Some+in_ok-numbers w ↦ subst (λ x. AreNumbersSoFar dead s old x.keys (done + 1) c.match-standing.numbers) (sym w.table-is)
           (so_far_more dead s old c.loop-thread.table.keys w.number_of.new.table.keys done w.in_ok-numbers.field-0 c.loop-thread.numbers c.match-standing.numbers w.in-Some.standing.now w.live.result c.loop-thread.invariant few
-          (sym w.in-Some.ensures.value) w.in-Some.ensures.stands w.in-Some.ensures.in_code w.live.ensures w.in_ok-numbers.ensures (w.numbers-is ∙ ap (λ k. set c.loop-thread.numbers k w.in_ok-numbers.field-0) w.from-place.ensures))
+          (sym w.in-Some.ensures.value) w.in-Some.ensures.stands w.in-Some.ensures.in_code w.live.ensures w.in_ok-numbers.ensures (w.numbers-is ∙ ap (λ k. set c.loop-thread.numbers k w.in_ok-numbers.field-0) w.from-index.ensures))
       | in_default w ↦ absurd
           (let one = some_at s.threads done (omega (arith, c.loop-thread-test.true, c.threads-thread-end.ensures.value)) in
           let wrong = w.in_default.ensures.value ∙ one.1 in

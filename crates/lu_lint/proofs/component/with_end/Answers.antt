@@ -2,7 +2,7 @@ use Rattle.std.proofs.Common.{◌∙◌, ap, sym}
 use Rattle.lu_lang.specs.Faulty.{FaultyDraft}
 use Rattle.lu_text.specs.Faults.{fault_in}
 use Rattle.lu_lang.specs.Meant.{faulty_grammar}
-use Rattle.lu_lang.specs.Place.{open_backs}
+use Rattle.lu_lang.specs.FaultLines.{open_backs}
 use Rattle.lu_lint.proofs.Going.{are_at_end}
 use Rattle.lu_lint.proofs.component.with_end.Goals as goal
 

@@ -1,6 +1,6 @@
 use Rattle.std.proofs.Common.{◌∙◌, ap, sym, vec_len}
 use Rattle.lu_lang.specs.Faulty.{FaultyDraft}
-use Rattle.lu_lang.specs.Place.{backs}
+use Rattle.lu_lang.specs.FaultLines.{backs}
 use Rattle.lu_lint.specs.declared.remark.FaultKind.TheVariants as part
 use Rattle.lu_lint.proofs.Going.{is_once, is_each}
 use Rattle.lu_lint.proofs.component.with_fault.Goals as goal

@@ -8,6 +8,6 @@ use Rattle.lu_lint.proofs.component.with_jumps.Goals as goal
 pub loop-back-preserved : goal.loop-back-preserved
 loop-back-preserved over c =
     let at = c.args.at.now in
-    let place = rw c.deref.ensures.value at c.line_before-place.ensures in
-    let said = c.said.ensures ∙ ap (λ (n : ℕ). said_told part.Component at.above (told_there at.line c.args.kind n)) place in
+    let line = rw c.deref.ensures.value at c.line_before-line.ensures in
+    let said = c.said.ensures ∙ ap (λ (n : ℕ). said_told part.Component at.above (told_there at.line c.args.kind n)) line in
     jump_more at c.args.kind c.args.backs.now c.loop-back.back-index 0 _ _ _ c.said.result (omega arith) c.loop-back.invariant said c.in_ok-all.ensures

@@ -13,8 +13,8 @@ pub returns-clause-said : goal.returns-clause-said
 returns-clause-said over c =
     let found = c.in_ok-remarks.remarks.items in
     let moved = c.in_ok-sort_by_key.ensures.permutation in
-    let stable = c.in_ok-sort_by_key.ensures.stable (λ r. r.said.place) (answers_always _ _ _ (λ f a r next called. search rules)) in
-    (said_of found, c.in_ok-remarks.ensures, IsPermutation-map (λ r. r.said) _ _ moved, stable_parts (λ (r : Remark). r.said) (λ (s : Said). s.place) with_said (λ r s. refl) found _ moved stable)
+    let stable = c.in_ok-sort_by_key.ensures.stable (λ r. r.said.line) (answers_always _ _ _ (λ f a r next called. search rules)) in
+    (said_of found, c.in_ok-remarks.ensures, IsPermutation-map (λ r. r.said) _ _ moved, stable_parts (λ (r : Remark). r.said) (λ (s : Said). s.line) with_said (λ r s. refl) found _ moved stable)
 
 pub returns-clause-ordered : goal.returns-clause-ordered
-returns-clause-ordered over c = IsNonDecreasingBy-from_sort_by_key (λ r. r.said.place) _ c.in_ok-sort_by_key.ensures.sorted (λ a r q k. search rules)
+returns-clause-ordered over c = IsNonDecreasingBy-from_sort_by_key (λ r. r.said.line) _ c.in_ok-sort_by_key.ensures.sorted (λ a r q k. search rules)

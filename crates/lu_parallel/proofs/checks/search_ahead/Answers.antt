@@ -1,12 +1,12 @@
-use Rattle.std.proofs.Common.{◌≡◌, ◌∙◌, List, [], length, ap, sym, subst, arith}
+use Rattle.std.proofs.Common.{◌≡◌, ◌∙◌, List, [], Option, IfSome, length, ap, sym, subst, arith}
 use Rattle.lu_test.specs.declared.schedule.Move.{Move}
 use Rattle.lu_history.specs.declared.serial.SerialOp.{SerialOp}
 use Rattle.lu_machine.specs.Schedules.{IsSchedule}
 use Rattle.lu_witness.specs.Witnesses.{IsMember}
 use Rattle.lu_tree.specs.Trees.{Below, IsFoundWatched}
+use Rattle.lu_report.specs.declared.report.Finding.{Finding}
 use Rattle.lu_replay.specs.Reports.{IsFindingAgainst}
-use Rattle.lu_parallel.specs.Findings.{finding_of}
-use Rattle.lu_parallel.proofs.Answers.{all_below, empty_leads, found_against, found_kept, same_finding}
+use Rattle.lu_parallel.proofs.Answers.{empty_leads, may_find}
 use Rattle.lu_parallel.proofs.checks.search_ahead.Goals as goal
 
 pub search_with-requires-clause-of : goal.search_with-requires-clause-of
@@ -27,5 +27,4 @@ returns-clause-found g c = λ s is.
     let tree = ap (λ x. g.T.SerialTree.members x) c.in_ok-cache.ensures.tree in
     let here = subst (λ (members : List (List SerialOp)). IsFoundWatched (IsMember members) s bound (Below c.new-whole.result) found) tree (c.in_ok-found.ensures.found s is) in
     let below = subst (λ (u : List Move). IsFoundWatched Set s bound (Below u) found) empty here in
-    let whole = all_below Set s bound found (found_kept Set s bound (Below []) found c.finding_of.result c.finding_of.ensures below) in
-    same_finding (IsFindingAgainst Set s bound) (finding_of found) c.finding_of.result c.finding_of.ensures (found_against Set s bound found whole)
+    subst (λ (o : Option Finding). IfSome o (IsFindingAgainst Set s bound)) (sym c.finding_of.ensures) (may_find Set s bound found below)

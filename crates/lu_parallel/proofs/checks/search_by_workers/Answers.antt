@@ -1,9 +1,10 @@
-use Rattle.std.proofs.Common.{arith, ◌≡◌, ◌∙◌, List, All, Some, length, sym, subst}
+use Rattle.std.proofs.Common.{arith, ◌≡◌, ◌∙◌, List, All, Option, Some, IsSome, length, sym, subst}
 use Rattle.lu_test.specs.declared.schedule.Move.{Move}
 use Rattle.lu_machine.proofs.Starting.{start_there}
 use Rattle.lu_machine.specs.Schedules.{IsCover}
 use Rattle.lu_witness.specs.Witnesses.{IsMember}
 use Rattle.lu_board.specs.Close.{SharesOut}
+use Rattle.lu_report.specs.declared.report.Finding.{Finding}
 use Rattle.lu_replay.specs.Reports.{IsFindingAgainst}
 use Rattle.lu_parallel.specs.Findings.{finding_of}
 use Rattle.lu_parallel.specs.Works.{IsPiece}
@@ -32,10 +33,10 @@ run_workers-requires-clause-job g c κs within = record {
   numbered = c.in_ok-board.ensures.board.0 ∙ (c.len.ensures ∙ sym c.deref.ensures.len);
 }
 
-pub finding_of-requires : goal.finding_of-requires
-finding_of-requires g c =
+pub unwrap-requires : goal.unwrap-requires
+unwrap-requires g c =
     let conclusion : IsConclusion c.in_ok-works.works.items (Some c.in-Some.found) = rw c.in-Some.is at c.in_ok-found.ensures.conclusion in
-    concluded_finding c.in_ok-works.works.items c.in-Some.found conclusion.1
+    subst (λ (found : Option Finding). IsSome found) (sym c.finding_of.ensures) (concluded_finding c.in_ok-works.works.items c.in-Some.found conclusion.1)
 
 pub returns-in-Some-clause-found : goal.returns-in-Some-clause-found
 returns-in-Some-clause-found g c = λ s is.
@@ -60,4 +61,4 @@ returns-in-Some-clause-found g c = λ s is.
       skips = c.in_ok-found.ensures.skipped;
     } in
     let all = concluded members s bound works found over conclusion in
-    same_finding (IsFindingAgainst (IsMember members) s bound) (finding_of found) c.finding_of.result c.finding_of.ensures (found_against (IsMember members) s bound found all)
+    same_finding (IsFindingAgainst (IsMember members) s bound) (finding_of found) c.unwrap.result (sym c.finding_of.ensures ∙ c.unwrap.ensures) (found_against (IsMember members) s bound found all)

@@ -16,14 +16,14 @@ finish-close-requires-clause-own c =
 pub finish-close-requires-clause-done : goal.finish-close-requires-clause-done
 finish-close-requires-clause-done c = subst (All IsDone) (sym c.in_ok-seats.ensures.seats) (seats_done c.args.board.board c.args.works.items c.requires.over)
 
-pub entry_of-schedule-requires : goal.entry_of-schedule-requires
-entry_of-schedule-requires c =
+pub unwrap-schedule-requires : goal.unwrap-schedule-requires
+unwrap-schedule-requires c =
     let works = c.args.works.items in
     let piece = c.in-Some.piece in
     let same : found_by c.in_ok-seats.field-0.seats.items ≡ found_pieces c.in_ok-seats.field-0.found.items =
     ap found_by c.in_ok-seats.ensures.seats ∙ (sym (founds_pieces c.args.board.board works c.requires.over) ∙ ap found_pieces (sym c.in_ok-seats.ensures.found)) in
     let least : IsLeastPiece (found_by c.in_ok-seats.field-0.seats.items) (Some piece) = rw c.in-Some.is at c.finish-close.ensures.best in
-    subst (λ (x : List ℕ). Contains x piece) same least.0
+    c.entry_of.ensures.some (subst (λ (x : List ℕ). Contains x piece) same least.0)
 
 pub returns-in-Some-clause-conclusion : goal.returns-in-Some-clause-conclusion
 returns-in-Some-clause-conclusion c =
@@ -31,10 +31,10 @@ returns-in-Some-clause-conclusion c =
     let piece = c.in-Some.piece in
     let seats = c.in_ok-seats.field-0.seats.items in
     let seats_are = c.in_ok-seats.ensures.seats in
-    let entry = c.entry_of-schedule.result in
+    let entry = c.unwrap-schedule.result in
     let least : IsLeastPiece (found_by seats) (Some piece) = rw c.in-Some.is at c.finish-close.ensures.best in
-    let has : Contains (founds_of works) entry = subst (λ (x : List FoundPiece). Contains x entry) c.in_ok-seats.ensures.found c.entry_of-schedule.ensures.entry in
-    let named : entry ≡ record { piece = piece; schedule = entry.schedule; why = entry.why } = ap (λ (i : ℕ). record { piece = i; schedule = entry.schedule; why = entry.why }) c.entry_of-schedule.ensures.piece in (
+    let has : Contains (founds_of works) entry = subst (λ (x : List FoundPiece). Contains x entry) c.in_ok-seats.ensures.found (rw c.unwrap-schedule.ensures at c.entry_of.ensures.entry) in
+    let named : entry ≡ record { piece = piece; schedule = entry.schedule; why = entry.why } = ap (λ (i : ℕ). record { piece = i; schedule = entry.schedule; why = entry.why }) (rw c.unwrap-schedule.ensures at c.entry_of.ensures.piece) in (
       subst (λ (x : List Seat). given_by x ≡ []) seats_are (none_given c.finish-close.result.given_up (given_by seats) c.finish-close.ensures.given_up c.if-close.false),
       (
         piece,

@@ -12,6 +12,6 @@ loop-entry-preserved c =
     let more = into_iter_items c.next.new.self in
     let one = c.in-Some.entry in
     let is : rest ≡ one ∷ more = search rules in (
-      has_tail one.piece c.args.piece (found_pieces more) (subst (λ (x : List FoundPiece). Contains (found_pieces x) c.args.piece) is was.0) (search rules),
+      λ has. has_tail one.piece c.args.piece (found_pieces more) (subst (λ (x : List FoundPiece). Contains (found_pieces x) c.args.piece) is (was.0 has)) (search rules),
       λ entry has. was.1 entry (subst (λ (x : List FoundPiece). Contains x entry) (sym is) (has_later one entry more has)),
     )

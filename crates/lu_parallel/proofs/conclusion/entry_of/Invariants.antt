@@ -6,5 +6,5 @@ use Rattle.lu_parallel.proofs.conclusion.entry_of.Given as goal
 
 abbrev pub invariant-loop-entry : goal.invariant-loop-entry
 invariant-loop-entry l =
-    Contains (found_pieces (into_iter_items l.entry-iterator)) l.piece
+    (Contains (found_pieces l.fn.found.items) l.piece → Contains (found_pieces (into_iter_items l.entry-iterator)) l.piece)
     × ((entry : FoundPiece) → Contains (into_iter_items l.entry-iterator) entry → Contains l.fn.found.items entry)

@@ -27,5 +27,6 @@ returns-clause-found g c = λ s is.
     let tree = ap (λ x. g.T.SerialTree.members x) c.in_ok-cache.ensures.tree in
     let here = subst (λ (members : List (List SerialOp)). IsFoundWatched (IsMember members) s bound (Below c.new-whole.result) found) tree (c.in_ok-found.ensures.found s is) in
     let below = subst (λ (u : List Move). IsFoundWatched Set s bound (Below u) found) empty here in
-    let whole = all_below Set s bound found (found_kept Set s bound (Below []) found c.finding_of.result c.finding_of.ensures below) in
-    same_finding (IsFindingAgainst Set s bound) (finding_of found) c.finding_of.result c.finding_of.ensures (found_against Set s bound found whole)
+    let some = sym c.finding_of.ensures ∙ c.unwrap.ensures in
+    let whole = all_below Set s bound found (found_kept Set s bound (Below []) found c.unwrap.result some below) in
+    same_finding (IsFindingAgainst Set s bound) (finding_of found) c.unwrap.result some (found_against Set s bound found whole)

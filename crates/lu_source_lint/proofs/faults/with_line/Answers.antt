@@ -1,5 +1,5 @@
 use Rattle.lu_source_lint.proofs.Telling.{line_set}
 use Rattle.lu_source_lint.proofs.faults.with_line.Goals as goal
 
-pub returns-then-place-len : goal.returns-then-place-len
-returns-then-place-len c = line_set c.args.lines.items c.args.line c.saturating_sub-place.result c.args.text c.saturating_sub-place.ensures
+pub returns-then-index-len : goal.returns-then-index-len
+returns-then-index-len c = line_set c.args.lines.items c.args.line c.saturating_sub-index.result c.args.text c.saturating_sub-index.ensures

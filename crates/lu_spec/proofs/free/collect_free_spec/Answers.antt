@@ -5,8 +5,8 @@ use Rattle.lu_spec.specs.Specs.{AreOf}
 use Rattle.lu_spec.proofs.FreeLines.{all_collected, free_spec, line_collected, line_refused, none_collected}
 use Rattle.lu_spec.proofs.free.collect_free_spec.Goals as goal
 
-pub loop-place-init : goal.loop-place-init
-loop-place-init c =
+pub loop-index-init : goal.loop-index-init
+loop-index-init c =
     let draft = c.in_ok-draft.draft in
     let none = none_collected c.args.matrix.now c.args.text.now draft c.in_ok-draft.ensures.empty c.in_ok-draft.ensures.ends c.in_ok-draft.ensures.asked c.in_ok-draft.ensures.begun in
     rw (c.deref-line-items.ensures.value, c.in_ok-lines.ensures) none
@@ -14,31 +14,31 @@ loop-place-init c =
 pub returns-in_err-draft-2-clause-fault : goal.returns-in_err-draft-2-clause-fault
 returns-in_err-draft-2-clause-fault c =
     let p = err_from_is_err_and c.from_residual-in_err-draft-2.result c.from_residual-in_err-draft-2.ensures.1 in
-    let draft = c.loop-place.draft in
+    let draft = c.loop-index.draft in
     let refused = rw c.deref.ensures.value at c.in_err-draft-2.ensures.fault in
-    rw (p.1, p.2) (line_refused c.args.matrix.now c.args.text.now draft c.deref-line-items.result.now c.loop-place.place c.loop-place.invariant _ _ (search rules) c.in_ok-words.ensures _ refused)
+    rw (p.1, p.2) (line_refused c.args.matrix.now c.args.text.now draft c.deref-line-items.result.now c.loop-index.index c.loop-index.invariant _ _ (search rules) c.in_ok-words.ensures _ refused)
 
-pub loop-place-preserved : goal.loop-place-preserved
-loop-place-preserved c =
-    let draft = c.loop-place.draft in
+pub loop-index-preserved : goal.loop-index-preserved
+loop-index-preserved c =
+    let draft = c.loop-index.draft in
     let next = rw c.deref.ensures.value at c.in_ok-draft-2.ensures.next in
     let begun = rw c.deref.ensures.value at c.in_ok-draft-2.ensures.begun in
-    line_collected c.args.matrix.now c.args.text.now draft c.deref-line-items.result.now c.loop-place.place c.loop-place.invariant _ _ (search rules) c.in_ok-words.ensures c.in_ok-draft-2.draft begun next
+    line_collected c.args.matrix.now c.args.text.now draft c.deref-line-items.result.now c.loop-index.index c.loop-index.invariant _ _ (search rules) c.in_ok-words.ensures c.in_ok-draft-2.draft begun next
 
 pub of_closed-requires : goal.of_closed-requires
 of_closed-requires c =
-    let draft = c.loop-place.draft in
-    (free_spec c.args.matrix.now c.args.text.now draft (c.loop-place.place + 1) _ c.loop-place.invariant).0
+    let draft = c.loop-index.draft in
+    (free_spec c.args.matrix.now c.args.text.now draft (c.loop-index.index + 1) _ c.loop-index.invariant).0
 
 pub returns-clause-read : goal.returns-clause-read
 returns-clause-read c =
-    let draft = c.loop-place.draft in
-    let past : length c.deref-line-items.result.now ≤ c.loop-place.place = search rules in
+    let draft = c.loop-index.draft in
+    let past : length c.deref-line-items.result.now ≤ c.loop-index.index = search rules in
     subst (IsListedFreely c.args.matrix.now c.args.text.now) (sym c.of_closed.ensures)
-    (all_collected c.args.matrix.now c.args.text.now draft c.deref-line-items.result.now c.loop-place.place c.loop-place.invariant past)
+    (all_collected c.args.matrix.now c.args.text.now draft c.deref-line-items.result.now c.loop-index.index c.loop-index.invariant past)
 
 pub returns-clause-of : goal.returns-clause-of
 returns-clause-of c =
-    let draft = c.loop-place.draft in
+    let draft = c.loop-index.draft in
     subst (AreOf c.args.matrix.now) (sym c.of_closed.ensures)
-    (free_spec c.args.matrix.now c.args.text.now draft (c.loop-place.place + 1) _ c.loop-place.invariant).1
+    (free_spec c.args.matrix.now c.args.text.now draft (c.loop-index.index + 1) _ c.loop-index.invariant).1

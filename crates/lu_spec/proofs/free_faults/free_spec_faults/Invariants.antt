@@ -3,5 +3,5 @@ use Rattle.lu_text.specs.Lines.{texts}
 use Rattle.lu_spec.proofs.FreeFaultLines.{AreToldTo}
 use Rattle.lu_spec.proofs.free_faults.free_spec_faults.Given as goal
 
-abbrev pub invariant-loop-place : goal.invariant-loop-place
-invariant-loop-place l = AreToldTo l.matrix l.text l.draft l.faults.items (l.place + 1) (drop l.place (texts l.line-items))
+abbrev pub invariant-loop-index : goal.invariant-loop-index
+invariant-loop-index l = AreToldTo l.matrix l.text l.draft l.faults.items (l.index + 1) (drop l.index (texts l.line-items))

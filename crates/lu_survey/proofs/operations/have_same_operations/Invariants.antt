@@ -3,5 +3,5 @@ use Rattle.std.specs.List.{AllZip}
 use Rattle.lu_survey.specs.Comparing.{IsAlike}
 use Rattle.lu_survey.proofs.operations.have_same_operations.Given as goal
 
-abbrev pub invariant-loop-place : goal.invariant-loop-place
-invariant-loop-place l = AllZip IsAlike (take l.place l.ops) (take l.place l.others)
+abbrev pub invariant-loop-number : goal.invariant-loop-number
+invariant-loop-number l = AllZip IsAlike (take l.number l.ops) (take l.number l.others)

@@ -1,6 +1,6 @@
 use Rattle.std.proofs.Common.{sym, ◌∙◌, subst}
 use Rattle.lu_report.specs.declared.report.Finding.TheVariants.{Pass}
-use Rattle.lu_certify.specs.Places.{IsStanding}
+use Rattle.lu_certify.specs.Cuts.{IsStanding}
 use Rattle.lu_certify.proofs.Livelocks.{finds_as, none_in_full_pass, none_in_serial_cut, proved_none}
 use Rattle.lu_certify.proofs.judged.Standing.asks_for_lost.Goals as goal
 

@@ -10,8 +10,8 @@ use Rattle.lu_graph.proofs.row_table.RowTable.insert.Goals as goal
 pub invariant_of-self-then-added : goal.invariant_of-self-then-added
 invariant_of-self-then-added c =
     (inserted_new (rows_in c.self.inside.tables) (rows_in c.put.new.tables) c.self.inside.order.items c.args.row c.table_of-number.result c.self.invariant c.in_ok-added.ensures.put c.table_of-number.ensures.value c.table_of-number.ensures.small c.in_ok-added.added c.in_ok-added.ensures.added
-    c.in_ok-place.place c.push_reserved.new.self.items c.if-added.true c.in_ok-place.ensures.table c.in_ok-place.ensures.index
-    (c.push_reserved.ensures.items ∙ ap (λ o. o ++ c.in_ok-place.place ∷ []) c.reserve.ensures.items)).0
+    c.in_ok-at.at c.push_reserved.new.self.items c.if-added.true c.in_ok-at.ensures.table c.in_ok-at.ensures.index
+    (c.push_reserved.ensures.items ∙ ap (λ o. o ++ c.in_ok-at.at ∷ []) c.reserve.ensures.items)).0
 
 pub invariant_of-self-else-added : goal.invariant_of-self-else-added
 invariant_of-self-else-added c =
@@ -26,8 +26,8 @@ returns-then-added-clause-added c =
 pub returns-then-added-clause-keys : goal.returns-then-added-clause-keys
 returns-then-added-clause-keys c =
     (inserted_new (rows_in c.self.inside.tables) (rows_in c.put.new.tables) c.self.inside.order.items c.args.row c.table_of-number.result c.self.invariant c.in_ok-added.ensures.put c.table_of-number.ensures.value c.table_of-number.ensures.small c.in_ok-added.added c.in_ok-added.ensures.added
-    c.in_ok-place.place c.push_reserved.new.self.items c.if-added.true c.in_ok-place.ensures.table c.in_ok-place.ensures.index
-    (c.push_reserved.ensures.items ∙ ap (λ o. o ++ c.in_ok-place.place ∷ []) c.reserve.ensures.items)).1
+    c.in_ok-at.at c.push_reserved.new.self.items c.if-added.true c.in_ok-at.ensures.table c.in_ok-at.ensures.index
+    (c.push_reserved.ensures.items ∙ ap (λ o. o ++ c.in_ok-at.at ∷ []) c.reserve.ensures.items)).1
     ∙ ap (λ (rows : AllRows). insert_key row_eq rows.keys c.args.row) c.self.view_is
 
 pub returns-else-added-clause-added : goal.returns-else-added-clause-added

@@ -19,7 +19,7 @@ module _ (h now : List Event) (called returned : List ℕ) (kept : List Outcome)
       rw (more, call, e1, e2) (kept_return h called returned kept before are t k o (omega (arith, f.0)) (omega (arith, f.0, f.1)) f)
 
 pub invariant_of-self-in-Call : goal.invariant_of-self-in-Call
-invariant_of-self-in-Call c = call_kept c.self.inside.events.items _ c.self.inside.called c.self.inside.returned c.self.inside.outcomes c.self.inside.before c.self.invariant c.args.event c.in-Call.t c.in-Call.k _ _ c.in-Call.is (search rules) (subst (λ h. Fits h c.args.event) (sym c.self.view_is) c.requires) (search rules) (search rules) c.place.ensures c.from.ensures
+invariant_of-self-in-Call c = call_kept c.self.inside.events.items _ c.self.inside.called c.self.inside.returned c.self.inside.outcomes c.self.inside.before c.self.invariant c.args.event c.in-Call.t c.in-Call.k _ _ c.in-Call.is (search rules) (subst (λ h. Fits h c.args.event) (sym c.self.view_is) c.requires) (search rules) (search rules) c.row.ensures c.from.ensures
 
 pub invariant_of-self-in-Return : goal.invariant_of-self-in-Return
-invariant_of-self-in-Return c = return_kept c.self.inside.events.items _ c.self.inside.called c.self.inside.returned c.self.inside.outcomes c.self.inside.before c.self.invariant c.args.event c.in-Return.t c.in-Return.k _ _ c.in-Return.outcome c.in-Return.is (search rules) (subst (λ h. Fits h c.args.event) (sym c.self.view_is) c.requires) (search rules) (search rules) c.place-in-Return.ensures c.from-in-Return.ensures
+invariant_of-self-in-Return c = return_kept c.self.inside.events.items _ c.self.inside.called c.self.inside.returned c.self.inside.outcomes c.self.inside.before c.self.invariant c.args.event c.in-Return.t c.in-Return.k _ _ c.in-Return.outcome c.in-Return.is (search rules) (subst (λ h. Fits h c.args.event) (sym c.self.view_is) c.requires) (search rules) (search rules) c.row-in-Return.ensures c.from-in-Return.ensures

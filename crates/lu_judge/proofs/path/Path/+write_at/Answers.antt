@@ -8,25 +8,25 @@ pub write_at-requires : goal.write_at-requires
 write_at-requires t c =
     let bs = c.args.self.now.beginnings.items in
     let b = c.index-beginning.result.now in
-    let ne : c.args.place ≢ 0 = search rules in
-    let at = found_at bs c.args.place b c.requires.place c.index-beginning.ensures in
-    let lt : b.shorter < c.args.place = shorter_lower bs c.requires.path.back c.args.place b ne at in
-    let one : length (history_at bs c.args.place) ≡ length (history_at bs b.shorter) + 1 = ap length (shorter_history bs c.requires.path.back c.args.place b ne at) ∙ length_push (history_at bs b.shorter) b.event in
-    (search (rules, lt), (c.requires.path, (omega (arith, lt, c.requires.place), omega (arith, one, c.requires.few))))
+    let ne : c.args.number ≢ 0 = search rules in
+    let at = found_at bs c.args.number b c.requires.number c.index-beginning.ensures in
+    let lt : b.shorter < c.args.number = shorter_lower bs c.requires.path.back c.args.number b ne at in
+    let one : length (history_at bs c.args.number) ≡ length (history_at bs b.shorter) + 1 = ap length (shorter_history bs c.requires.path.back c.args.number b ne at) ∙ length_push (history_at bs b.shorter) b.event in
+    (search (rules, lt), (c.requires.path, (omega (arith, lt, c.requires.number), omega (arith, one, c.requires.few))))
 
 pub push-requires : goal.push-requires
 push-requires t c =
     let bs = c.args.self.now.beginnings.items in
     let b = c.index-beginning.result.now in
-    let ne : c.args.place ≢ 0 = search rules in
-    let at = found_at bs c.args.place b c.requires.place c.index-beginning.ensures in
-    let one : length (history_at bs c.args.place) ≡ length (history_at bs b.shorter) + 1 = ap length (shorter_history bs c.requires.path.back c.args.place b ne at) ∙ length_push (history_at bs b.shorter) b.event in
+    let ne : c.args.number ≢ 0 = search rules in
+    let at = found_at bs c.args.number b c.requires.number c.index-beginning.ensures in
+    let one : length (history_at bs c.args.number) ≡ length (history_at bs b.shorter) + 1 = ap length (shorter_history bs c.requires.path.back c.args.number b ne at) ∙ length_push (history_at bs b.shorter) b.event in
     omega (arith, one, c.requires.few, ap length c.write_at.ensures)
 
 pub returns : goal.returns
 returns t c =
     let bs = c.args.self.now.beginnings.items in
     let b = c.index-beginning.result.now in
-    let ne : c.args.place ≢ 0 = search rules in
-    let at = found_at bs c.args.place b c.requires.place c.index-beginning.ensures in
-    search (rules, shorter_history bs c.requires.path.back c.args.place b ne at)
+    let ne : c.args.number ≢ 0 = search rules in
+    let at = found_at bs c.args.number b c.requires.number c.index-beginning.ensures in
+    search (rules, shorter_history bs c.requires.path.back c.args.number b ne at)

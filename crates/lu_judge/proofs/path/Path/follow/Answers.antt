@@ -16,13 +16,13 @@ returns-clause-path c =
     record {
       room = is.room;
       few = is.few;
-      place = after_within bs p.place c.find-found.result (c.args.event, at);
+      number = after_within bs p.number c.find-found.result (c.args.event, at);
       back = is.back;
       links = is.links;
-      well_formed = subst IsWellFormed (sym (read_longer (lines bs) is.back c.find-found.result p.place c.args.event ne at)) (push_history (history_of p) c.args.event is.well_formed c.requires.fits);
+      well_formed = subst IsWellFormed (sym (read_longer (lines bs) is.back c.find-found.result p.number c.args.event ne at)) (push_history (history_of p) c.args.event is.well_formed c.requires.fits);
     }
 
 pub returns-clause-history : goal.returns-clause-history
 returns-clause-history c = λ _.
     let ne : c.find-found.result ≢ 0 = search rules in
-    read_longer (lines c.args.self.now.beginnings.items) c.requires.path.back c.find-found.result c.args.self.now.place c.args.event ne (c.find-found.ensures ne)
+    read_longer (lines c.args.self.now.beginnings.items) c.requires.path.back c.find-found.result c.args.self.now.number c.args.event ne (c.find-found.ensures ne)

@@ -12,25 +12,25 @@ returns-clause-path c =
     let bs = p.beginnings.items in
     let b = c.index_mut.result.now in
     let marked : Beginning = record { event = b.event; shorter = b.shorter; next = b.next; longer = b.longer; good = true } in
-    let at = found_at bs p.place b c.requires.place c.index_mut.ensures.value in
-    let own = c.requires.links p.place b at in
+    let at = found_at bs p.number b c.requires.number c.index_mut.ensures.value in
+    let own = c.requires.links p.number b at in
     record {
       room = c.requires.room;
-      few = omega (arith, c.requires.few, length-set bs p.place marked);
-      place = omega (arith, c.requires.place, length-set bs p.place marked);
-      back = set_back bs p.place b marked at refl refl c.requires.back;
-      links = set_links bs p.place b marked at refl refl c.requires.links record { lower = own.lower; beside = own.beside; above = own.above };
-      well_formed = subst IsWellFormed (sym (set_history bs p.place b marked at refl refl p.place)) c.requires.well_formed;
+      few = omega (arith, c.requires.few, length-set bs p.number marked);
+      number = omega (arith, c.requires.number, length-set bs p.number marked);
+      back = set_back bs p.number b marked at refl refl c.requires.back;
+      links = set_links bs p.number b marked at refl refl c.requires.links record { lower = own.lower; beside = own.beside; above = own.above };
+      well_formed = subst IsWellFormed (sym (set_history bs p.number b marked at refl refl p.number)) c.requires.well_formed;
     }
 
 pub returns-clause-history : goal.returns-clause-history
 returns-clause-history c =
     let p = c.args.self.now in
     let b = c.index_mut.result.now in
-    set_history p.beginnings.items p.place b (record { event = b.event; shorter = b.shorter; next = b.next; longer = b.longer; good = true }) (found_at p.beginnings.items p.place b c.requires.place c.index_mut.ensures.value) refl refl p.place
+    set_history p.beginnings.items p.number b (record { event = b.event; shorter = b.shorter; next = b.next; longer = b.longer; good = true }) (found_at p.beginnings.items p.number b c.requires.number c.index_mut.ensures.value) refl refl p.number
 
 pub returns-clause-good : goal.returns-clause-good
 returns-clause-good c = λ members right good.
     let p = c.args.self.now in
     let b = c.index_mut.result.now in
-    set_right p.beginnings.items p.place b (record { event = b.event; shorter = b.shorter; next = b.next; longer = b.longer; good = true }) (found_at p.beginnings.items p.place b c.requires.place c.index_mut.ensures.value) refl refl members right (λ _. good)
+    set_right p.beginnings.items p.number b (record { event = b.event; shorter = b.shorter; next = b.next; longer = b.longer; good = true }) (found_at p.beginnings.items p.number b c.requires.number c.index_mut.ensures.value) refl refl members right (λ _. good)

@@ -1,0 +1,163 @@
+-- The cuts of a matrix, by their numbers from 0 in the lexicographic order of their lengths; what
+-- is found of one cut, and what is known after some.
+use Rattle.std.specs.Prelude.{◌≡◌, ◌<◌, ◌≤◌, ℕ, ◌+◌, Bool, true, false, IfOk, Result, List, length, map, Option, Some, None}
+use Rattle.lu_choices.specs.Choices.{choice_count, number_in}
+use Rattle.lu_component.specs.Component.{Component}
+use Rattle.lu_test.specs.declared.schedule.Move.{Move}
+use Rattle.lu_test.specs.Matrix.{Matrix, cut}
+use Rattle.lu_machine.specs.Starts.{FromEachStart, Settles}
+use Rattle.lu_serial.specs.Offences.{NoOffence}
+use Rattle.lu_graph.specs.Hopeless.{IsFirstLostIfAny}
+use Rattle.lu_graph.specs.declared.ending.Ending.{Ending}
+use Rattle.lu_graph.specs.declared.ending.Ending.TheVariants.{Badly, TooMany, Well}
+use Rattle.lu_report.specs.Limits.{most_moves}
+use Rattle.lu_replay.specs.Reports.{IsReport}
+use Rattle.lu_refute.specs.Linearizable.{AreLengths}
+use Rattle.lu_certify.specs.declared.certificate.Certificate.{Certificate}
+use Rattle.lu_certify.specs.declared.certificate.Certificate.TheVariants.{Linearizable, Livelock, NotLinearizable, Undecided}
+use Rattle.lu_certify.specs.declared.limits.Limits.{Limits}
+use Rattle.lu_certify.specs.declared.so_far.SoFar.{SoFar}
+use Rattle.lu_certify.specs.declared.so_far.SoFar.TheVariants.{Clear, Lost, Unclear}
+use Rattle.lu_certify.specs.declared.judged.Judged.{Judged}
+use Rattle.lu_certify.specs.declared.judged.Judged.TheVariants.{Failing, Stands}
+use Rattle.lu_certify.specs.declared.judged.Standing.{Standing}
+use Rattle.lu_certify.specs.declared.judged.Standing.TheVariants.{FullPass, Open, Proved}
+use Rattle.lu_certify.specs.declared.told.Told.{Told}
+use Rattle.lu_certify.specs.declared.told.Told.TheVariants.{AllGood, BadAfter, Nothing}
+use Rattle.lu_certify.specs.Certificates.{AreBeginnings, Fails, FailsAfter, HasNoLivelock, HasReport, IsClear, IsFailingReport, IsFullPass, IsLivelock, IsProved}
+
+-- how many lengths a cut can have of each thread: 0 to all of its calls
+abbrev pub length_counts : Matrix → List ℕ
+length_counts matrix = map (λ calls. length calls + 1) matrix.threads
+
+-- how many cuts there are
+abbrev pub cut_count : Matrix → ℕ
+cut_count matrix = choice_count (length_counts matrix)
+
+-- the number of the cut of these lengths, from 0: how many cuts come before it
+abbrev pub cut_number : Matrix → List ℕ → ℕ
+cut_number matrix lengths = number_in (length_counts matrix) lengths
+
+-- the cut with this number
+pub record IsCutAt (matrix : Matrix) (number : ℕ) (smaller : Matrix) : Type 0 where
+  pub lengths : List ℕ
+  pub are : AreLengths matrix lengths
+  pub is_at : cut_number matrix lengths ≡ number
+  pub is : smaller ≡ cut matrix lengths
+
+-- ---- one cut
+
+-- neither is it proved clear, nor does it fail after the bound
+pub record IsLeftOpen (c : Component) (limits : Limits) (matrix : Matrix) : Type 0 where
+  pub unproved : IsProved c matrix limits → ⊥
+  pub unfailing : (moves : ℕ) → FailsAfter c limits matrix moves → ⊥
+
+-- what its nodes tell
+abbrev pub IsTold : Component → Limits → Matrix → Told → Type 0
+IsTold c limits matrix AllGood = IsProved c matrix limits
+IsTold c limits matrix (BadAfter moves) = FailsAfter c limits matrix moves
+IsTold c limits matrix Nothing = IsLeftOpen c limits matrix
+
+-- how it stands, where it does not fail
+abbrev pub IsStanding : Component → Limits → Matrix → Standing → Type 0
+IsStanding c limits matrix FullPass = HasReport IsFullPass c limits.bound limits.serial matrix
+IsStanding c limits matrix Proved = IsProved c matrix limits
+IsStanding c limits matrix (Open r) =
+    IsReport c matrix limits.bound limits.serial r × (IsClear c limits matrix → ⊥)
+    × (Fails c limits matrix → ⊥)
+
+-- the report that shows that it fails, or how it stands
+abbrev pub IsJudged : Component → Limits → Matrix → Judged → Type 0
+IsJudged c limits matrix (Failing r) = IsFailingReport c limits matrix r
+IsJudged c limits matrix (Stands standing) = IsStanding c limits matrix standing
+
+-- what its nodes tell, or none where they tell nothing; where that is not tried, none
+abbrev pub IsJudgedFirst : Bool → Component → Limits → Matrix → Option Judged → Type 0
+IsJudgedFirst tried c limits matrix (Some judged) = IsJudged c limits matrix judged
+IsJudgedFirst tried c limits matrix None = tried ≡ true → IsLeftOpen c limits matrix
+
+-- its livelock, or none where there is none
+abbrev pub IsLivelockIfAny : Component → Limits → Matrix → Option (List Move) → Type 0
+IsLivelockIfAny c limits matrix None = HasNoLivelock c limits matrix
+IsLivelockIfAny c limits matrix (Some u) = IsLivelock c limits matrix u
+
+-- its first schedule that leads to a state from which none ends, or none where there is none
+abbrev pub IsFirstLostOf : Component → Limits → Matrix → Option (List Move) → Type 0
+IsFirstLostOf c limits matrix lost =
+    FromEachStart c matrix (λ s. IsFirstLostIfAny limits.nodes s lost)
+
+-- ---- the cuts so far
+
+abbrev pub IsLost : SoFar → Type 0
+IsLost Clear = ⊥
+IsLost (Unclear smaller r) = ⊥
+IsLost (Lost smaller u) = Unit {0}
+
+-- After one cut more, with this livelock or none, and how it stands: the first livelock stays, and
+-- else the first that is not clear.
+abbrev pub so_far_after : SoFar → Matrix → Option (List Move) → Standing → SoFar
+so_far_after (Lost smaller u) matrix livelock standing = Lost smaller u
+so_far_after (Unclear smaller q) matrix None standing = Unclear smaller q
+so_far_after (Unclear smaller q) matrix (Some u) standing = Lost matrix u
+so_far_after Clear matrix None FullPass = Clear
+so_far_after Clear matrix None Proved = Clear
+so_far_after Clear matrix None (Open r) = Unclear matrix r
+so_far_after Clear matrix (Some u) standing = Lost matrix u
+
+-- `new` is known after this cut, where `old` was before it
+abbrev pub IsNext : Component → Limits → SoFar → Matrix → SoFar → Type 0
+IsNext c limits (Lost smaller u) matrix new = new ≡ Lost smaller u
+IsNext c limits (Unclear smaller r) matrix Clear = ⊥
+IsNext c limits (Unclear smaller r) matrix (Unclear other q) =
+    (Unclear other q ≡ Unclear smaller r) × HasNoLivelock c limits matrix
+IsNext c limits (Unclear smaller r) matrix (Lost other u) =
+    (other ≡ matrix) × IsLivelock c limits matrix u
+IsNext c limits Clear matrix Clear = HasNoLivelock c limits matrix × IsClear c limits matrix
+IsNext c limits Clear matrix (Unclear other r) =
+    (other ≡ matrix) × HasNoLivelock c limits matrix
+    × IsReport c matrix limits.bound limits.serial r
+    × (IsClear c limits matrix → ⊥)
+IsNext c limits Clear matrix (Lost other u) = (other ≡ matrix) × IsLivelock c limits matrix u
+
+-- ---- what the steps of a round answer
+
+-- no serial run offends
+abbrev pub IsWithoutOffence : Component → Matrix → ℕ → Type 0
+IsWithoutOffence c matrix serial = FromEachStart c matrix (λ s. NoOffence s serial)
+
+-- how schedules end, searched up to the bound, tells so much
+abbrev pub IsToldBy : ℕ → Ending → Told → Type 0
+IsToldBy bound Well told = told ≡ AllGood
+IsToldBy bound (Badly moves) AllGood = ⊥
+IsToldBy bound (Badly moves) (BadAfter n) =
+    (n ≡ moves) × (bound < moves) × (moves ≤ most_moves)
+IsToldBy bound (Badly moves) Nothing = bound < moves → most_moves < moves
+IsToldBy bound TooMany told = told ≡ Nothing
+
+-- a cut that stands so has no serial run that offends; or, where it asks for none, no livelock
+abbrev pub AsksForLost : Standing → Bool → Type 0
+AsksForLost standing true =
+    (c : Component) (limits : Limits) (matrix : Matrix) → Settles c matrix
+    → IsStanding c limits matrix standing → IsWithoutOffence c matrix limits.serial
+AsksForLost standing false =
+    (c : Component) (limits : Limits) (matrix : Matrix) → Settles c matrix
+    → IsStanding c limits matrix standing → HasNoLivelock c limits matrix
+
+-- the cut that stands so has this livelock, or none
+abbrev pub SeeksLivelock : {E : Type 0} → Component → Limits → Matrix → Standing
+    → Result (Option (List Move)) E → Type 0
+SeeksLivelock c limits matrix standing result =
+    IsStanding c limits matrix standing → IfOk result (IsLivelockIfAny c limits matrix)
+
+-- ---- at the end
+
+-- Where no cut fails: the first livelock is shown, or the first that is not clear; where there is
+-- neither, the beginnings of the serial histories are the set.
+abbrev pub IsConcluded : Component → Matrix → SoFar → Certificate → Type 0
+IsConcluded c matrix (Lost smaller u) certificate = certificate ≡ Livelock smaller u
+IsConcluded c matrix (Unclear smaller r) certificate = certificate ≡ Undecided smaller r
+IsConcluded c matrix Clear (Linearizable members) =
+    FromEachStart c matrix (λ s. AreBeginnings s members)
+IsConcluded c matrix Clear (NotLinearizable smaller r) = ⊥
+IsConcluded c matrix Clear (Livelock smaller u) = ⊥
+IsConcluded c matrix Clear (Undecided smaller r) = ⊥

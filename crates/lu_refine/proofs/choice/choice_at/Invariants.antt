@@ -1,5 +1,0 @@
-use Rattle.lu_refine.proofs.Numbered.{IsPart}
-use Rattle.lu_refine.proofs.choice.choice_at.Given as goal
-
-abbrev pub invariant-loop-base : goal.invariant-loop-base
-invariant-loop-base l = IsPart l.bases l.base-index l.round l.rest l.place l.choice.items

@@ -1,5 +1,0 @@
-use Rattle.lu_refine.proofs.Numbered.{IsCounted}
-use Rattle.lu_refine.proofs.choice.count_choices.Given as goal
-
-abbrev pub invariant-loop-base : goal.invariant-loop-base
-invariant-loop-base l = IsCounted l.bases l.base-index l.count
