@@ -30,17 +30,17 @@ static void show(size_t count) {
 
 int main(void) {
     const size_t length = fread(bundle, 1, sizeof bundle - 1, stdin);
-    size_t told, count;
+    size_t report_length, count;
     const uint8_t status = lineup_answer((const uint8_t *)"check", 5, bundle, length, LINEUP_MOST_STACK, report, sizeof report,
-                                         &told);
-    fwrite(report, 1, told < sizeof report ? told : sizeof report, stdout);
-    if (status != 1 || told > sizeof report) return status;
+                                         &report_length);
+    fwrite(report, 1, report_length < sizeof report ? report_length : sizeof report, stdout);
+    if (status != 1 || report_length > sizeof report) return status;
 
     bundle[length] = 0;
     const char *cut = strstr((const char *)bundle, "\n---\n");
     const size_t component = cut - (const char *)bundle + 1, matrix = component + 4;
     for (size_t moves = 0;; moves++) {
-        if (lineup_state(bundle, component, bundle + matrix, length - matrix, report, told, moves,
+        if (lineup_state(bundle, component, bundle + matrix, length - matrix, report, report_length, moves,
                          now, LINEUP_MOST_NUMBERS, &count)) return 2;
         show(count);
         if (moves == now[2]) return status;

@@ -119,10 +119,10 @@ class Case:
 
     def ask(self, words: str, *parts: str) -> Answer:
         """What `lineup WORDS` answers to this component and matrix and further parts."""
-        told = answer(words, "---\n".join([self.component, self.matrix, *parts]))
-        if told.status in (2, 4):
-            raise Refused(told.text.strip())
-        return told
+        answered = answer(words, "---\n".join([self.component, self.matrix, *parts]))
+        if answered.status in (2, 4):
+            raise Refused(answered.text.strip())
+        return answered
 
     def check(self, bound: int = 40, serial: int = 40) -> Answer:
         return self.ask(f"check --bound {bound} --serial {serial}")

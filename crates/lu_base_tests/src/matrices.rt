@@ -29,7 +29,7 @@ fn is_of(rt: &impl AllocGlobal, text: &[u8]) -> Result<bool, Fail> {
 }
 
 #[test]
-fn a_matrix_of_another_component_is_told(rt: HostRuntime) -> Result<(), Fail> {
+fn a_matrix_of_another_component_is_noticed(rt: HostRuntime) -> Result<(), Fail> {
     assert!(rt; is_of(&rt, COMPONENT)?);
     assert!(rt; !is_of(&rt, b"component d\nop f 0\nreturn 0\nend\n")?);
     Ok(())

@@ -97,7 +97,7 @@ fn assert_five(rt: &impl Abort) {
 }
 
 #[test]
-fn so_many_words(rt: HostRuntime) {
+fn words_are_counted(rt: HostRuntime) {
     assert!(rt; exactly_one(&[WORD]) == Some(WORD));
     assert!(rt; exactly_two(&[WORD, WORD]) == Some((WORD, WORD)));
     assert_four(&rt);

@@ -51,7 +51,7 @@ pub struct Seat {
     /// The number of pieces of the board.
     pieces: u64,
 
-    /// Whether the worker was told that no piece is left.
+    /// Whether the worker was answered that no piece is left.
     spent: bool,
 
     /// Whether the worker gave a piece up.
@@ -147,7 +147,7 @@ impl Board {
     }
 
     /// Claims the next piece, which the seat then holds and no seat had before. Where none is left,
-    /// `None` is returned and the seat is spent. A spent seat takes no step and is told None again.
+    /// `None` is returned and the seat is spent. A spent seat takes no step and is answered None again.
     ///
     /// The step is one atomic `fetch_add` on one word. It waits for nobody and takes no memory.
     pub fn claim(&self, seat: &mut Seat) -> Option<u64>

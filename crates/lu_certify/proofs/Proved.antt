@@ -16,19 +16,19 @@ use Rattle.lu_graph.specs.declared.ending.Ending.TheVariants.{Badly, TooMany, We
 use Rattle.lu_graph.specs.Nodes.{EndsWellOnFewNodes, HasFewNodes, IsEnding, IsShortestBad}
 use Rattle.lu_graph.proofs.OtherSet.{few_too, shortest_too, well_too}
 use Rattle.lu_certify.specs.declared.limits.Limits.{Limits}
-use Rattle.lu_certify.specs.declared.told.Told.{Told}
-use Rattle.lu_certify.specs.declared.told.Told.TheVariants.{AllGood, BadAfter, Nothing}
+use Rattle.lu_certify.specs.declared.by_nodes.ByNodes.{ByNodes}
+use Rattle.lu_certify.specs.declared.by_nodes.ByNodes.TheVariants.{AllGood, BadAfter, Nothing}
 use Rattle.lu_certify.specs.Certificates.{FailsAfter, IsProved}
-use Rattle.lu_certify.specs.Cuts.{IsLeftOpen, IsTold, IsToldBy}
+use Rattle.lu_certify.specs.Cuts.{IsLeftOpen, IsShownByNodes, IsByNodesOf}
 use Rattle.lu_certify.proofs.Behind.{one_length}
 use Rattle.lu_certify.proofs.Linear.{never_bad}
 
--- ---- what is told
+-- ---- what the nodes show
 
 module _ (c : Component) (matrix : Matrix) (limits : Limits) (settles : Settles c matrix) where
   -- where a serial run offends, nothing is
-  pub none_told : ((s : State) → IsStart c matrix s → (v : List Move) × IsOffence s limits.serial v) → IsLeftOpen c limits matrix
-  none_told offends =
+  pub none_shown : ((s : State) → IsStart c matrix s → (v : List Move) × IsOffence s limits.serial v) → IsLeftOpen c limits matrix
+  none_shown offends =
       let there = start_there c matrix settles in
       let offence = offends there.0 there.1 in
       record {
@@ -53,16 +53,16 @@ module _ (c : Component) (matrix : Matrix) (limits : Limits) (settles : Settles 
         let here = set s at in
         shortest_too (IsMember members) (IsSerialHistory s) (λ q y. (here.are q).0 y) (λ q y. (here.are q).1 y) s moves x
 
-    told_well : FromEachStart c matrix (λ s. EndsWellOnFewNodes (IsMember members) s limits.nodes) → IsProved c matrix limits
-    told_well is s at =
+    shown_well : FromEachStart c matrix (λ s. EndsWellOnFewNodes (IsMember members) s limits.nodes) → IsProved c matrix limits
+    shown_well is s at =
         let here = set s at in
         (here.none, (few_at s at (is s at).0, well_too (IsMember members) (IsSerialHistory s) (λ q y. (here.are q).0 y) (λ q y. (here.are q).1 y) s (is s at).1))
 
-    told_badly : (moves : ℕ) → FromEachStart c matrix (λ s. IsEnding (IsMember members) limits.bound limits.nodes s (Badly moves)) → limits.bound < moves → moves ≤ most_moves → FailsAfter c limits matrix moves
-    told_badly moves is more few = (more, few, λ s at. ((set s at).none, few_at s at ((is s at).1 more), shortest_at s at moves (is s at).0))
+    shown_badly : (moves : ℕ) → FromEachStart c matrix (λ s. IsEnding (IsMember members) limits.bound limits.nodes s (Badly moves)) → limits.bound < moves → moves ≤ most_moves → FailsAfter c limits matrix moves
+    shown_badly moves is more few = (more, few, λ s at. ((set s at).none, few_at s at ((is s at).1 more), shortest_at s at moves (is s at).0))
 
-    told_far : (moves : ℕ) → FromEachStart c matrix (λ s. IsEnding (IsMember members) limits.bound limits.nodes s (Badly moves)) → (limits.bound < moves → most_moves < moves) → IsLeftOpen c limits matrix
-    told_far moves is far =
+    shown_far : (moves : ℕ) → FromEachStart c matrix (λ s. IsEnding (IsMember members) limits.bound limits.nodes s (Badly moves)) → (limits.bound < moves → most_moves < moves) → IsLeftOpen c limits matrix
+    shown_far moves is far =
         let there = start_there c matrix settles in
         let s = there.0 in
         let x = shortest_at s there.1 moves (is s there.1).0 in
@@ -76,8 +76,8 @@ module _ (c : Component) (matrix : Matrix) (limits : Limits) (settles : Settles 
               absurd (omega (arith, few, over)));
         }
 
-    told_many : FromEachStart c matrix (λ s. IsEnding (IsMember members) limits.bound limits.nodes s TooMany) → IsLeftOpen c limits matrix
-    told_many is =
+    shown_many : FromEachStart c matrix (λ s. IsEnding (IsMember members) limits.bound limits.nodes s TooMany) → IsLeftOpen c limits matrix
+    shown_many is =
         let there = start_there c matrix settles in
         let many = is there.0 there.1 in
         record {
@@ -85,9 +85,9 @@ module _ (c : Component) (matrix : Matrix) (limits : Limits) (settles : Settles 
           unfailing = λ n behind. many (few_back there.0 there.1 (behind.2 there.0 there.1).1);
         }
 
-    pub told_by : (ending : Ending) (told : Told) → FromEachStart c matrix (λ s. IsEnding (IsMember members) limits.bound limits.nodes s ending) → IsToldBy limits.bound ending told → IsTold c limits matrix told
-    told_by Well told is by = subst (IsTold c limits matrix) (sym by) (told_well is)
-    told_by (Badly moves) AllGood is by = absurd by
-    told_by (Badly moves) (BadAfter n) is by = subst (FailsAfter c limits matrix) (sym by.0) (told_badly moves is by.1 by.2)
-    told_by (Badly moves) Nothing is by = told_far moves is by
-    told_by TooMany told is by = subst (IsTold c limits matrix) (sym by) (told_many is)
+    pub shown_by : (ending : Ending) (shown : ByNodes) → FromEachStart c matrix (λ s. IsEnding (IsMember members) limits.bound limits.nodes s ending) → IsByNodesOf limits.bound ending shown → IsShownByNodes c limits matrix shown
+    shown_by Well shown is by = subst (IsShownByNodes c limits matrix) (sym by) (shown_well is)
+    shown_by (Badly moves) AllGood is by = absurd by
+    shown_by (Badly moves) (BadAfter n) is by = subst (FailsAfter c limits matrix) (sym by.0) (shown_badly moves is by.1 by.2)
+    shown_by (Badly moves) Nothing is by = shown_far moves is by
+    shown_by TooMany shown is by = subst (IsShownByNodes c limits matrix) (sym by) (shown_many is)

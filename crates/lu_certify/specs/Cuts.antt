@@ -22,8 +22,8 @@ use Rattle.lu_certify.specs.declared.judged.Judged.{Judged}
 use Rattle.lu_certify.specs.declared.judged.Judged.TheVariants.{Failing, Stands}
 use Rattle.lu_certify.specs.declared.judged.Standing.{Standing}
 use Rattle.lu_certify.specs.declared.judged.Standing.TheVariants.{FullPass, Open, Proved}
-use Rattle.lu_certify.specs.declared.told.Told.{Told}
-use Rattle.lu_certify.specs.declared.told.Told.TheVariants.{AllGood, BadAfter, Nothing}
+use Rattle.lu_certify.specs.declared.by_nodes.ByNodes.{ByNodes}
+use Rattle.lu_certify.specs.declared.by_nodes.ByNodes.TheVariants.{AllGood, BadAfter, Nothing}
 use Rattle.lu_certify.specs.Certificates.{AreBeginnings, Fails, FailsAfter, HasNoLivelock, HasReport, IsClear, IsFailingReport, IsFullPass, IsLivelock, IsProved}
 
 -- how many lengths a cut can have of each thread: 0 to all of its calls
@@ -52,11 +52,11 @@ pub record IsLeftOpen (c : Component) (limits : Limits) (matrix : Matrix) : Type
   pub unproved : IsProved c matrix limits → ⊥
   pub unfailing : (moves : ℕ) → FailsAfter c limits matrix moves → ⊥
 
--- what its nodes tell
-abbrev pub IsTold : Component → Limits → Matrix → Told → Type 0
-IsTold c limits matrix AllGood = IsProved c matrix limits
-IsTold c limits matrix (BadAfter moves) = FailsAfter c limits matrix moves
-IsTold c limits matrix Nothing = IsLeftOpen c limits matrix
+-- what its nodes show
+abbrev pub IsShownByNodes : Component → Limits → Matrix → ByNodes → Type 0
+IsShownByNodes c limits matrix AllGood = IsProved c matrix limits
+IsShownByNodes c limits matrix (BadAfter moves) = FailsAfter c limits matrix moves
+IsShownByNodes c limits matrix Nothing = IsLeftOpen c limits matrix
 
 -- how it stands, where it does not fail
 abbrev pub IsStanding : Component → Limits → Matrix → Standing → Type 0
@@ -71,7 +71,7 @@ abbrev pub IsJudged : Component → Limits → Matrix → Judged → Type 0
 IsJudged c limits matrix (Failing r) = IsFailingReport c limits matrix r
 IsJudged c limits matrix (Stands standing) = IsStanding c limits matrix standing
 
--- what its nodes tell, or none where they tell nothing; where that is not tried, none
+-- what its nodes show, or none where they show nothing; where that is not tried, none
 abbrev pub IsJudgedFirst : Bool → Component → Limits → Matrix → Option Judged → Type 0
 IsJudgedFirst tried c limits matrix (Some judged) = IsJudged c limits matrix judged
 IsJudgedFirst tried c limits matrix None = tried ≡ true → IsLeftOpen c limits matrix
@@ -125,14 +125,14 @@ IsNext c limits Clear matrix (Lost other u) = (other ≡ matrix) × IsLivelock c
 abbrev pub IsWithoutOffence : Component → Matrix → ℕ → Type 0
 IsWithoutOffence c matrix serial = FromEachStart c matrix (λ s. NoOffence s serial)
 
--- how schedules end, searched up to the bound, tells so much
-abbrev pub IsToldBy : ℕ → Ending → Told → Type 0
-IsToldBy bound Well told = told ≡ AllGood
-IsToldBy bound (Badly moves) AllGood = ⊥
-IsToldBy bound (Badly moves) (BadAfter n) =
+-- how schedules end, searched up to the bound, shows this much
+abbrev pub IsByNodesOf : ℕ → Ending → ByNodes → Type 0
+IsByNodesOf bound Well shown = shown ≡ AllGood
+IsByNodesOf bound (Badly moves) AllGood = ⊥
+IsByNodesOf bound (Badly moves) (BadAfter n) =
     (n ≡ moves) × (bound < moves) × (moves ≤ most_moves)
-IsToldBy bound (Badly moves) Nothing = bound < moves → most_moves < moves
-IsToldBy bound TooMany told = told ≡ Nothing
+IsByNodesOf bound (Badly moves) Nothing = bound < moves → most_moves < moves
+IsByNodesOf bound TooMany shown = shown ≡ Nothing
 
 -- a cut that stands so has no serial run that offends; or, where it asks for none, no livelock
 abbrev pub AsksForLost : Standing → Bool → Type 0

@@ -17,7 +17,7 @@ use crate::limited::LimitedTest;
 use crate::limits::Limits;
 use crate::looked::{Found, Looked};
 use crate::looking::look_further;
-use crate::progress::{Progress, Untold};
+use crate::progress::{Progress, Silent};
 use crate::so_far::SoFar;
 use lu_component::Component;
 use lu_replay::set_or_offence;
@@ -99,7 +99,7 @@ pub(crate) fn certify_knowing<P: Progress>(
 /// each thread makes some of its first calls (Burckhardt, Dern, Musuvathi and Tan, 2010). A cut is
 /// checked, or all its states are gone through, with the serial histories that can still become
 /// witnesses, where these are few: first where threads may spin, and else where the check leaves it
-/// open. They tell too where the shortest schedule that ends badly has more moves than the bound;
+/// open. They show too where the shortest schedule that ends badly has more moves than the bound;
 /// where it has at most 256, the cut fails by the report at that length. Where schedules are cut, a
 /// cut may have a livelock: a state from which no schedule ends. It stops at the first cut that
 /// fails, since that decides more than a livelock. The limits say how long schedules and serial
@@ -127,5 +127,5 @@ pub fn certify(
         matrix,
         limits,
     };
-    certify_knowing(alloc, test, Vec::new(alloc), &Untold)
+    certify_knowing(alloc, test, Vec::new(alloc), &Silent)
 }

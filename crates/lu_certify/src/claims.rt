@@ -137,9 +137,9 @@ impl Claims {
         }
     }
 
-    /// Tells that a cut is done, with this part, for which this many nodes were kept: the last cut
+    /// Reports that a cut is done, with this part, for which this many nodes were kept: the last cut
     /// when both parts of it are.
-    pub(crate) fn tell<P: Progress>(&self, progress: &P, part: Part, nodes: u64) {
+    pub(crate) fn report<P: Progress>(&self, progress: &P, part: Part, nodes: u64) {
         if matches!(part, Part::Both) {
             progress.done(nodes);
             return;

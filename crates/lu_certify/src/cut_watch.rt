@@ -6,7 +6,7 @@ use crate::progress::Progress;
 use lu_graph::Watch;
 use std::sync::atomic::{AtomicU64, Ordering};
 
-/// Counts the nodes of a cut, and tells of each. It never stops.
+/// Counts the nodes of a cut, and reports each. It never stops.
 #[derive(Drop)]
 pub(crate) struct NodeCount<'a, P> {
     progress: &'a P,
@@ -19,9 +19,9 @@ impl<'a, P: Progress> NodeCount<'a, P> {
         NodeCount { progress, nodes: 0 }
     }
 
-    /// Tells that the cut is done, but where that was told when it was judged and no node was kept
-    /// since.
-    pub(crate) fn tell_done(&self, was_judged: bool) {
+    /// Reports that the cut is done, but where that was reported when it was judged and no node was
+    /// kept since.
+    pub(crate) fn report_done(&self, was_judged: bool) {
         if !was_judged || self.nodes > 0 {
             self.progress.done(self.nodes);
         }

@@ -3,11 +3,11 @@
 ghost use Rattle.std.specs.Prelude.{◌≡◌, false, true, IfErr, IfOk, OnOk};
 ghost use Rattle.lu_graph.specs.declared.halted.Halted.TheVariants.{Stopped};
 ghost use Rattle.lu_certify.specs.Limited.{IsReportAtBounds, OfTest};
-ghost use Rattle.lu_certify.specs.Cuts.{IsJudged, IsJudgedFirst, IsLeftOpen, IsTold};
+ghost use Rattle.lu_certify.specs.Cuts.{IsJudged, IsJudgedFirst, IsLeftOpen, IsShownByNodes};
 
+use crate::by_nodes::ByNodes;
 use crate::judged::{Judged, Standing};
 use crate::limited::LimitedTest;
-use crate::told::Told;
 use lu_component::{Component, Instr};
 use lu_graph::{Expanders, Halted, Watch, ends_well_watched};
 use lu_parallel::check_one;
@@ -41,15 +41,15 @@ pub(crate) fn may_spin(component: &Component) -> bool {
     false
 }
 
-/// What the nodes of the cut tell.
-fn tell_by_nodes<W: Watch, E: Expanders>(
+/// What the nodes of the cut show.
+fn search_nodes<W: Watch, E: Expanders>(
     alloc: Global,
     cut: LimitedTest<'_>,
     watch: &mut W,
     expanders: &E,
-) -> Result<Told, Halted>
+) -> Result<ByNodes, Halted>
     requires running { W.is_stopped watch.old ≡ false }
-    ensures told { IfOk result (OfTest IsTold cut.entry) }
+    ensures shown { IfOk result (OfTest IsShownByNodes cut.entry) }
     ensures stopped { IfErr result (λ halted. halted ≡ Stopped → W.is_stopped watch.new ≡ true) }
     ensures running { OnOk result (W.is_stopped watch.new ≡ false) }
 {
@@ -66,15 +66,15 @@ fn tell_by_nodes<W: Watch, E: Expanders>(
                 watch,
                 expanders,
             )?;
-            Ok(Told::by(ending, bound))
+            Ok(ByNodes::of(ending, bound))
         }
-        Learnt::Cut(_) => Ok(Told::Nothing),
-        Learnt::Conflict { .. } => Ok(Told::Nothing),
+        Learnt::Cut(_) => Ok(ByNodes::Nothing),
+        Learnt::Conflict { .. } => Ok(ByNodes::Nothing),
     }
 }
 
 /// What is found of the cut by its nodes, where that is to be tried first; none where it is not, or
-/// where they tell nothing.
+/// where they show nothing.
 pub(crate) fn judge_first<W: Watch, E: Expanders>(
     alloc: Global,
     is_tried: bool,
@@ -90,18 +90,18 @@ pub(crate) fn judge_first<W: Watch, E: Expanders>(
     if !is_tried {
         return Ok(None);
     }
-    match tell_by_nodes(alloc, cut, watch, expanders)? {
-        Told::AllGood => Ok(Some(Judged::Stands(Standing::Proved))),
-        Told::BadAfter(moves) => {
+    match search_nodes(alloc, cut, watch, expanders)? {
+        ByNodes::AllGood => Ok(Some(Judged::Stands(Standing::Proved))),
+        ByNodes::BadAfter(moves) => {
             let serial = cut.limits.serial;
             let report = check_one(alloc, alloc, cut.component, cut.matrix, moves, serial)?;
             Ok(Some(Judged::Failing(report)))
         }
-        Told::Nothing => Ok(None),
+        ByNodes::Nothing => Ok(None),
     }
 }
 
-/// What is found of the cut that has this report at the bounds. Asks that its nodes tell nothing,
+/// What is found of the cut that has this report at the bounds. Asks that its nodes show nothing,
 /// where that was tried.
 pub(crate) fn judge_checked<W: Watch, E: Expanders>(
     alloc: Global,

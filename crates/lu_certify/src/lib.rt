@@ -12,9 +12,10 @@
 //! ```
 //!
 //! [`certify`] does all on the calling thread. [`certify_by_workers`] has as many workers as its
-//! options say. [`certify_with_progress`] tells meanwhile how far it has come.
+//! options say. [`certify_with_progress`] reports meanwhile how far it has come.
 #![tactic(auto)]
 
+mod by_nodes;
 mod certificate;
 mod certifying;
 mod claims;
@@ -32,12 +33,11 @@ mod looking;
 mod progress;
 mod sharing;
 mod so_far;
-mod told;
 mod workers;
 
 pub use certificate::Certificate;
 pub use certifying::certify;
 pub use limits::Limits;
 pub use lu_graph::DEFAULT_NODES;
-pub use progress::{Progress, Untold};
+pub use progress::{Progress, Silent};
 pub use workers::{certify_by_workers, certify_with_progress};

@@ -130,7 +130,7 @@ pub(crate) fn look_further<P: Progress>(
         &mut count,
         &Alone,
     );
-    count.tell_done(was_judged);
+    count.report_done(was_judged);
     unhalted(result)
 }
 
@@ -147,7 +147,7 @@ pub(crate) fn look_after_check<P: Progress>(
 {
     let mut count = NodeCount::new(progress);
     let result = look_checked(alloc, cut, report, is_sought, &mut count, &Alone);
-    count.tell_done(false);
+    count.report_done(false);
     unhalted(result)
 }
 
@@ -254,7 +254,7 @@ pub(crate) fn look_at_cuts<P: Progress, E: Expanders>(
         };
         let mut watch = CutWatch::new(progress, &claims.last_wanted, task.position());
         let result = find_at(alloc, test, task, &mut watch, expanders);
-        claims.tell(progress, task.part, watch.nodes());
+        claims.report(progress, task.part, watch.nodes());
         match result {
             Ok(found) => {
                 let number = task.number;

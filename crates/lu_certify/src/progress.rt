@@ -1,6 +1,6 @@
 //! How far a certificate has come.
 
-/// Is told how far a certificate has come, by whichever thread gets on with it.
+/// Is shown how far a certificate has come, by whichever thread gets on with it.
 pub trait Progress: Sync {
     /// There are this many cuts.
     fn begin(&self, cuts: u64);
@@ -17,11 +17,11 @@ pub trait Progress: Sync {
     fn end(&self, is_undecided: bool);
 }
 
-/// Tells nobody.
+/// Shows it to nobody.
 #[derive(Clone, Copy, Debug, Drop)]
-pub struct Untold;
+pub struct Silent;
 
-impl Progress for Untold {
+impl Progress for Silent {
     fn begin(&self, _cuts: u64) {}
 
     fn keep(&self) {}

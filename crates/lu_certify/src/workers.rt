@@ -15,7 +15,7 @@ use crate::limited::LimitedTest;
 use crate::limits::Limits;
 use crate::looked::Looked;
 use crate::looking::look_after_check;
-use crate::progress::{Progress, Untold};
+use crate::progress::{Progress, Silent};
 use crate::sharing::look_by_workers;
 use crate::so_far::SoFar;
 use lu_component::Component;
@@ -105,7 +105,7 @@ fn is_undecided(answer: &Result<Certificate, CheckFault>) -> bool {
     }
 }
 
-/// The same certificate as by [`certify_by_workers`]. It tells meanwhile how far it has come.
+/// The same certificate as by [`certify_by_workers`]. It reports meanwhile how far it has come.
 ///
 /// # Errors
 ///
@@ -159,5 +159,5 @@ pub fn certify_by_workers<R: Threads + Wait, G: Gate>(
     ensures of { IfOk result (NamesCutOf component.now) }
     ensures alone { IfErr result (λ fault. options.workers ≡ 1 → fault ≡ Memory) }
 {
-    certify_with_progress(rt, alloc, gate, &Untold, component, matrix, options, nodes)
+    certify_with_progress(rt, alloc, gate, &Silent, component, matrix, options, nodes)
 }

@@ -159,9 +159,9 @@ fn a_board_without_pieces(rt: HostRuntime) -> Result<(), Fail> {
     Ok(())
 }
 
-/// What a run tells on these pieces, of which these are bad: the best piece, whether it is done,
+/// What a run says of these pieces, of which these are bad: the best piece, whether it is done,
 /// and whether a piece was given up; or the first illegal event.
-fn told(
+fn core_after(
     alloc: Global,
     workers: usize,
     bad: &[bool],
@@ -192,9 +192,9 @@ const SHARED: &[CoreEvent] = &[
 
 #[test]
 fn the_core_knows_the_least_bad_piece(rt: HostRuntime) {
-    assert!(rt; told(rt.alloc(), 2, BAD, &SHARED[..8]) == Ok((Some(1), true, false)));
-    assert!(rt; told(rt.alloc(), 2, BAD, &SHARED[..4]) == Ok((Some(1), false, false)));
-    assert!(rt; told(rt.alloc(), 2, BAD, SHARED) == Err(CoreFault::BadEvent(8)));
+    assert!(rt; core_after(rt.alloc(), 2, BAD, &SHARED[..8]) == Ok((Some(1), true, false)));
+    assert!(rt; core_after(rt.alloc(), 2, BAD, &SHARED[..4]) == Ok((Some(1), false, false)));
+    assert!(rt; core_after(rt.alloc(), 2, BAD, SHARED) == Err(CoreFault::BadEvent(8)));
 }
 
 const LOWERS_A_GOOD_PIECE: &[CoreEvent] = &[CoreEvent::Claim(0), CoreEvent::Lower(0, 0)];
@@ -215,7 +215,7 @@ fn the_core_names_the_first_illegal_event(rt: HostRuntime) {
         (NO_SUCH_WORKER, 0),
         (SETTLES_A_BAD_PIECE, 2),
     ] {
-        assert!(rt; told(rt.alloc(), 2, BAD, events) == Err(CoreFault::BadEvent(index)));
+        assert!(rt; core_after(rt.alloc(), 2, BAD, events) == Err(CoreFault::BadEvent(index)));
     }
 }
 
@@ -234,6 +234,6 @@ const GIVES_UP: &[CoreEvent] = &[
 
 #[test]
 fn the_core_tells_what_was_given_up(rt: HostRuntime) {
-    assert!(rt; told(rt.alloc(), 1, &[true], GIVES_UP) == Ok((None, true, true)));
-    assert!(rt; told(rt.alloc(), 1, &[], &[CoreEvent::Claim(0)]) == Ok((None, true, false)));
+    assert!(rt; core_after(rt.alloc(), 1, &[true], GIVES_UP) == Ok((None, true, true)));
+    assert!(rt; core_after(rt.alloc(), 1, &[], &[CoreEvent::Claim(0)]) == Ok((None, true, false)));
 }

@@ -1,4 +1,4 @@
-//! How far a certificate has come, as it is told.
+//! How far a certificate has come, as it is reported.
 
 ghost use Rattle.std.specs.Prelude.{◌≡◌};
 
@@ -11,7 +11,7 @@ use std::sync::atomic::{AtomicBool, AtomicU64, Ordering};
 use std::test::Fail;
 use std::thread::Threads;
 
-/// Counts what it is told.
+/// Counts what is reported to it.
 #[derive(Drop)]
 struct Tally {
     cuts: AtomicU64,
@@ -59,7 +59,7 @@ impl Progress for Tally {
 }
 
 /// The certificate of the matrix by this many workers. All nodes that were kept are let go of at
-/// the end, which is told.
+/// the end, which is reported.
 fn certified<R: AllocGlobal + Abort + Threads + Wait>(
     rt: &R,
     matrix: &[u8],
@@ -89,7 +89,7 @@ const EXCHANGES: &[u8] = b"thread cinc\nthread cinc\n";
 
 /// Two threads with a call each have four cuts.
 #[test]
-fn each_cut_is_told(rt: HostRuntime) -> Result<(), Fail> {
+fn each_cut_is_reported(rt: HostRuntime) -> Result<(), Fail> {
     for workers in [1, 2, 5] {
         let tally = Tally::new();
         let certificate = certified(&rt, EXCHANGES, workers, DEFAULT_NODES, &tally)?;
@@ -104,7 +104,7 @@ fn each_cut_is_told(rt: HostRuntime) -> Result<(), Fail> {
 
 /// The whole matrix has more nodes than three.
 #[test]
-fn undecided_is_told(rt: HostRuntime) -> Result<(), Fail> {
+fn undecided_is_reported(rt: HostRuntime) -> Result<(), Fail> {
     for workers in [1, 3] {
         let tally = Tally::new();
         let certificate = certified(&rt, b"thread spin\nthread spin\n", workers, 3, &tally)?;

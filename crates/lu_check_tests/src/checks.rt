@@ -106,13 +106,13 @@ fn faults_have_codes(rt: HostRuntime) {
     assert!(rt; CheckFault::Memory.code() == "memory" && CheckFault::Worker.code() == "K2");
 }
 
-/// The number of a worker, from 1, once a worker has told it: waits for that, at most a million
+/// The number of a worker, from 1, once one has left it: waits for that, at most a million
 /// turns. 0 where none came.
-fn told(worker: &AtomicU64) -> u64 {
+fn worker_in(left: &AtomicU64) -> u64 {
     for _ in 0..1_000_000 {
-        let told = worker.load(Ordering::SeqCst);
-        if told > 0 {
-            return told;
+        let number = left.load(Ordering::SeqCst);
+        if number > 0 {
+            return number;
         }
         thread::yield_now();
     }
@@ -168,11 +168,11 @@ impl Gate for Holding {
             self.awaited.store(u64::from(worker) + 1, Ordering::SeqCst);
         }
         if piece == self.done {
-            told(&self.held);
+            worker_in(&self.held);
         }
         if piece == self.piece {
             self.held.store(u64::from(worker) + 1, Ordering::SeqCst);
-            self.seen.store(told(&self.awaited), Ordering::SeqCst);
+            self.seen.store(worker_in(&self.awaited), Ordering::SeqCst);
         }
     }
 

@@ -8,6 +8,6 @@ pub mod Certified
 mod Explained
 pub mod Judged
 mod Strings
-mod ToldTexts
+mod WordedTexts
 mod Messages
 mod Tables

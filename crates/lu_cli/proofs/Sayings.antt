@@ -64,7 +64,7 @@ use Rattle.lu_trace.specs.declared.wording.Wording.{Wording}
 use Rattle.lu_source_text.specs.Begins.{is_source}
 use Rattle.lu_source_text.specs.declared.fault.SourceFaultKind.{SourceFaultKind}
 use Rattle.lu_cli.specs.Lint.{IsFaulted, IsLint, IsLinted, IsLintedAfter, IsLintedBy, IsSourceLinted, below_source}
-use Rattle.lu_cli.specs.Telling.{IsWordingOf}
+use Rattle.lu_cli.specs.Worded.{IsWordingOf}
 use Rattle.lu_cli.specs.declared.explanation.Presentation.{Presentation}
 use Rattle.lu_cli.specs.declared.explanation.Presenting.{Presenting}
 use Rattle.lu_cli.specs.declared.explanation.Presentation.TheVariants.{Words, Picture}
@@ -78,7 +78,7 @@ use Rattle.lu_cli.specs.Explanation.{IsExplainedTarget, IsExplainedHistory, IsEx
 use Rattle.lu_recorded.specs.declared.recorded.Recorded.{Recorded}
 use Rattle.lu_recorded.specs.Codes.{recorded_code_of}
 use Rattle.lu_cli.specs.Judge.{IsAnswerToJudgeAgainst, IsAnswerToJudge, IsJudgedAgainstTexts, IsJudgedByMembers, IsJudgedSerially, IsJudgedTexts, four_parts, three_parts}
-use Rattle.lu_cli.specs.Reading.{ToComponent, ToGiven, ToMatrix, ToParts, ToRecorded, ToReport, ToSchedule, ToSettled, ToSpec, ToTexts, ToTold, ToValue}
+use Rattle.lu_cli.specs.Reading.{ToComponent, ToGiven, ToMatrix, ToParts, ToRecorded, ToReport, ToSchedule, ToSettled, ToSpec, ToTexts, ToWorded, ToValue}
 use Rattle.lu_source_text.specs.Kinds.{code_of as source_code_of}
 use Rattle.lu_source_text.specs.Readers.{component_meant}
 use Rattle.lu_cli.specs.Compile.{IsAnswerToCompile, IsCompiledBundle}
@@ -215,7 +215,7 @@ certificate_status c (Undecided smaller r) answer is = other_status answer 3 (ap
 shown_else : (c : Component) (certificate : Certificate) (answer : Answer) → ShowsCertificate c certificate answer → IsElse answer
 shown_else c certificate answer is = status_else answer answer.status refl (certificate_status c certificate answer is)
 
--- what fails is told with status 1
+-- what fails is shown with status 1
 failure_else : (answer : Answer) (text : List ℕ) → answer ≡ failure text → IsElse answer
 failure_else answer text is = status_else answer 1 (ap (λ (a : Answer). a.status) is) (λ e. omega arith)
 
@@ -267,8 +267,8 @@ component_else text IsAnswer answer h is = go (is_source text) is
     go true is = value_else source_code_of (component_meant text) IsAnswer answer h is
     go false is = value_else code_of (meaning_of component_grammar text) IsAnswer answer h is
 
-told_else : (text matrix : List ℕ) (IsAnswer : Wording → Component → Matrix → Answer → Type 0) (answer : Answer) → ((how : Wording) (c : Component) (m : Matrix) → IsAnswer how c m answer → IsElse answer) → ToTold text matrix IsAnswer answer → IsElse answer
-told_else text matrix IsAnswer answer h is =
+worded_else : (text matrix : List ℕ) (IsAnswer : Wording → Component → Matrix → Answer → Type 0) (answer : Answer) → ((how : Wording) (c : Component) (m : Matrix) → IsAnswer how c m answer → IsElse answer) → ToWorded text matrix IsAnswer answer → IsElse answer
+worded_else text matrix IsAnswer answer h is =
     component_else text (λ c. ToMatrix c matrix (λ m. ToSettled c m (λ a. (how : Wording) × IsWordingOf text how × IsAnswer how c m a))) answer
     (λ c more. value_else matrix_code_of (meaning_of (matrix_grammar c) matrix) (λ m. ToSettled c m (λ a. (how : Wording) × IsWordingOf text how × IsAnswer how c m a)) answer
     (λ m last. settled_else c m (λ a. (how : Wording) × IsWordingOf text how × IsAnswer how c m a) answer (λ (how, by, shown). h how c m shown) last) more) is
@@ -286,20 +286,20 @@ three_else parts IsAnswer answer h is =
     parts_else (exactly_three parts) (λ p. ToTexts p.0 p.1 (λ c m. ToSchedule (schedule_of p.2) (IsAnswer c m))) answer
     (λ p more. texts_else p.0 p.1 (λ c m. ToSchedule (schedule_of p.2) (IsAnswer c m)) answer (λ c m play. scheduled_else (schedule_of p.2) (IsAnswer c m) answer (h c m) play) more) is
 
-told_shown_else : (text : List ℕ) (IsAnswer : List Move → Answer → Type 0) (answer : Answer) → ((u : List Move) → IsAnswer u answer → IsElse answer) → ToShown text IsAnswer answer → IsElse answer
-told_shown_else text IsAnswer answer h (found, of, more) = scheduled_else (or_schedule found text) IsAnswer answer h more
+shown_text_else : (text : List ℕ) (IsAnswer : List Move → Answer → Type 0) (answer : Answer) → ((u : List Move) → IsAnswer u answer → IsElse answer) → ToShown text IsAnswer answer → IsElse answer
+shown_text_else text IsAnswer answer h (found, of, more) = scheduled_else (or_schedule found text) IsAnswer answer h more
 
-after_else : (parts : List (List ℕ)) (IsAnswer : Wording → Component → Matrix → List Move → Answer → Type 0) (answer : Answer) → ((how : Wording) (c : Component) (m : Matrix) (u : List Move) → IsAnswer how c m u answer → IsElse answer) → ToParts (shown_parts parts) (λ p. ToTold p.0 p.1 (λ how c m. ToShown p.2 (IsAnswer how c m))) answer → IsElse answer
+after_else : (parts : List (List ℕ)) (IsAnswer : Wording → Component → Matrix → List Move → Answer → Type 0) (answer : Answer) → ((how : Wording) (c : Component) (m : Matrix) (u : List Move) → IsAnswer how c m u answer → IsElse answer) → ToParts (shown_parts parts) (λ p. ToWorded p.0 p.1 (λ how c m. ToShown p.2 (IsAnswer how c m))) answer → IsElse answer
 after_else parts IsAnswer answer h is =
-    parts_else (shown_parts parts) (λ p. ToTold p.0 p.1 (λ how c m. ToShown p.2 (IsAnswer how c m))) answer
-    (λ p more. told_else p.0 p.1 (λ how c m. ToShown p.2 (IsAnswer how c m)) answer (λ how c m play. told_shown_else p.2 (IsAnswer how c m) answer (h how c m) play) more) is
+    parts_else (shown_parts parts) (λ p. ToWorded p.0 p.1 (λ how c m. ToShown p.2 (IsAnswer how c m))) answer
+    (λ p more. worded_else p.0 p.1 (λ how c m. ToShown p.2 (IsAnswer how c m)) answer (λ how c m play. shown_text_else p.2 (IsAnswer how c m) answer (h how c m) play) more) is
 
 alone_or_else : (view : View) (IsShown : List (List ℕ) → Answer → Type 0) (parts : List (List ℕ)) (answer : Answer) → (IsShown parts answer → IsElse answer) → AloneOr view IsShown parts answer → IsElse answer
 alone_or_else view IsShown parts answer h is = go (exactly_two parts) is
   where
-    go : (found : Option (List ℕ × List ℕ)) → MatchOption found (IsShown parts answer) (λ p. ToTold p.0 p.1 (IsShownAlone view) answer) → IsElse answer
+    go : (found : Option (List ℕ × List ℕ)) → MatchOption found (IsShown parts answer) (λ p. ToWorded p.0 p.1 (IsShownAlone view) answer) → IsElse answer
     go None is = h is
-    go (Some p) is = told_else p.0 p.1 (IsShownAlone view) answer (λ how c m shown. by_view_else view how c shown.0 answer shown.2) is
+    go (Some p) is = worded_else p.0 p.1 (IsShownAlone view) answer (λ how c m shown. by_view_else view how c shown.0 answer shown.2) is
 
 matrix_else : (c : Component) (m : Matrix) (r : Report) (answer : Answer) → answer ≡ with_matrix c m r → IsElse answer
 matrix_else c m r answer is = status_else answer (status_of r.finding) (ap (λ (a : Answer). a.status) is) (status_of_else r.finding)
@@ -393,8 +393,8 @@ target_else text IsAnswer answer h is = go (is_report text) is
 
 explain_after_else : (by : Presentation) (limits : Bounds) (parts : List (List ℕ)) (answer : Answer) → IsExplainAfter by limits parts answer → IsElse answer
 explain_after_else by limits parts answer is =
-    parts_else (shown_parts parts) (λ p. ToTold p.0 p.1 (λ how c m. IsExplainedText (in_words by how) limits c m p.2)) answer
-    (λ p more. told_else p.0 p.1 (λ how c m. IsExplainedText (in_words by how) limits c m p.2) answer
+    parts_else (shown_parts parts) (λ p. ToWorded p.0 p.1 (λ how c m. IsExplainedText (in_words by how) limits c m p.2)) answer
+    (λ p more. worded_else p.0 p.1 (λ how c m. IsExplainedText (in_words by how) limits c m p.2) answer
     (λ how c m from. target_else p.2 (λ t. IsExplainedSerially (in_words by how) (limits_for limits t) c m t) answer (λ t last. serially_else (in_words by how) (limits_for limits t) c m t answer last) from) more) is
 
 explain_else : (by : Presentation) (limits : Bounds) (parts : List (List ℕ)) (answer : Answer) → IsAnswerToExplain by limits parts answer → IsElse answer
@@ -402,8 +402,8 @@ explain_else by limits parts answer is = alone_or_else (view_of by) (IsExplainAf
 
 explain_against_else : (parts : List (List ℕ)) (answer : Answer) → IsAnswerToExplainAgainst parts answer → IsElse answer
 explain_against_else parts answer is =
-    parts_else (exactly_four parts) (λ p. ToTold p.0 p.1 (λ how c m. IsExplainedAgainstText how c m p.2 p.3)) answer
-    (λ p more. told_else p.0 p.1 (λ how c m. IsExplainedAgainstText how c m p.2 p.3) answer
+    parts_else (exactly_four parts) (λ p. ToWorded p.0 p.1 (λ how c m. IsExplainedAgainstText how c m p.2 p.3)) answer
+    (λ p more. worded_else p.0 p.1 (λ how c m. IsExplainedAgainstText how c m p.2 p.3) answer
     (λ how c m from. target_else p.2 (λ t. ToGiven m p.3 (λ members. IsExplainedTarget (in_words Words how) members c m t)) answer
     (λ t read. given_else m p.3 (λ members. IsExplainedTarget (in_words Words how) members c m t) answer (λ members last. explanation_else (in_words Words how) members c m t answer last) read) from) more) is
 
@@ -578,7 +578,7 @@ run_view_else (run.Trace start) how c m u answer is = traced_else start how c m 
 run_view_else run.Picture how c m u answer is = drawn_else how None c m u answer is
 
 view_else : (shown : RunView) (parts : List (List ℕ)) (answer : Answer) → IsAnswerToTraceOrDraw shown parts answer → IsElse answer
-view_else shown parts answer is = alone_or_else (view_of_failure shown) (IsShownAfter shown) parts answer (λ behind. after_else parts (IsRunShown shown) answer (λ how c m u more. run_view_else shown how c m u answer more) behind) is
+view_else shown parts answer is = alone_or_else (view_of_failure shown) (IsShownAfter shown) parts answer (λ after. after_else parts (IsRunShown shown) answer (λ how c m u more. run_view_else shown how c m u answer more) after) is
 
 command_else : (command : BundleCommand) (parts : List (List ℕ)) (answer : Answer) → IsAnswerToCommand command parts answer → IsElse answer
 command_else Replay parts answer is = three_else parts IsReplayed answer (λ c m u more. replayed_else c m u answer more) is

@@ -7,7 +7,7 @@ use Rattle.std.proofs.lemmas.List.Elements.{All-drop}
 use Rattle.lu_text.specs.Lines.{texts}
 use Rattle.lu_text.proofs.Reading.{text_more, texts_end}
 use denote.Ref.{Bor}
-use Rattle.lu_cli.specs.Compile.{behind, lent_after, part_text}
+use Rattle.lu_cli.specs.Compile.{parts_text, lent_after, part_text}
 
 module _ (words : List (Bor (List ℕ))) (i : ℕ) where
   -- one word more
@@ -28,6 +28,6 @@ module _ (words : List (Bor (List ℕ))) (i : ℕ) where
   not_all d within not all = not (subst (All IsUtf8) (text_more words i d within) (All-drop IsUtf8 i (texts words) all) 0 [] (omega arith))
 
 -- parts that are lent, and their texts
-pub lent_texts : (parts : List (Bor (List ℕ))) → lent_after parts ≡ behind (texts parts)
+pub lent_texts : (parts : List (Bor (List ℕ))) → lent_after parts ≡ parts_text (texts parts)
 lent_texts [] = refl
 lent_texts (part ∷ parts) = ap (λ (t : List ℕ). part_text part.now ++ t) (lent_texts parts)

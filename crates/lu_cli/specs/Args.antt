@@ -184,11 +184,9 @@ choice_in rows =
     (number_named (codes "depth") rows)
 
 -- a check against the serial runs, or one against a specification
-abbrev pub check_command : Bool → Options → BundleCommand
-check_command against choice = if against then CheckAgainst choice else Check choice
-
 abbrev pub check_in : List Row → Option BundleCommand
-check_in rows = option_map (check_command (flag_in (codes "spec") rows)) (choice_in rows)
+check_in rows =
+    option_map (if flag_in (codes "spec") rows then CheckAgainst else Check) (choice_in rows)
 
 abbrev pub certify_with : Option Options → Option ℕ → Option ℕ → Option CertifyOptions
 certify_with (Some choice) (Some local) (Some nodes) =
@@ -200,44 +198,30 @@ certify_in rows =
     certify_with (choice_in rows) (number_named (codes "local") rows) (nodes_in rows)
 
 -- a judgement by the serial runs, or one by a specification
-abbrev pub judge_command : Bool → Bounds → BundleCommand
-judge_command against limits = if against then JudgeAgainst else Judge limits
-
 abbrev pub judge_in : List Row → Option BundleCommand
-judge_in rows = option_map (judge_command (flag_in (codes "spec") rows)) (limits_in rows)
+judge_in rows =
+    option_map (λ limits. if flag_in (codes "spec") rows then JudgeAgainst else Judge limits)
+    (limits_in rows)
 
 -- how many histories are shown, or by which schedules too
-abbrev pub conform_command : Bool → BundleCommand
-conform_command with_schedules =
-    if with_schedules then Conform showing.Schedules else Conform showing.Count
-
 abbrev pub conform_in : List Row → BundleCommand
-conform_in rows = conform_command (flag_in (codes "show") rows)
+conform_in rows =
+    if flag_in (codes "show") rows then Conform showing.Schedules else Conform showing.Count
 
 -- a trace, or one from the setup on
-abbrev pub trace_command : Bool → BundleCommand
-trace_command with_setup = if with_setup then Trace Setup else Trace FirstMove
-
 abbrev pub trace_in : List Row → BundleCommand
-trace_in rows = trace_command (flag_in (codes "setup") rows)
+trace_in rows = if flag_in (codes "setup") rows then Trace Setup else Trace FirstMove
 
 -- a picture, or one with an explanation
-abbrev pub draw_command : Bool → Bounds → BundleCommand
-draw_command explained limits = if explained then DrawExplained limits else Draw
-
 abbrev pub draw_in : List Row → Option BundleCommand
 draw_in rows =
-    option_map (draw_command (flag_in (codes "explain") rows))
+    option_map (λ limits. if flag_in (codes "explain") rows then DrawExplained limits else Draw)
     (limits_with (Some 0) (number_named (codes "serial") rows))
 
--- an explanation by the serial runs, or one by a specification
-abbrev pub explain_command : Bool → Bounds → BundleCommand
-explain_command against limits = if against then ExplainAgainst else Explain limits
-
--- no schedule is bounded
+-- an explanation by the serial runs, or one by a specification; no schedule is bounded
 abbrev pub explain_in : List Row → Option BundleCommand
 explain_in rows =
-    option_map (explain_command (flag_in (codes "spec") rows))
+    option_map (λ limits. if flag_in (codes "spec") rows then ExplainAgainst else Explain limits)
     (limits_with (Some 0) (number_named (codes "serial") rows))
 
 -- this many threads, where the number is one of 8 bits
@@ -255,14 +239,14 @@ abbrev pub threads_in : List Row → Option CampaignThreads
 threads_in rows =
     threads_with (flag_in (codes "by-thread") rows) (number_named (codes "threads") rows)
 
--- the matrices from one number to another: all, where these are the least and the greatest
-abbrev pub slice_of : ℕ → ℕ → CampaignPart
-slice_of from upto = if from == 0 && upto == most_long then Whole else Slice from upto
-
--- what is asked of the campaign: nothing where its end lies before its beginning
+-- What is asked of the campaign: nothing where its end lies before its beginning; else the number
+-- of its matrices; or those from one number to another, which are all where these are the least and
+-- the greatest.
 abbrev pub part_of : Bool → ℕ → ℕ → Option CampaignPart
 part_of count from upto =
-    if nat_lt upto from then None else if count then Some Count else Some (slice_of from upto)
+    if nat_lt upto from then None
+    else if count then Some Count
+    else if from == 0 && upto == most_long then Some Whole else Some (Slice from upto)
 
 abbrev pub part_with : Bool → Option ℕ → Option ℕ → Option CampaignPart
 part_with count (Some from) (Some upto) = part_of count from upto
@@ -321,12 +305,10 @@ abbrev pub campaign_options_in : List Row → Option CampaignOptions
 campaign_options_in rows = option_and_then (campaign_by rows) (trial_in rows)
 
 -- a campaign, or one that holds the component against a trusted one
-abbrev pub campaign_command : Bool → CampaignOptions → BundleCommand
-campaign_command against options = if against then CampaignAgainst options else Campaign options
-
 abbrev pub campaign_in : List Row → Option BundleCommand
 campaign_in rows =
-    option_map (campaign_command (flag_in (codes "spec") rows)) (campaign_options_in rows)
+    option_map (if flag_in (codes "spec") rows then CampaignAgainst else Campaign)
+    (campaign_options_in rows)
 
 abbrev pub command_by : Text → List Row → Option BundleCommand
 command_by name rows =

@@ -21,15 +21,15 @@ abbrev pub part_text : List ℕ → List ℕ
 part_text part = codes "---\n" ++ part
 
 -- these parts, each with the line before it
-abbrev pub behind : List (List ℕ) → List ℕ
-behind parts = flat_map part_text parts
+abbrev pub parts_text : List (List ℕ) → List ℕ
+parts_text parts = flat_map part_text parts
 
 abbrev pub lent_after : List (Bor (List ℕ)) → List ℕ
 lent_after parts = flat_map (λ part. part_text part.now) parts
 
 -- the text of the component, and these parts after it as they are
 abbrev pub compiled_bundle : Component → List (List ℕ) → Answer
-compiled_bundle c parts = record { text = component_text c ++ behind parts; status = 0 }
+compiled_bundle c parts = record { text = component_text c ++ parts_text parts; status = 0 }
 
 -- that, or that a part is no UTF-8
 abbrev pub IsCompiledBundle : Component → List (List ℕ) → Answer → Type 0

@@ -22,7 +22,7 @@ use Rattle.lu_cli.specs.Failing.{in_words, AloneOr}
 use Rattle.lu_cli.specs.Refusals.{Answered}
 use Rattle.lu_cli.specs.Outcomes.{Answer, refused}
 use Rattle.lu_cli.specs.Explanation.{IsExplainedSerially, IsExplainedTarget}
-use Rattle.lu_cli.specs.Reading.{ToSchedule, ToReport, ToParts, ToTold, ToGiven}
+use Rattle.lu_cli.specs.Reading.{ToSchedule, ToReport, ToParts, ToWorded, ToGiven}
 use Rattle.lu_cli.specs.Shown.{shown_parts}
 use Rattle.lu_cli.specs.declared.explanation.Presentation.{Presentation}
 use Rattle.lu_cli.specs.declared.explanation.Presentation.TheVariants.{Words, Picture}
@@ -82,7 +82,7 @@ ExplainsText by limits test text =
 abbrev pub IsExplainAfter : Presentation → Bounds → List (List ℕ) → Answer → Type 0
 IsExplainAfter by limits parts =
     ToParts (shown_parts parts)
-    (λ p. ToTold p.0 p.1 (λ how c m. IsExplainedText (in_words by how) limits c m p.2))
+    (λ p. ToWorded p.0 p.1 (λ how c m. IsExplainedText (in_words by how) limits c m p.2))
 
 abbrev pub view_of : Presentation → View
 view_of Words = view.Explanation
@@ -106,4 +106,4 @@ ExplainsAgainst how test text spec =
 abbrev pub IsAnswerToExplainAgainst : List (List ℕ) → Answer → Type 0
 IsAnswerToExplainAgainst parts =
     ToParts (exactly_four parts)
-    (λ p. ToTold p.0 p.1 (λ how c m. IsExplainedAgainstText how c m p.2 p.3))
+    (λ p. ToWorded p.0 p.1 (λ how c m. IsExplainedAgainstText how c m p.2 p.3))

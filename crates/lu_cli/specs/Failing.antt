@@ -24,7 +24,7 @@ use Rattle.lu_cli.specs.Shows.{two_texts, ShowsCertificate, with_schedule}
 use Rattle.lu_cli.specs.Outcomes.{Answer}
 use Rattle.lu_cli.specs.Pictures.{IsDrawn}
 use Rattle.lu_cli.specs.Explanation.{BySerialRuns, IsExplainedSchedule, ToFinding}
-use Rattle.lu_cli.specs.Reading.{ToTold}
+use Rattle.lu_cli.specs.Reading.{ToWorded}
 use Rattle.lu_cli.specs.Trace.{IsTraced}
 use Rattle.lu_cli.specs.declared.request.TraceStart.TheVariants.{FirstMove}
 use Rattle.lu_cli.specs.declared.explanation.Presentation.{Presentation}
@@ -134,4 +134,4 @@ ShowsAlone view how test result =
 abbrev pub AloneOr : View → (List (List ℕ) → Answer → Type 0) → List (List ℕ) → Answer → Type 0
 AloneOr view IsShown parts answer =
     MatchOption (exactly_two parts) (IsShown parts answer)
-    (λ p. ToTold p.0 p.1 (IsShownAlone view) answer)
+    (λ p. ToWorded p.0 p.1 (IsShownAlone view) answer)

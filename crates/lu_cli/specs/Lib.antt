@@ -27,6 +27,6 @@ pub mod Shows
 pub mod Shrink
 pub mod Spec
 pub mod Table
-pub mod Telling
+pub mod Worded
 pub mod Texts
 pub mod Trace

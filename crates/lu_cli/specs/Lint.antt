@@ -20,7 +20,7 @@ use Rattle.lu_lint.specs.Messages.{remarks_text}
 use Rattle.lu_lint.specs.Said.{have_fault, line_below, said_of}
 use Rattle.lu_report.specs.Limits.{Bounds}
 use Rattle.lu_text.specs.Bundle.{bundle_parts}
-use Rattle.lu_cli.specs.Compile.{behind}
+use Rattle.lu_cli.specs.Compile.{parts_text}
 use Rattle.lu_cli.specs.Outcomes.{Answer}
 
 -- ---- of a component
@@ -44,19 +44,14 @@ IsLinted limits bundle answer =
 -- ---- of a source
 
 -- a warning says that it is one, and a fault has its code after it
-abbrev pub mark_of : What → List ℕ
-mark_of (Fault kind) = []
-mark_of (Warning warning) = codes "warning: "
-
-abbrev pub tail_of : What → List ℕ
-tail_of (Fault kind) = codes " (" ++ code_of kind ++ codes ")"
-tail_of (Warning warning) = []
+abbrev pub marked : What → List ℕ → List ℕ
+marked (Fault kind) words = words ++ codes " (" ++ code_of kind ++ codes ")"
+marked (Warning warning) words = codes "warning: " ++ words
 
 -- the line of a message, with its words
 abbrev pub message_line : SourceMessage → List ℕ → List ℕ
 message_line m words =
-    codes "line " ++ decimal m.line ++ codes ": " ++ mark_of m.what ++ words ++ tail_of m.what
-    ++ codes "\n"
+    codes "line " ++ decimal m.line ++ codes ": " ++ marked m.what words ++ codes "\n"
 
 -- a line for each message, in some words
 abbrev pub TellsEach : List SourceMessage → List ℕ → Type 0
@@ -85,7 +80,7 @@ remarks_below above now remarks = filter_map (moved above now) remarks
 
 -- a component, with these parts after it
 abbrev pub bundle_of : Component → List (List ℕ) → List ℕ
-bundle_of c parts = component_text c ++ behind parts
+bundle_of c parts = component_text c ++ parts_text parts
 
 -- What is odd in a source without faults, and what there is to say of the parts after it, where its
 -- component stands in its place, on the lines that they have after the source.

@@ -30,7 +30,7 @@ use Rattle.lu_text.specs.Lines.{texts}
 use Rattle.lu_recorded.specs.declared.fault.RecordedFaultKind.{RecordedFaultKind}
 use Rattle.lu_recorded.specs.Bundled.{AreRead, IsFirstRefused}
 use Rattle.lu_recorded.specs.Codes.{recorded_code_of}
-use Rattle.lu_cli.specs.Telling.{IsWordingOf}
+use Rattle.lu_cli.specs.Worded.{IsWordingOf}
 use Rattle.lu_cli.specs.Refusals.{refused_in_history}
 use Rattle.lu_cli.specs.Outcomes.{Answer, refused, refused_on_line, unsettled}
 
@@ -109,8 +109,8 @@ ToComponent text IsAnswer answer =
     MatchBool (is_source text) (ToValue source_code_of (component_meant text) IsAnswer answer)
     (ToValue code_of (meaning_of component_grammar text) IsAnswer answer)
 
-abbrev pub ToTold : List ℕ → List ℕ → (Wording → Component → Matrix → Answer → Type 0) → Answer
+abbrev pub ToWorded : List ℕ → List ℕ → (Wording → Component → Matrix → Answer → Type 0) → Answer
     → Type 0
-ToTold text matrix IsAnswer =
+ToWorded text matrix IsAnswer =
     ToComponent text (λ c. ToMatrix c matrix (λ m. ToSettled c m (λ answer.
     (how : Wording) × IsWordingOf text how × IsAnswer how c m answer)))

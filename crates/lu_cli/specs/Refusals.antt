@@ -83,5 +83,5 @@ Answered IsAnswer (Err refusal) = IfSome (refusal_answer refusal) IsAnswer
 
 -- what is reported of it: the answer, or the refusal's line
 abbrev pub SaysResult : Result Answer Refusal → Answer → Type 0
-SaysResult (Ok answer) told = told ≡ answer
-SaysResult (Err refusal) told = refusal_answer refusal ≡ Some told
+SaysResult (Ok answer) said = said ≡ answer
+SaysResult (Err refusal) said = refusal_answer refusal ≡ Some said

@@ -20,7 +20,7 @@ use Rattle.lu_cli.specs.Failing.{AloneOr, view_of_failure}
 use Rattle.lu_cli.specs.Refusals.{Answered}
 use Rattle.lu_cli.specs.Outcomes.{Answer, refused}
 use Rattle.lu_cli.specs.Pictures.{IsDrawn}
-use Rattle.lu_cli.specs.Reading.{ToSchedule, ToParts, ToTold}
+use Rattle.lu_cli.specs.Reading.{ToSchedule, ToParts, ToWorded}
 use Rattle.lu_cli.specs.Trace.{IsTraced}
 
 -- ---- the parts of a bundle
@@ -110,7 +110,7 @@ ShowsText view how test text =
 
 abbrev pub IsShownAfter : RunView → List (List ℕ) → Answer → Type 0
 IsShownAfter view parts =
-    ToParts (shown_parts parts) (λ p. ToTold p.0 p.1 (λ how c m. IsTextShown view how c m p.2))
+    ToParts (shown_parts parts) (λ p. ToWorded p.0 p.1 (λ how c m. IsTextShown view how c m p.2))
 
 abbrev pub IsAnswerToTraceOrDraw : RunView → List (List ℕ) → Answer → Type 0
 IsAnswerToTraceOrDraw view = AloneOr (view_of_failure view) (IsShownAfter view)

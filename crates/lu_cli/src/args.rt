@@ -189,78 +189,50 @@ fn alike(threads: u16) -> Option<CampaignThreads>
 }
 
 /// Which threads `--by-thread` and `--threads` ask for.
-fn threads_with(own: bool, threads: Option<u16>) -> Option<CampaignThreads>
-    ensures { result ≡ spec.threads_with own threads }
-{
-    match threads {
-        None => if own {
-            Some(CampaignThreads::Own)
-        } else {
-            alike(2)
-        },
-        Some(threads) => if own { None } else { alike(threads) },
-    }
-}
-
 fn threads_in(given: &ArgMatches<'_>) -> Option<CampaignThreads>
     ensures { result ≡ spec.threads_in (rows_of (found_of given.now)) }
 {
-    threads_with(flag_in(given, "by-thread"), number_named(given, "threads"))
-}
-
-/// The matrices from one number to another.
-fn slice_of(from: u64, upto: u64) -> CampaignPart
-    ensures { result ≡ spec.slice_of from upto }
-{
-    if from == 0 && upto == u64::MAX {
-        CampaignPart::Whole
-    } else {
-        CampaignPart::Slice { from, upto }
+    match (flag_in(given, "by-thread"), number_named(given, "threads")) {
+        (true, None) => Some(CampaignThreads::Own),
+        (true, Some(_)) => None,
+        (false, None) => alike(2),
+        (false, Some(threads)) => alike(threads),
     }
 }
 
 /// What is asked of a campaign.
-fn part_of(count: bool, from: u64, upto: u64) -> Option<CampaignPart>
-    ensures { result ≡ spec.part_of count from upto }
-{
-    if upto < from {
-        None
-    } else if count {
-        Some(CampaignPart::Count)
-    } else {
-        Some(slice_of(from, upto))
-    }
-}
-
 fn part_in(given: &ArgMatches<'_>) -> Option<CampaignPart>
     ensures { result ≡ spec.part_in (rows_of (found_of given.now)) }
 {
     let from = long_number_in(given, "from")?;
     let upto = long_number_in(given, "upto")?;
-    part_of(flag_in(given, "count"), from, upto)
+    if upto < from {
+        None
+    } else if flag_in(given, "count") {
+        Some(CampaignPart::Count)
+    } else if from == 0 && upto == u64::MAX {
+        Some(CampaignPart::Whole)
+    } else {
+        Some(CampaignPart::Slice { from, upto })
+    }
 }
 
 /// What `--certify`, `--all` and `--spec` ask of each matrix: `--all` goes with `--certify`, and
 /// `--spec` stands alone.
-fn trial_of(certified: bool, all: bool, against: bool) -> Option<CampaignTrial>
-    ensures { result ≡ spec.trial_of certified all against }
+fn trial_in(given: &ArgMatches<'_>) -> Option<CampaignTrial>
+    ensures { result ≡ spec.trial_in (rows_of (found_of given.now)) }
 {
-    match (certified, all, against) {
+    let flags = (
+        flag_in(given, "certify"),
+        flag_in(given, "all"),
+        flag_in(given, "spec"),
+    );
+    match flags {
         (false, false, _) => Some(CampaignTrial::Checked),
         (true, false, false) => Some(CampaignTrial::Certified),
         (true, true, false) => Some(CampaignTrial::Surveyed),
         _ => None,
     }
-}
-
-fn trial_in(given: &ArgMatches<'_>) -> Option<CampaignTrial>
-    ensures { result ≡ spec.trial_in (rows_of (found_of given.now)) }
-{
-    trial_of(
-        flag_in(given, "certify"),
-        flag_in(given, "all"),
-        flag_in(given, "spec"),
-    )
 }
 
 /// The bounds of a campaign: where they are left out those of `certify` or of `check`.
@@ -294,39 +266,27 @@ fn campaign_options_in(given: &ArgMatches<'_>) -> Option<CampaignOptions>
 }
 
 /// A campaign, or one that holds the component against a trusted one.
-fn campaign_command(options: CampaignOptions, against: bool) -> BundleCommand
-    ensures { result ≡ spec.campaign_command against options }
-{
-    if against {
-        BundleCommand::CampaignAgainst(options)
-    } else {
-        BundleCommand::Campaign(options)
-    }
-}
-
 fn campaign_in(given: &ArgMatches<'_>) -> Option<BundleCommand>
     ensures { result ≡ spec.campaign_in (rows_of (found_of given.now)) }
 {
     let options = campaign_options_in(given)?;
-    Some(campaign_command(options, flag_in(given, "spec")))
-}
-
-/// A check against the serial runs, or one against a specification.
-fn check_command(options: Options, against: bool) -> BundleCommand
-    ensures { result ≡ spec.check_command against options }
-{
-    if against {
-        BundleCommand::CheckAgainst(options)
+    if flag_in(given, "spec") {
+        Some(BundleCommand::CampaignAgainst(options))
     } else {
-        BundleCommand::Check(options)
+        Some(BundleCommand::Campaign(options))
     }
 }
 
+/// A check against the serial runs, or one against a specification.
 fn check_in(given: &ArgMatches<'_>) -> Option<BundleCommand>
     ensures { result ≡ spec.check_in (rows_of (found_of given.now)) }
 {
     let options = options_in(given)?;
-    Some(check_command(options, flag_in(given, "spec")))
+    if flag_in(given, "spec") {
+        Some(BundleCommand::CheckAgainst(options))
+    } else {
+        Some(BundleCommand::Check(options))
+    }
 }
 
 fn certify_in(given: &ArgMatches<'_>) -> Option<CertifyOptions>
@@ -343,93 +303,63 @@ fn certify_in(given: &ArgMatches<'_>) -> Option<CertifyOptions>
 }
 
 /// A judgement by the serial runs, or one by a specification.
-fn judge_command(bounds: Bounds, against: bool) -> BundleCommand
-    ensures { result ≡ spec.judge_command against bounds }
-{
-    if against {
-        BundleCommand::JudgeAgainst
-    } else {
-        BundleCommand::Judge(bounds)
-    }
-}
-
 fn judge_in(given: &ArgMatches<'_>) -> Option<BundleCommand>
     ensures { result ≡ spec.judge_in (rows_of (found_of given.now)) }
 {
     let bounds = bounds_in(given)?;
-    Some(judge_command(bounds, flag_in(given, "spec")))
+    if flag_in(given, "spec") {
+        Some(BundleCommand::JudgeAgainst)
+    } else {
+        Some(BundleCommand::Judge(bounds))
+    }
 }
 
 /// How many histories are shown, or by which schedules too.
-fn conform_command(with_schedules: bool) -> BundleCommand
-    ensures { result ≡ spec.conform_command with_schedules }
+fn conform_in(given: &ArgMatches<'_>) -> BundleCommand
+    ensures { result ≡ spec.conform_in (rows_of (found_of given.now)) }
 {
-    if with_schedules {
+    if flag_in(given, "show") {
         BundleCommand::Conform(Showing::Schedules)
     } else {
         BundleCommand::Conform(Showing::Count)
     }
 }
 
-fn conform_in(given: &ArgMatches<'_>) -> BundleCommand
-    ensures { result ≡ spec.conform_in (rows_of (found_of given.now)) }
-{
-    conform_command(flag_in(given, "show"))
-}
-
 /// A trace from the first move on, or from the setup on.
-fn trace_command(with_setup: bool) -> BundleCommand
-    ensures { result ≡ spec.trace_command with_setup }
+fn trace_in(given: &ArgMatches<'_>) -> BundleCommand
+    ensures { result ≡ spec.trace_in (rows_of (found_of given.now)) }
 {
-    if with_setup {
+    if flag_in(given, "setup") {
         BundleCommand::Trace(TraceStart::Setup)
     } else {
         BundleCommand::Trace(TraceStart::FirstMove)
     }
 }
 
-fn trace_in(given: &ArgMatches<'_>) -> BundleCommand
-    ensures { result ≡ spec.trace_in (rows_of (found_of given.now)) }
-{
-    trace_command(flag_in(given, "setup"))
-}
-
 /// A picture, or one with an explanation.
-fn draw_command(explained: bool, bounds: Bounds) -> BundleCommand
-    ensures { result ≡ spec.draw_command explained bounds }
-{
-    if explained {
-        BundleCommand::DrawExplained(bounds)
-    } else {
-        BundleCommand::Draw
-    }
-}
-
 fn draw_in(given: &ArgMatches<'_>) -> Option<BundleCommand>
     ensures { result ≡ spec.draw_in (rows_of (found_of given.now)) }
 {
     let serial = number_named(given, "serial")?;
     let bounds = Bounds::new(0, serial)?;
-    Some(draw_command(flag_in(given, "explain"), bounds))
-}
-
-/// An explanation by the serial runs, or one by a specification.
-fn explain_command(bounds: Bounds, against: bool) -> BundleCommand
-    ensures { result ≡ spec.explain_command against bounds }
-{
-    if against {
-        BundleCommand::ExplainAgainst
+    if flag_in(given, "explain") {
+        Some(BundleCommand::DrawExplained(bounds))
     } else {
-        BundleCommand::Explain(bounds)
+        Some(BundleCommand::Draw)
     }
 }
 
+/// An explanation by the serial runs, or one by a specification.
 fn explain_in(given: &ArgMatches<'_>) -> Option<BundleCommand>
     ensures { result ≡ spec.explain_in (rows_of (found_of given.now)) }
 {
     let serial = number_named(given, "serial")?;
     let bounds = Bounds::new(0, serial)?;
-    Some(explain_command(bounds, flag_in(given, "spec")))
+    if flag_in(given, "spec") {
+        Some(BundleCommand::ExplainAgainst)
+    } else {
+        Some(BundleCommand::Explain(bounds))
+    }
 }
 
 /// The request of a command's name and of what is given to the command.

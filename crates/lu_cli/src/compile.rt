@@ -7,7 +7,7 @@ ghost use Rattle.lu_text.specs.Writing.{Writes};
 ghost use Rattle.lu_source_text.specs.Readers.{component_meant};
 ghost use Rattle.lu_cli.specs.Compile as spec;
 ghost use Rattle.lu_cli.specs.Compile.{AreStrings, IsAnswerToCompile, IsCompiledBundle, IsCompiledWith};
-ghost use Rattle.lu_cli.specs.Telling.{IsSourceRefusal};
+ghost use Rattle.lu_cli.specs.Worded.{IsSourceRefusal};
 ghost use Rattle.lu_cli.specs.Refusals.{Answered};
 
 use crate::answer::{Answer, refused};
@@ -32,20 +32,13 @@ pub fn strings_of<'a>(alloc: Global, parts: &[&'a [u8]]) -> Result<Option<Vec<&'
     Ok(Some(strings))
 }
 
-/// Puts a part after the text, with the line before it.
-fn push_part(text: &mut String, part: &str) -> Result<(), AllocError>
-    ensures { Writes result text.old text.new (spec.part_text part.now) }
-{
-    text.push_str("---\n")?;
-    text.push_str(part)
-}
-
-/// Puts these parts after the text.
+/// Puts these parts after the text, each with the line before it.
 fn push_parts(text: &mut String, parts: &[&str]) -> Result<(), AllocError>
     ensures { Writes result text.old text.new (spec.lent_after parts.now) }
 {
     for part in parts {
-        push_part(text, part)?;
+        text.push_str("---\n")?;
+        text.push_str(part)?;
     }
     Ok(())
 }

@@ -11,7 +11,7 @@ use crate::explanation::{Presentation, Presenting, Target, explain, explain_seri
 use crate::failing::{View, answer_failing};
 use crate::refusal::Refusal;
 use crate::shown::shown_parts;
-use crate::told::read_told;
+use crate::worded::read_worded;
 use lu_machine::Test;
 use lu_report::{Bounds, read_report};
 use lu_spec::read_given_spec;
@@ -75,12 +75,12 @@ fn explain_after(
     ensures { Answered (IsExplainAfter by bounds (texts parts.now)) result }
 {
     let (component, matrix, target) = shown_parts(parts).ok_or(Refusal::Parts)?;
-    let told = read_told(alloc, component, matrix)?;
-    let how = told.wording();
+    let worded = read_worded(alloc, component, matrix)?;
+    let how = worded.wording();
     let by = Presenting { by, how };
     let test = Test {
-        component: &told.component,
-        matrix: &told.matrix,
+        component: &worded.component,
+        matrix: &worded.matrix,
     };
     explain_text(alloc, test, bounds, target, by)
 }
@@ -138,11 +138,11 @@ pub(crate) fn answer_explain_against(alloc: Global, parts: &[&[u8]]) -> Result<A
     ensures { Answered (IsAnswerToExplainAgainst (texts parts.now)) result }
 {
     let (component, matrix, target, specification) = exactly_four(parts).ok_or(Refusal::Parts)?;
-    let told = read_told(alloc, component, matrix)?;
-    let how = told.wording();
+    let worded = read_worded(alloc, component, matrix)?;
+    let how = worded.wording();
     let test = Test {
-        component: &told.component,
-        matrix: &told.matrix,
+        component: &worded.component,
+        matrix: &worded.matrix,
     };
     explain_against(alloc, how, test, target, specification)
 }

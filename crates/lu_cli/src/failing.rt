@@ -7,15 +7,15 @@ ghost use Rattle.lu_cli.specs.Refusals.{Answered};
 ghost use Rattle.lu_cli.specs.Failing as spec;
 ghost use Rattle.lu_certify.specs.Certificates.{NamesCutOf};
 ghost use Rattle.lu_cli.specs.Failing.{CanRunCut, ShowsAlone, ShowsFailure, ShowsRunBelow};
-ghost use Rattle.lu_cli.specs.Reading.{ToTold};
+ghost use Rattle.lu_cli.specs.Reading.{ToWorded};
 
 use crate::answer::{Answer, show_certificate, show_schedule, write_both};
 use crate::explanation::{Presentation, Presenting, explain_finding_serially};
 use crate::pictures::draw;
 use crate::refusal::Refusal;
 use crate::request::TraceStart;
-use crate::told::read_told;
 use crate::trace::trace;
+use crate::worded::read_worded;
 use lu_certify::{Certificate, DEFAULT_NODES, Limits, certify};
 use lu_component::Component;
 use lu_machine::Test;
@@ -209,12 +209,12 @@ pub(crate) fn answer_failing(
     matrix: &[u8],
     view: View,
 ) -> Result<Answer, Refusal>
-    ensures { Answered (ToTold component.now matrix.now (spec.IsShownAlone view)) result }
+    ensures { Answered (ToWorded component.now matrix.now (spec.IsShownAlone view)) result }
 {
-    let told = read_told(alloc, component, matrix)?;
+    let worded = read_worded(alloc, component, matrix)?;
     let test = Test {
-        component: &told.component,
-        matrix: &told.matrix,
+        component: &worded.component,
+        matrix: &worded.matrix,
     };
-    Ok(show_alone(alloc, told.wording(), test, view)?)
+    Ok(show_alone(alloc, worded.wording(), test, view)?)
 }

@@ -33,14 +33,14 @@ mod spec;
 mod table;
 mod terminal;
 mod texts;
-mod told;
 mod trace;
+mod worded;
 
 pub use answer::Answer;
 pub use args::read_request;
 pub use compile::strings_of;
 pub use counted::Counted;
-pub use lu_certify::{Progress, Untold};
+pub use lu_certify::{Progress, Silent};
 pub use program::{answer_alone, answer_request, run, run_with_progress};
 pub use request::{
     ArgsFault, BundleCommand, CampaignOptions, CampaignPart, CampaignThreads, CertifyOptions,

@@ -19,35 +19,15 @@ use lu_text::{Fault, bundle_parts, lines_of};
 use lu_wording::Words;
 use std::alloc::{AllocError, Global};
 
-/// Adds what stands before the words.
-fn write_mark(text: &mut String, what: What) -> Result<(), AllocError>
-    ensures { Writes result text.old text.new (spec.mark_of what) }
-{
-    match what {
-        What::Fault(_) => Ok(()),
-        What::Warning(_) => text.push_str("warning: "),
-    }
-}
-
-/// Adds what stands after the words.
-fn write_tail(text: &mut String, what: What) -> Result<(), AllocError>
-    ensures { Writes result text.old text.new (spec.tail_of what) }
-{
-    match what {
-        What::Fault(kind) => write!(text, " ({})", kind.code()),
-        What::Warning(_) => Ok(()),
-    }
-}
-
 /// Adds the line of a message, in these words.
 fn write_line(text: &mut String, message: SourceMessage, words: &str) -> Result<(), AllocError>
     ensures { Writes result text.old text.new (spec.message_line message words.now) }
 {
-    write!(text, "line {}: ", message.line)?;
-    write_mark(text, message.what)?;
-    text.push_str(words)?;
-    write_tail(text, message.what)?;
-    text.push('\n')
+    let SourceMessage { line, what } = message;
+    match what {
+        What::Fault(kind) => writeln!(text, "line {line}: {words} ({})", kind.code()),
+        What::Warning(_) => writeln!(text, "line {line}: warning: {words}"),
+    }
 }
 
 /// Adds the line of a message of a source with these lines.

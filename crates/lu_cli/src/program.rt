@@ -19,7 +19,7 @@ use crate::lint::answer_lint;
 use crate::output::write_text;
 use crate::refusal::or_refusal;
 use crate::request::{ArgsFault, BundleCommand, Request};
-use lu_certify::{Progress, Untold};
+use lu_certify::{Progress, Silent};
 use lu_report::Bounds;
 use lu_text::bundle_parts;
 use std::alloc::{AllocError, Global};
@@ -174,7 +174,7 @@ pub fn run_with_progress<X: AllocGlobal + Threads + Wait, P: Progress, S: AsStr,
     }
 }
 
-/// As [`run_with_progress`], where nobody is told how far a certificate has come.
+/// As [`run_with_progress`], where nobody is shown how far a certificate has come.
 pub fn run<X: AllocGlobal + Threads + Wait, S: AsStr, R: Read, W: Write>(
     rt: &X,
     words: &[S],
@@ -191,13 +191,13 @@ pub fn run<X: AllocGlobal + Threads + Wait, S: AsStr, R: Read, W: Write>(
     ensures unread { TellsUnread W.contents input output result }
     ensures blamed { TellsElse W.contents input output result }
 {
-    run_with_progress(rt, &Untold, words, input, output)
+    run_with_progress(rt, &Silent, words, input, output)
 }
 
 /// Writes a text, and returns this status, or 4 where a write failed.
 fn say<W: Write>(output: &mut Counted<W>, text: &str, status: u8) -> u8
     requires { output.old.failures < 2 ^ 64 - 1 }
-    ensures told { Sends W.contents text.now status output.old output.new result }
+    ensures sent { Sends W.contents text.now status output.old output.new result }
     ensures unwritten { output.old.failures < output.new.failures → result ≡ 4 }
     ensures same { output.old.failures ≤ output.new.failures }
 {

@@ -10,8 +10,8 @@ use crate::answer::Answer;
 use crate::failing::{RunView, answer_failing};
 use crate::pictures::draw;
 use crate::refusal::Refusal;
-use crate::told::read_told;
 use crate::trace::trace;
+use crate::worded::read_worded;
 use lu_machine::Test;
 use lu_report::read_report;
 use lu_test::{Schedule, read_schedule};
@@ -105,12 +105,12 @@ fn show_after(alloc: Global, parts: &[&[u8]], view: RunView) -> Result<Answer, R
     ensures { Answered (spec.IsShownAfter view (texts parts.now)) result }
 {
     let (component, matrix, shown) = shown_parts(parts).ok_or(Refusal::Parts)?;
-    let told = read_told(alloc, component, matrix)?;
+    let worded = read_worded(alloc, component, matrix)?;
     let test = Test {
-        component: &told.component,
-        matrix: &told.matrix,
+        component: &worded.component,
+        matrix: &worded.matrix,
     };
-    show_text(alloc, told.wording(), test, shown, view)
+    show_text(alloc, worded.wording(), test, shown, view)
 }
 
 /// `lineup trace`, `lineup trace --setup` and `lineup draw`: component and matrix, and a schedule

@@ -21,8 +21,8 @@ Follows h seen (Some event) after = (slice_get h seen ≡ Some event) × (after 
 
 -- how many are seen after the move, or that it does not follow
 abbrev pub TellsFollowing : List Event → ℕ → Option Event → Option ℕ → Type 0
-TellsFollowing h seen event told =
-    MatchOption told ((after : ℕ) → Follows h seen event after → ⊥) (Follows h seen event)
+TellsFollowing h seen event found =
+    MatchOption found ((after : ℕ) → Follows h seen event after → ⊥) (Follows h seen event)
 
 -- the stage is one of the list
 abbrev pub IsAmong : List Stage → Stage → Type 0

@@ -27,7 +27,7 @@ abbrev pub AreEventMoves : Component → Matrix → List Move → List ℕ → T
 AreEventMoves c matrix u numbers =
     (start : State) × (end : State) × IsStart c matrix start × LeadsNumbered start 0 u end numbers
 
--- these moves are told, unless memory ran out
+-- these are the moves, unless memory ran out
 abbrev pub TellsEventMoves : {Z E : Type 0} → Component → Matrix → List Move
     → Result (Vec ℕ Z) E → Type 0
 TellsEventMoves c matrix u result = IfOk result (λ numbers. AreEventMoves c matrix u numbers.items)

@@ -9,7 +9,7 @@ ghost use Rattle.lu_grain.specs.Laws.{DecidesAlike};
 ghost use Rattle.lu_grain.specs.Longer.{IsMadeWithin};
 
 use crate::copies::with_local;
-use lu_certify::{Certificate, Progress, Untold, certify_with_progress};
+use lu_certify::{Certificate, Progress, Silent, certify_with_progress};
 use lu_component::Component;
 use lu_parallel::{CheckFault, Gate, Options};
 use lu_test::Matrix;
@@ -17,7 +17,7 @@ use std::alloc::Global;
 use std::sync::Wait;
 use std::thread::Threads;
 
-/// The same certificate as by [`certify_longer_by_workers`]. It tells meanwhile how far it has
+/// The same certificate as by [`certify_longer_by_workers`]. It reports meanwhile how far it has
 /// come.
 ///
 /// # Errors
@@ -72,6 +72,6 @@ pub fn certify_longer_by_workers<R: Threads + Wait, G: Gate>(
     ensures alone { IfErr result (λ fault. options.workers ≡ 1 → fault ≡ Memory) }
 {
     certify_longer_with_progress(
-        rt, alloc, gate, &Untold, component, matrix, local, options, nodes,
+        rt, alloc, gate, &Silent, component, matrix, local, options, nodes,
     )
 }

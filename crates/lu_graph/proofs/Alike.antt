@@ -9,7 +9,7 @@ use Rattle.lu_machine.specs.States.{State}
 use Rattle.lu_history.specs.declared.serial.SerialOp.{SerialOp}
 use Rattle.lu_horizon.specs.Dead.{DeadTable}
 use Rattle.lu_graph.specs.Kept.{Kept}
-use Rattle.lu_graph.specs.Alive.{AreTold, IsPossible}
+use Rattle.lu_graph.specs.Alive.{ArePossible, IsPossible}
 use Rattle.lu_graph.specs.Judging.{IsOneOf}
 use Rattle.lu_graph.specs.Nodes.{AreAlike, AreStatesAlike, Node, node_of}
 use Rattle.lu_graph.specs.Rows.{KnowsDead}
@@ -21,7 +21,7 @@ use Rattle.lu_graph.proofs.StatesAlike.{by_table, states_back, states_on}
 
 module _ (members : List (Vec SerialOp)) where
   -- the same is told of two histories, so the same members are possible
-  pub same_possible : (h k : List Event) (alive : List Bool) → AreTold members h alive → AreTold members k alive → (q : List SerialOp) → IsOneOf members q → IsPossible q h ↔ IsPossible q k
+  pub same_possible : (h k : List Event) (alive : List Bool) → ArePossible members h alive → ArePossible members k alive → (q : List SerialOp) → IsOneOf members q → IsPossible q h ↔ IsPossible q k
   same_possible h k alive one other q (i, v, at, is) =
       let within = slice_get_within members i v at in
       let many = one.many in
@@ -37,7 +37,7 @@ module _ (members : List (Vec SerialOp)) where
   one_bit false false P Q p q both = refl
 
   -- and where the same are possible, the same is told
-  same_told : (h k : List Event) (a b : List Bool) → AreTold members h a → AreTold members k b → ((q : List SerialOp) → IsOneOf members q → IsPossible q h ↔ IsPossible q k) → a ≡ b
+  same_told : (h k : List Event) (a b : List Bool) → ArePossible members h a → ArePossible members k b → ((q : List SerialOp) → IsOneOf members q → IsPossible q h ↔ IsPossible q k) → a ≡ b
   same_told h k a b one other both = same_list a b (λ i. elim (cases_lt i (length members)) as (λ _. slice_get a i ≡ slice_get b i) [
     | inl lt ↦
         (let many = one.many in
@@ -76,7 +76,7 @@ module _ (members : List (Vec SerialOp)) where
       (let first = x.alike.1 q of in
       let second = y.alike.1 q of in
       ((λ z. second.0 (first.1 z)), (λ z. first.0 (second.1 z)))) in
-      same_kept dead s.component s.matrix a b (by_table s.component dead known (its s a) (its s b) refl states) (same_told x.history y.history a.alive b.alive x.is.told y.is.told both)
+      same_kept dead s.component s.matrix a b (by_table s.component dead known (its s a) (its s b) refl states) (same_told x.history y.history a.alive b.alive x.is.possible y.is.possible both)
 
 -- for each of the list there is one of another
 pub list_of : {A B : Type 0} (P : A → B → Type 0) (xs : List A) → ((i : ℕ) (x : A) → slice_get xs i ≡ Some x → (y : B) × P x y) → (ys : List B) × (length ys ≡ length xs) × ((i : ℕ) (x : A) → slice_get xs i ≡ Some x → (y : B) × (slice_get ys i ≡ Some y) × P x y)

@@ -11,9 +11,9 @@ use Rattle.lu_history.specs.declared.operation.OpId.{OpId}
 use Rattle.lu_history.specs.declared.serial.SerialOp.{SerialOp}
 use Rattle.lu_history.proofs.Events.{at_push}
 use Rattle.lu_history.proofs.Keeping.{calls_same}
-use Rattle.lu_graph.specs.Alive.{Admits, AreTold}
+use Rattle.lu_graph.specs.Alive.{Admits, ArePossible}
 use Rattle.lu_graph.specs.declared.possibilities.ReturnAt.{ReturnAt}
-use Rattle.lu_graph.specs.Judging.{Follows, HasCalls, Stay, StayTold, TellsStays}
+use Rattle.lu_graph.specs.Judging.{Follows, HasCalls, Stay, StayPossible, TellsStays}
 use Rattle.lu_graph.specs.Possibilities.{HaveCalls, IsNoReturn}
 use Rattle.lu_graph.proofs.Many.{some_at}
 use Rattle.lu_graph.proofs.Possible.{possible_goes_on}
@@ -35,7 +35,7 @@ stay_more members at old now new place q b so there was tells grown many stay i 
 module _ (members : List (Vec SerialOp)) (s : State) (old : List Bool) where
   -- nothing changes where nothing returns
   pub follows_quiet : (event : Option Event) → IsNoReturn event → Follows members s old event old
-  follows_quiet None quiet h agree told = subst (λ g. AreTold members g old) (sym (append-nil h)) told
+  follows_quiet None quiet h agree told = subst (λ g. ArePossible members g old) (sym (append-nil h)) told
   follows_quiet (Some e) quiet h agree told = record {
     many = told.many;
     tells = λ i q b at there.
@@ -46,7 +46,7 @@ module _ (members : List (Vec SerialOp)) (s : State) (old : List Bool) where
         ));
   }
 
-  pub follows_return : (at : ReturnAt) (new : List Bool) → HaveCalls s at.calls → StayTold members at old new → Follows members s old (Some (Return at.operation.t at.operation.k at.outcome)) new
+  pub follows_return : (at : ReturnAt) (new : List Bool) → HaveCalls s at.calls → StayPossible members at old new → Follows members s old (Some (Return at.operation.t at.operation.k at.outcome)) new
   follows_return at new have stay h agree told = record {
     many = stay.many;
     tells = λ i q c its there.

@@ -22,7 +22,7 @@ use Rattle.lu_graph.specs.declared.holding.Nodes.{Nodes}
 use Rattle.lu_graph.specs.Growing.{CanStandThere, ComesBy}
 use Rattle.lu_graph.specs.Holding.{HoldsOne, HoldsStart}
 use Rattle.lu_graph.specs.Nodes.{IsEnding, TellsEnding}
-use Rattle.lu_graph.specs.Alive.{AreTold, IsPossible}
+use Rattle.lu_graph.specs.Alive.{ArePossible, IsPossible}
 use Rattle.lu_graph.specs.Judging.{Follows, IsOneOf}
 use Rattle.lu_graph.specs.Listing.{histories}
 use Rattle.lu_graph.proofs.Followed.{follows_quiet}
@@ -112,7 +112,7 @@ possible_first q = record {
   alive = λ i a ret. absurd (let at = ret.1 in cc);
 }
 
-pub told_first : (members : List (Vec SerialOp)) (alive : List Bool) → length alive ≡ length members → ((i : ℕ) (b : Bool) → slice_get alive i ≡ Some b → b ≡ true) → AreTold members [] alive
+pub told_first : (members : List (Vec SerialOp)) (alive : List Bool) → length alive ≡ length members → ((i : ℕ) (b : Bool) → slice_get alive i ≡ Some b → b ≡ true) → ArePossible members [] alive
 told_first members alive many all = record {
   many = many;
   tells = λ i q b at there. ((λ x. possible_first q.items), (λ x. all i b there));
@@ -125,7 +125,7 @@ true_more alive new grown all i b at = elim (at_push alive true b i (subst (λ x
 ]
 
 -- the start alone
-pub holds_start : (s : State) (members : List (Vec SerialOp)) (alive bits : List Bool) (nodes : Nodes) → bits ≡ alive → AreTold members [] alive → HoldsOne s bits nodes → HoldsStart members s nodes
+pub holds_start : (s : State) (members : List (Vec SerialOp)) (alive bits : List Bool) (nodes : Nodes) → bits ≡ alive → ArePossible members [] alive → HoldsOne s bits nodes → HoldsStart members s nodes
 holds_start s members alive bits nodes same told (kept, hold, can, is, known) =
     let comes : ComesBy s.component s.matrix members s bits None kept = record { state = is.0; follows = subst (Follows members s bits None) (sym is.1) (follows_quiet members s bits None (λ a outcome e. absurd (cc))) } in
     let Such : Kept → Type 0 = λ k. CanStandThere s.component s.matrix k × ComesBy s.component s.matrix members s bits None k in (
@@ -133,7 +133,7 @@ holds_start s members alive bits nodes same told (kept, hold, can, is, known) =
       hold members,
       (
         bits,
-        subst (AreTold members []) (sym same) told,
+        subst (ArePossible members []) (sym same) told,
         record { there = (zero, kept, refl, comes); grows = (kept ∷ [], refl, All-cons Such kept [] (can, comes) (All-nil Such)) },
       ),
       known,

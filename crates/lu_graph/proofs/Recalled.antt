@@ -21,7 +21,7 @@ use Rattle.lu_graph.specs.declared.possibilities.Possibilities.{Possibilities}
 use Rattle.lu_graph.specs.declared.possibilities.ReturnAt.{ReturnAt}
 use Rattle.lu_graph.specs.contracts.possibilities.ReturnAtPartialEq as return_at
 use Rattle.lu_graph.specs.Discovering.{Extends}
-use Rattle.lu_graph.specs.Judging.{Follows, StayTold}
+use Rattle.lu_graph.specs.Judging.{Follows, StayPossible}
 use Rattle.lu_graph.specs.Numbered.{IsNumbered, is_list}
 use Rattle.lu_graph.specs.Possibilities.{AreLeft, Gives, IsLeft, IsNoReturn, IsNumberOf, NumbersAfter, NumbersStay, RecallsAfter, TellsReturn}
 use Rattle.lu_graph.proofs.Followed.{follows_quiet, follows_return}
@@ -97,18 +97,18 @@ module _ (members : List (Vec SerialOp)) where
         let same : it.old ≡ alive = one_alive possible at.alive it.old alive it.was knows in
         record {
           list = it.new;
-          such = subst (λ x. StayTold members at x it.new) same it.stays;
+          such = subst (λ x. StayPossible members at x it.new) same it.stays;
           number = it.is;
           grows = extends_none possible.lists.keys;
           left = left;
         }
 
     -- it is new
-    pub numbers_new : (old new : Possibilities) (listed now : List Bool) (n : ℕ) → Gives old at.alive listed → StayTold members at listed now
+    pub numbers_new : (old new : Possibilities) (listed now : List Bool) (n : ℕ) → Gives old at.alive listed → StayPossible members at listed now
         → IsNumbered (is_list beq now) old.lists.keys new.lists.keys n → new.returns.entries ≡ old.returns.entries ++ (at, n) ∷ [] → NumbersStay members at old new n
     numbers_new old new listed now n gives told numbered more alive knows left =
         let same : listed ≡ alive = gives alive knows in
-        let here = subst (λ x. StayTold members at x now) same told in
+        let here = subst (λ x. StayPossible members at x now) same told in
         let it : IsLeft members new at n = record {
           old = alive;
           new = now;

@@ -162,12 +162,12 @@ module _ (members : List (Vec SerialOp)) (c : Component) (matrix : Matrix) (sett
           pub searched_next : (moves end : ℕ) → AreSearchedFrom members c matrix list place moves end → place < end → (good : Bool) → good ≡ true → JudgesGood members now alive good → AreSearchedFrom members c matrix new (place + 1) moves end
           searched_next moves end searched less good fine says s is =
               searched_more s members dead (known_at s is) list place moves end (searched s is) less kept at new (of_node (λ z bits. AddsNext members z bits list new) s is adds)
-              (λ x h for. good_for s is x h for (subst (JudgesGood members (its s kept) kept.alive) fine (judged good says s is) h for.well_formed (agree_for x h for) for.told))
+              (λ x h for. good_for s is x h for (subst (JudgesGood members (its s kept) kept.alive) fine (judged good says s is) h for.well_formed (agree_for x h for) for.possible))
 
         pub badly : (guarded : List Bool) → TellsGuarded c guarded → (moves end : ℕ) → AreSearchedFrom members c matrix list place moves end → place < end → (good : Bool) → good ≡ false → JudgesGood members now alive good → FromEachStart c matrix (λ s. IsShortestBad (IsOneOf members) s moves)
         badly guarded told moves end searched less good fails says s is =
             shortest_bad s members dead (known_at s is) list place moves end (searched s is) less kept at (first_tells_all c matrix guarded s told is)
-            (λ x h for. bad_for s is x h for (subst (JudgesGood members (its s kept) kept.alive) fails (judged good says s is) h for.well_formed (agree_for x h for) for.told))
+            (λ x h for. bad_for s is x h for (subst (JudgesGood members (its s kept) kept.alive) fails (judged good says s is) h for.well_formed (agree_for x h for) for.possible))
 
     -- the level of the place
     pub searched_at : (old level : Level) (many : ℕ) → many ≡ length list → AreSearchedFrom members c matrix list place old.moves old.end → old.moves < old.end → (kept : Kept) → Some kept ≡ slice_get list place → IsLevelAt old place many level → (place < level.end) × (level.moves < level.end) × AreSearchedFrom members c matrix list place level.moves level.end

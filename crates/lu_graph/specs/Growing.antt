@@ -10,7 +10,7 @@ use Rattle.lu_machine.specs.Positions.{CanStand}
 use Rattle.lu_machine.specs.States.{State}
 use Rattle.lu_machine.specs.Steps.{IsFeasible, Step}
 use Rattle.lu_history.specs.declared.serial.SerialOp.{SerialOp}
-use Rattle.lu_graph.specs.Alive.{AreTold}
+use Rattle.lu_graph.specs.Alive.{ArePossible}
 use Rattle.lu_graph.specs.First.{GoesFirst}
 use Rattle.lu_graph.specs.Judging.{Follows}
 use Rattle.lu_graph.specs.Kept.{Kept}
@@ -85,4 +85,4 @@ TakeTurns s first end =
 -- the list has the node of s, before any event, and no other
 abbrev pub HasStart : List (Vec SerialOp) → State → List Kept → Type 0
 HasStart members s list =
-    (alive : List Bool) × AreTold members [] alive × AddsHere members s alive None [] list
+    (alive : List Bool) × ArePossible members [] alive × AddsHere members s alive None [] list

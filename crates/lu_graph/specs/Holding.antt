@@ -95,8 +95,8 @@ AreVisitedBy members s nodes number =
 -- ---- what is said of all nodes
 
 -- from each start of the component and the matrix of s it is said whether there are so few
-abbrev pub AreFewAsTold : {E : Type 0} → List (Vec SerialOp) → ℕ → State → Result Bool E → Type 0
-AreFewAsTold members most s result =
+abbrev pub AreFewAsSaid : {E : Type 0} → List (Vec SerialOp) → ℕ → State → Result Bool E → Type 0
+AreFewAsSaid members most s result =
     FromEachStart s.component s.matrix (TellsFewNodes (IsOneOf members) most result)
 
 -- and how all schedules end, searched up to a bound and with this many nodes at most

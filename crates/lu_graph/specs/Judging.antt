@@ -10,7 +10,7 @@ use Rattle.lu_history.specs.Histories.{IsWellFormed, calls}
 use Rattle.lu_history.specs.Standing.{Agree, standing_of}
 use Rattle.lu_witness.specs.Witnesses.{IsEntryAt, entries}
 use Rattle.lu_graph.specs.declared.possibilities.ReturnAt.{ReturnAt}
-use Rattle.lu_graph.specs.Alive.{Admits, AreTold}
+use Rattle.lu_graph.specs.Alive.{Admits, ArePossible}
 use Rattle.lu_graph.specs.Nodes.{TellsGood, longer}
 
 -- how many operations of thread u have ended
@@ -87,23 +87,23 @@ Stay members at old new =
     → slice_get old i ≡ Some b → slice_get new i ≡ Some c
     → TellsStays q.items at b c
 
-pub record StayTold (members : List (Vec SerialOp)) (at : ReturnAt) (old new : List Bool)
+pub record StayPossible (members : List (Vec SerialOp)) (at : ReturnAt) (old new : List Bool)
     : Type 0 where
   pub many : length new ≡ length members
   pub stay : Stay members at old new
 
 -- so it is of what stands in the vector
-abbrev pub StayToldIn : List (Vec SerialOp) → ReturnAt → List Bool → Vec Bool → Type 0
-StayToldIn members at old new = StayTold members at old new.items
+abbrev pub StayPossibleIn : List (Vec SerialOp) → ReturnAt → List Bool → Vec Bool → Type 0
+StayPossibleIn members at old new = StayPossible members at old new.items
 
 -- what is said after one event more, or none, of each history that leads to s with it
 abbrev pub Follows : List (Vec SerialOp) → State → List Bool → Option Event → List Bool → Type 0
 Follows members s old event new =
-    (h : List Event) → Agree (progress s) (longer h event) → AreTold members h old
-    → AreTold members (longer h event) new
+    (h : List Event) → Agree (progress s) (longer h event) → ArePossible members h old
+    → ArePossible members (longer h event) new
 
 -- whether an ended state is good, of each history that may have led there, of which this is said
 abbrev pub JudgesGood : List (Vec SerialOp) → State → List Bool → Bool → Type 0
 JudgesGood members s alive good =
-    (h : List Event) → IsWellFormed h → Agree (progress s) h → AreTold members h alive
+    (h : List Event) → IsWellFormed h → Agree (progress s) h → ArePossible members h alive
     → TellsGood (IsOneOf members) s h good

@@ -12,7 +12,7 @@ use Rattle.lu_history.specs.declared.serial.SerialOp.{SerialOp}
 use Rattle.lu_graph.specs.declared.possibilities.Possibilities.{Possibilities}
 use Rattle.lu_graph.specs.declared.possibilities.ReturnAt.{ReturnAt}
 use Rattle.lu_graph.specs.Discovering.{Extends}
-use Rattle.lu_graph.specs.Judging.{Follows, StayTold, called}
+use Rattle.lu_graph.specs.Judging.{Follows, StayPossible, called}
 use Rattle.lu_graph.specs.Numbered.{IsNumber, is_list}
 
 -- n is the number of this list
@@ -46,7 +46,7 @@ pub record IsLeft (members : List (Vec SerialOp)) (possible : Possibilities) (at
   pub new : List Bool
   pub was : IsNumberOf possible old at.alive
   pub is : IsNumberOf possible new n
-  pub stays : StayTold members at old new
+  pub stays : StayPossible members at old new
 
 -- so it is of each return that is remembered
 abbrev pub AreLeft : List (Vec SerialOp) → Possibilities → Type 0
@@ -71,7 +71,7 @@ Numbers Such members was old new n =
 
 -- the number of what stays possible after the return
 abbrev pub NumbersStay : List (Vec SerialOp) → ReturnAt → Possibilities → Possibilities → ℕ → Type 0
-NumbersStay members at = Numbers (StayTold members at) members at.alive
+NumbersStay members at = Numbers (StayPossible members at) members at.alive
 
 -- the number of what is possible after the event, if there is one, that led to s
 abbrev pub NumbersAfter : List (Vec SerialOp) → State → Option Event → ℕ → Possibilities

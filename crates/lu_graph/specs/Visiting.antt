@@ -13,7 +13,7 @@ use Rattle.lu_history.specs.declared.serial.SerialOp.{SerialOp}
 use Rattle.lu_history.specs.Histories.{IsWellFormed}
 use Rattle.lu_history.specs.Standing.{Agree}
 use Rattle.lu_graph.specs.declared.level.Level.{Level}
-use Rattle.lu_graph.specs.Alive.{AreTold}
+use Rattle.lu_graph.specs.Alive.{ArePossible}
 use Rattle.lu_graph.specs.First.{AllGoFirst, GoesFirst}
 use Rattle.lu_graph.specs.Growing.{CanStandThere, IsNextBy, Keeps, state_of}
 use Rattle.lu_graph.specs.Kept.{Kept}
@@ -29,7 +29,7 @@ pub record IsFor (s : State) (members : List (Vec SerialOp)) (end : State) (h : 
   pub state : AreStatesAlike end (its s kept)
   pub well_formed : IsWellFormed h
   pub agree : Agree (progress end) h
-  pub told : AreTold members h kept.alive
+  pub possible : ArePossible members h kept.alive
 
 -- a schedule whose moves all go first leads from s to a state for which it stands
 pub record IsReached (s : State) (members : List (Vec SerialOp)) (kept : Kept) : Type 0 where

@@ -2,7 +2,7 @@
 
 ghost use Rattle.std.specs.Prelude.{◌≡◌, ◌↔◌, IfOk, IsTrue, false, get_or};
 ghost use Rattle.lu_history.specs.Parts.{as_serial};
-ghost use Rattle.lu_graph.specs.Judging.{AreCalled, StayToldIn, TellsAdmits, TellsStays};
+ghost use Rattle.lu_graph.specs.Judging.{AreCalled, StayPossibleIn, TellsAdmits, TellsStays};
 
 use crate::members::position_of;
 use crate::possibilities::ReturnAt;
@@ -73,7 +73,7 @@ pub(crate) fn still_alive(
     alive: &[bool],
     at: &ReturnAt,
 ) -> Result<Vec<bool>, AllocError>
-    ensures { IfOk result (StayToldIn members.now at.now alive.now) }
+    ensures { IfOk result (StayPossibleIn members.now at.now alive.now) }
 {
     let mut now = Vec::with_capacity(alloc, members.len())?;
     for number in 0..members.len() {

@@ -5,7 +5,7 @@ ghost use Rattle.lu_machine.specs.Starts.{CanRun, IsStart};
 ghost use Rattle.lu_graph.specs.declared.halted.Halted.TheVariants.{Stopped};
 ghost use Rattle.lu_graph.specs.Expanding.{GoesAhead, PutsAhead, StayFound, WereFound};
 ghost use Rattle.lu_graph.specs.Guards.{TellsGuarded};
-ghost use Rattle.lu_graph.specs.Holding.{AreFewAsTold, AreVisitedBy, EndsSo, HoldsNone, HoldsStart};
+ghost use Rattle.lu_graph.specs.Holding.{AreFewAsSaid, AreVisitedBy, EndsSo, HoldsNone, HoldsStart};
 ghost use Rattle.lu_graph.specs.Nodes.{TellsEndings};
 ghost use Rattle.lu_graph.specs.Rows.{KnowsDead};
 
@@ -106,7 +106,7 @@ fn are_few<W: Watch, E: Expanders>(
     requires ahead { WereFound machine.old members.now nodes.old ahead.old }
     requires guards { TellsGuarded machine.old.component guards.now }
     requires running { W.is_stopped watch.old ≡ false }
-    ensures few { AreFewAsTold members.now most machine.old result }
+    ensures few { AreFewAsSaid members.now most machine.old result }
     ensures base { W.base watch.new ≡ W.base watch.old }
     ensures stopped { IfErr result (λ halted. halted ≡ Stopped → W.is_stopped watch.new ≡ true) }
     ensures running { OnOk result (W.is_stopped watch.new ≡ false) }

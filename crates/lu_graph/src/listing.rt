@@ -1,7 +1,7 @@
 //! The members of a tree, as a list.
 
 ghost use Rattle.std.specs.Prelude.{◌≡◌, ◌++◌, [], IfOk, OnOk};
-ghost use Rattle.lu_graph.specs.Alive.{AreTold};
+ghost use Rattle.lu_graph.specs.Alive.{ArePossible};
 ghost use Rattle.lu_graph.specs.Listing.{ListsMore, histories};
 
 use lu_history::SerialOp;
@@ -50,7 +50,7 @@ pub(crate) fn all_possible(
     alloc: Global,
     members: &[Vec<SerialOp>],
 ) -> Result<Vec<bool>, AllocError>
-    ensures { IfOk result (λ alive. AreTold members.now [] alive.items) }
+    ensures { IfOk result (λ alive. ArePossible members.now [] alive.items) }
 {
     let mut alive = Vec::new(alloc);
     for _member in members {

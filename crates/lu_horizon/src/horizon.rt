@@ -145,8 +145,8 @@ impl Model for Horizon {
     ghost view = { λ h. h.threads.items };
 }
 
-/// Looks one move further ahead from each place, up to `most` moves, and says whether that told
-/// more.
+/// Looks one move further ahead from each place, up to `most` moves, and says whether that
+/// showed more.
 fn look(
     component: &Component,
     code: &[Instr],

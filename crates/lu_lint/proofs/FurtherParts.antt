@@ -11,36 +11,23 @@ use denote.Ref.{Bor}
 use Rattle.lu_lint.specs.declared.remark.Said.{Said}
 use Rattle.lu_lint.specs.declared.part_kind.PartKind.{PartKind}
 use Rattle.lu_lint.specs.Said.{SaysFurther, above_next}
-use Rattle.lu_lint.specs.Parts.{PartSaid, SaidOfSome, begin_history, histories_said, history_said, kind_of}
+use Rattle.lu_lint.specs.Parts.{PartSaid, SaidOfSome, begin_history, begins_step, histories_said, history_said, kind_of}
 use Rattle.lu_lint.specs.Further.{AfterMatrix, AfterThird, FourthSaid, FromThird, fifth_said}
 
 -- ---- the first word of a text
-
-begin_front : (words others : List (List ℕ)) → 0 < length words → begin_history (words ++ others) ≡ begin_history words
-begin_front [] others some = absurd (omega arith)
-begin_front (word ∷ words) others some = refl
 
 -- the words of the lines from number i on are those of line i, and then the others
 words_more : (lines : List (Bor (List ℕ))) (i : ℕ) (d : Bor (List ℕ)) → i < length lines → flat_map words_of (drop i (texts lines)) ≡ words_of (get_or lines i d).now ++ flat_map words_of (drop (i + 1) (texts lines))
 words_more lines i d within = ap (flat_map words_of) (text_more lines i d within) ∙ flat_map-cons words_of (get_or lines i d).now (drop (i + 1) (texts lines))
 
-no_words : (words others : List (List ℕ)) → length words ≡ 0 → words ++ others ≡ others
-no_words [] others none = refl
-no_words (word ∷ words) others none = absurd (omega arith)
-
 -- a line without words
-pub goes_past : (lines : List (Bor (List ℕ))) (i : ℕ) (d : Bor (List ℕ)) (words : List (List ℕ)) (total : Bool) → i < length lines → words ≡ words_of (get_or lines i d).now → length words ≡ 0 → begin_history (flat_map words_of (drop i (texts lines))) ≡ total → begin_history (flat_map words_of (drop (i + 1) (texts lines))) ≡ total
-goes_past lines i d words total within is none so_far =
-    let others = flat_map words_of (drop (i + 1) (texts lines)) in
-    let all : flat_map words_of (drop i (texts lines)) ≡ others = words_more lines i d within ∙ (ap (λ (x : List (List ℕ)). x ++ others) (sym is) ∙ no_words words others none) in
-    sym (ap begin_history all) ∙ so_far
+pub goes_past : (lines : List (Bor (List ℕ))) (i : ℕ) (d : Bor (List ℕ)) (words : List (Bor (List ℕ))) (total : Bool) → i < length lines → texts words ≡ words_of (get_or lines i d).now → length words ≡ 0 → begin_history (flat_map words_of (drop i (texts lines))) ≡ total → begin_history (flat_map words_of (drop (i + 1) (texts lines))) ≡ total
+goes_past lines i d [] total within is none so_far = sym (ap begin_history (words_more lines i d within ∙ ap (λ (x : List (List ℕ)). x ++ flat_map words_of (drop (i + 1) (texts lines))) (sym is))) ∙ so_far
+goes_past lines i d (word ∷ words) total within is none so_far = absurd (omega arith)
 
 -- a line with words
-pub stops : (lines : List (Bor (List ℕ))) (i : ℕ) (d : Bor (List ℕ)) (words : List (List ℕ)) (total : Bool) → i < length lines → words ≡ words_of (get_or lines i d).now → 0 < length words → begin_history (flat_map words_of (drop i (texts lines))) ≡ total → begin_history words ≡ total
-stops lines i d words total within is some so_far =
-    let others = flat_map words_of (drop (i + 1) (texts lines)) in
-    let all : flat_map words_of (drop i (texts lines)) ≡ words ++ others = words_more lines i d within ∙ ap (λ (x : List (List ℕ)). x ++ others) (sym is) in
-    sym (begin_front words others some) ∙ (sym (ap begin_history all) ∙ so_far)
+pub stops : (lines : List (Bor (List ℕ))) (i : ℕ) (d word : Bor (List ℕ)) (words others : List (Bor (List ℕ))) (total : Bool) → i < length lines → texts words ≡ words_of (get_or lines i d).now → words ≡ word ∷ others → begin_history (flat_map words_of (drop i (texts lines))) ≡ total → begins_step word.now ≡ total
+stops lines i d word words others total within is split so_far = sym (ap begin_history (words_more lines i d within ∙ ap (λ (x : List (List ℕ)). x ++ flat_map words_of (drop (i + 1) (texts lines))) (sym is ∙ ap texts split))) ∙ so_far
 
 -- ---- recorded histories
 

@@ -11,23 +11,23 @@ use Rattle.lu_lint.specs.declared.remark.Said.{Said}
 use Rattle.lu_lint.specs.declared.remark.FaultKind.{FaultKind}
 use Rattle.lu_lint.specs.declared.remark.Cause.{Cause}
 use Rattle.lu_lint.specs.declared.remark.Cause.TheVariants.{Fault}
-use Rattle.lu_lint.specs.Lint.{AgreeOnText, Lint, Told, end_faults, faults_after, others_told, then_faults, told, told_at, told_here, with_words}
-use Rattle.lu_lint.specs.Said.{said_faults, said_told}
+use Rattle.lu_lint.specs.Lint.{AgreeOnText, Lint, Message, end_faults, faults_after, other_messages, then_faults, messages, message_before, message_here, with_words}
+use Rattle.lu_lint.specs.Said.{said_faults, message_said}
 use Rattle.lu_lint.specs.Least.{IsLeast, IsNotBefore, LeastIsReaders, NoneSaid, Same}
 
--- ---- what is told of the lines from line n on is of such lines
+-- ---- what is reported of the lines from line n on is of such lines
 
-abbrev pub IsFrom : {Kind : Type 0} → ℕ → Told Kind → Type 0
+abbrev pub IsFrom : {Kind : Type 0} → ℕ → Message Kind → Type 0
 IsFrom n t = n ≤ t.line
 
-told_from : {Kind : Type 0} (seen : List ℕ) (n : ℕ) (kind : Kind) (backs : List ℕ) → All (IsFrom n) (told seen n kind backs)
-told_from seen n kind [] = All-cons (IsFrom n) (told_here n kind) [] (omega arith) (All-nil (IsFrom n))
-told_from seen n kind (b ∷ bs) = All-map (IsFrom n) (told_at seen n kind) (b ∷ bs) (λ k d h. omega arith)
+messages_from : {Kind : Type 0} (seen : List ℕ) (n : ℕ) (kind : Kind) (backs : List ℕ) → All (IsFrom n) (messages seen n kind backs)
+messages_from seen n kind [] = All-cons (IsFrom n) (message_here n kind) [] (omega arith) (All-nil (IsFrom n))
+messages_from seen n kind (b ∷ bs) = All-map (IsFrom n) (message_before seen n kind) (b ∷ bs) (λ k d h. omega arith)
 
-others_from : {Kind : Type 0} (seen : List ℕ) (n : ℕ) (others : List (Kind × ℕ)) → All (IsFrom n) (others_told seen n others)
-others_from seen n others = All-map (IsFrom n) (λ other. told_at seen n other.0 other.1) others (λ k d h. omega arith)
+others_from : {Kind : Type 0} (seen : List ℕ) (n : ℕ) (others : List (Kind × ℕ)) → All (IsFrom n) (other_messages seen n others)
+others_from seen n others = All-map (IsFrom n) (λ other. message_before seen n other.0 other.1) others (λ k d h. omega arith)
 
-later_from : {Kind : Type 0} (n : ℕ) (faults : List (Told Kind)) → All (IsFrom (n + 1)) faults → All (IsFrom n) faults
+later_from : {Kind : Type 0} (n : ℕ) (faults : List (Message Kind)) → All (IsFrom (n + 1)) faults → All (IsFrom n) faults
 later_from n faults h = All-weaker (IsFrom (n + 1)) (IsFrom n) (λ t le. omega arith) faults h
 
 all_from : {Kind Draft Value : Type 0} (l : Lint Kind Draft Value) (seen : List ℕ) (n : ℕ) (d : Draft) (lines : List (List ℕ)) → All (IsFrom n) (faults_after l seen n d lines)
@@ -36,42 +36,42 @@ all_from {Kind = Kind} {Value = Value} l seen n d [] = go (l.grammar.finish d)
   where
     go : (r : Result Value Kind) → All (IsFrom n) (end_faults seen n (l.end_others d) r)
     go (Ok v) = All-nil (IsFrom n)
-    go (Err k) = All-cons (IsFrom n) (told_here n k) (others_told seen n (l.end_others d)) (omega arith) (others_from seen n (l.end_others d))
+    go (Err k) = All-cons (IsFrom n) (message_here n k) (other_messages seen n (l.end_others d)) (omega arith) (others_from seen n (l.end_others d))
 all_from {Kind = Kind} {Draft = Draft} l seen n d (line ∷ lines) = go (l.grammar.line d line) (λ x. later_from n (faults_after l (with_words seen n line) (n + 1) x lines) (all_from l (with_words seen n line) (n + 1) x lines))
   where
     go : (r : Result Draft Kind) → ((x : Draft) → All (IsFrom n) (faults_after l (with_words seen n line) (n + 1) x lines)) → All (IsFrom n) (then_faults l seen n d line lines r (λ x. faults_after l (with_words seen n line) (n + 1) x lines))
     go (Ok x) again = again x
     go (Err k) again =
-        All-append (IsFrom n) (told seen n k (l.backs d line k)) _ (told_from seen n k (l.backs d line k))
-        (All-append (IsFrom n) (others_told seen n (l.others d line lines k)) _ (others_from seen n (l.others d line lines k)) (again (l.mend d line lines)))
+        All-append (IsFrom n) (messages seen n k (l.backs d line k)) _ (messages_from seen n k (l.backs d line k))
+        (All-append (IsFrom n) (other_messages seen n (l.others d line lines k)) _ (others_from seen n (l.others d line lines k)) (again (l.mend d line lines)))
 
--- ---- none is of a line before the reader's; of its line only such are as are told beside it
+-- ---- none is of a line before the reader's; of its line only such are as are is_said beside it
 
-abbrev pub IsBehind : {Kind : Type 0} → ℕ → (Kind → Type 0) → Told Kind → Type 0
+abbrev pub IsBehind : {Kind : Type 0} → ℕ → (Kind → Type 0) → Message Kind → Type 0
 IsBehind n kinds t = (n < t.line) ⊎ (t.line ≡ n) × kinds t.kind
 
--- what is told beside a fault is of these kinds
+-- what is reported beside a fault is of these kinds
 pub record AreBeside {Kind Draft Value : Type 0} (l : Lint Kind Draft Value) (beside : Kind → Kind → Type 0) : Type 0 where
   pub itself : (kind : Kind) → beside kind kind
   pub others : (d : Draft) (line : List ℕ) (lines : List (List ℕ)) (kind : Kind) → All (λ other. beside kind other.0) (l.others d line lines kind)
   pub at_end : (d : Draft) (kind : Kind) → All (λ other. beside kind other.0) (l.end_others d)
 
-told_same : {Kind : Type 0} (kinds : Kind → Type 0) (seen : List ℕ) (n m : ℕ) (kind : Kind) (backs : List ℕ) → n ≡ m → kinds kind → All (IsBehind m kinds) (told seen n kind backs)
-told_same kinds seen n m kind [] here is = All-cons (IsBehind m kinds) (told_here n kind) [] (inr (here, is)) (All-nil (IsBehind m kinds))
-told_same kinds seen n m kind (b ∷ bs) here is = All-map (IsBehind m kinds) (told_at seen n kind) (b ∷ bs) (λ k d h. inr (here, is))
+messages_same : {Kind : Type 0} (kinds : Kind → Type 0) (seen : List ℕ) (n m : ℕ) (kind : Kind) (backs : List ℕ) → n ≡ m → kinds kind → All (IsBehind m kinds) (messages seen n kind backs)
+messages_same kinds seen n m kind [] here is = All-cons (IsBehind m kinds) (message_here n kind) [] (inr (here, is)) (All-nil (IsBehind m kinds))
+messages_same kinds seen n m kind (b ∷ bs) here is = All-map (IsBehind m kinds) (message_before seen n kind) (b ∷ bs) (λ k d h. inr (here, is))
 
-others_same : {Kind : Type 0} (kinds : Kind → Type 0) (seen : List ℕ) (n m : ℕ) (others : List (Kind × ℕ)) → n ≡ m → All (λ other. kinds other.0) others → All (IsBehind m kinds) (others_told seen n others)
-others_same kinds seen n m others here are = All-map (IsBehind m kinds) (λ other. told_at seen n other.0 other.1) others (λ k d h. inr (here, are k d h))
+others_same : {Kind : Type 0} (kinds : Kind → Type 0) (seen : List ℕ) (n m : ℕ) (others : List (Kind × ℕ)) → n ≡ m → All (λ other. kinds other.0) others → All (IsBehind m kinds) (other_messages seen n others)
+others_same kinds seen n m others here are = All-map (IsBehind m kinds) (λ other. message_before seen n other.0 other.1) others (λ k d h. inr (here, are k d h))
 
-after_later : {Kind : Type 0} (kinds : Kind → Type 0) (n m : ℕ) (faults : List (Told Kind)) → n ≡ m → All (IsFrom (n + 1)) faults → All (IsBehind m kinds) faults
+after_later : {Kind : Type 0} (kinds : Kind → Type 0) (n m : ℕ) (faults : List (Message Kind)) → n ≡ m → All (IsFrom (n + 1)) faults → All (IsBehind m kinds) faults
 after_later kinds n m faults here h = All-weaker (IsFrom (n + 1)) (IsBehind m kinds) (λ t le. inl (omega arith)) faults h
 
 -- those of line m, where that is line n, and of this kind
-kind_told : {Kind A : Type 0} (n : ℕ) (k kind : Kind) (m : ℕ) → on_line {A = A} n (Err k) ≡ Err (At kind m) → k ≡ kind
-kind_told n k kind m e = cc
+kind_refused : {Kind A : Type 0} (n : ℕ) (k kind : Kind) (m : ℕ) → on_line {A = A} n (Err k) ≡ Err (At kind m) → k ≡ kind
+kind_refused n k kind m e = cc
 
-line_told : {Kind A : Type 0} (n : ℕ) (k kind : Kind) (m : ℕ) → on_line {A = A} n (Err k) ≡ Err (At kind m) → n ≡ m
-line_told n k kind m e = cc
+line_refused : {Kind A : Type 0} (n : ℕ) (k kind : Kind) (m : ℕ) → on_line {A = A} n (Err k) ≡ Err (At kind m) → n ≡ m
+line_refused n k kind m e = cc
 
 pub all_after : {Kind Draft Value : Type 0} (l : Lint Kind Draft Value) (beside : Kind → Kind → Type 0) → AreBeside l beside → (seen : List ℕ) (n : ℕ) (d : Draft) (lines : List (List ℕ)) (kind : Kind) (m : ℕ) → lines_after l.grammar n d lines ≡ Err (At kind m) → All (IsBehind m (beside kind)) (faults_after l seen n d lines)
 unfolding faults_after lines_after
@@ -80,9 +80,9 @@ all_after {Kind = Kind} {Value = Value} l beside are seen n d [] kind m e = go (
     go : (r : Result Value Kind) → on_line n r ≡ Err (At kind m) → All (IsBehind m (beside kind)) (end_faults seen n (l.end_others d) r)
     go (Ok v) e = absurd cc
     go (Err k) e =
-        let same : kind ≡ k = sym (kind_told {A = Value} n k kind m e) in
-        let here : n ≡ m = line_told {A = Value} n k kind m e in
-        All-cons (IsBehind m (beside kind)) (told_here n k) (others_told seen n (l.end_others d)) (inr (here, subst (beside kind) same (are.itself kind)))
+        let same : kind ≡ k = sym (kind_refused {A = Value} n k kind m e) in
+        let here : n ≡ m = line_refused {A = Value} n k kind m e in
+        All-cons (IsBehind m (beside kind)) (message_here n k) (other_messages seen n (l.end_others d)) (inr (here, subst (beside kind) same (are.itself kind)))
         (others_same (beside kind) seen n m (l.end_others d) here (are.at_end d kind))
 all_after {Kind = Kind} {Draft = Draft} {Value = Value} l beside are seen n d (line ∷ lines) kind m e = go (l.grammar.line d line) e (λ x h. all_after l beside are (with_words seen n line) (n + 1) x lines kind m h)
   where
@@ -91,14 +91,14 @@ all_after {Kind = Kind} {Draft = Draft} {Value = Value} l beside are seen n d (l
         → All (IsBehind m (beside kind)) (then_faults l seen n d line lines r (λ x. faults_after l (with_words seen n line) (n + 1) x lines))
     go (Ok x) e again = again x e
     go (Err k) e again =
-        let P : Told Kind → Type 0 = IsBehind m (beside kind) in
-        let same : kind ≡ k = sym (kind_told {A = Value} n k kind m e) in
-        let here : n ≡ m = line_told {A = Value} n k kind m e in
+        let P : Message Kind → Type 0 = IsBehind m (beside kind) in
+        let same : kind ≡ k = sym (kind_refused {A = Value} n k kind m e) in
+        let here : n ≡ m = line_refused {A = Value} n k kind m e in
         let others = l.others d line lines k in
         let left = l.mend d line lines in
         let beside_it : All (λ other. beside kind other.0) others = subst (λ x. All (λ other. beside x other.0) others) (sym same) (are.others d line lines k) in
-        All-append P (told seen n k (l.backs d line k)) _ (told_same (beside kind) seen n m k (l.backs d line k) here (subst (beside kind) same (are.itself kind)))
-        (All-append P (others_told seen n others) _ (others_same (beside kind) seen n m others here beside_it)
+        All-append P (messages seen n k (l.backs d line k)) _ (messages_same (beside kind) seen n m k (l.backs d line k) here (subst (beside kind) same (are.itself kind)))
+        (All-append P (other_messages seen n others) _ (others_same (beside kind) seen n m others here beside_it)
         (after_later (beside kind) n m (faults_after l (with_words seen n line) (n + 1) left lines) here (all_from l (with_words seen n line) (n + 1) left lines)))
 
 -- ---- the same of what is said
@@ -132,15 +132,15 @@ module _ {Kind : Type 0} (fault_of : Cause → Option (Kind × ℕ)) where
 
   pub least_left : (kinds : Kind → Type 0) (xs ys : List Said) (kind : Kind) (n : ℕ) → NoneSaid fault_of ys → IsLeast fault_of kinds xs kind n → IsLeast fault_of kinds (xs ++ ys) kind n
   least_left kinds xs ys kind n none least =
-      record { told = any_left (kind, n) xs ys least.told; others = All-append (λ s. IsNotBefore n kinds (fault_of s.cause)) xs ys least.others (none_before n kinds ys none) }
+      record { is_said = any_left (kind, n) xs ys least.is_said; others = All-append (λ s. IsNotBefore n kinds (fault_of s.cause)) xs ys least.others (none_before n kinds ys none) }
 
   pub least_right : (kinds : Kind → Type 0) (xs ys : List Said) (kind : Kind) (n : ℕ) → NoneSaid fault_of xs → IsLeast fault_of kinds ys kind n → IsLeast fault_of kinds (xs ++ ys) kind n
   least_right kinds xs ys kind n none least =
-      record { told = any_right (kind, n) xs ys least.told; others = All-append (λ s. IsNotBefore n kinds (fault_of s.cause)) xs ys (none_before n kinds xs none) least.others }
+      record { is_said = any_right (kind, n) xs ys least.is_said; others = All-append (λ s. IsNotBefore n kinds (fault_of s.cause)) xs ys (none_before n kinds xs none) least.others }
 
   pub least_moved : (kinds : Kind → Type 0) (xs ys : List Said) (kind : Kind) (n : ℕ) → IsPermutation xs ys → IsLeast fault_of kinds xs kind n → IsLeast fault_of kinds ys kind n
   least_moved kinds xs ys kind n moved least =
-      record { told = any_moved (kind, n) xs ys moved least.told; others = All-permutation (λ s. IsNotBefore n kinds (fault_of s.cause)) xs ys moved least.others }
+      record { is_said = any_moved (kind, n) xs ys moved least.is_said; others = All-permutation (λ s. IsNotBefore n kinds (fault_of s.cause)) xs ys moved least.others }
 
   -- the same of a part that its reader reads or refuses
   pub readers_left : {A : Type 0} (beside : Kind → Kind → Type 0) (r : Result A (Refused Kind)) (xs ys : List Said) → NoneSaid fault_of ys → LeastIsReaders fault_of beside r xs → LeastIsReaders fault_of beside r (xs ++ ys)
@@ -160,16 +160,16 @@ module _ {Kind : Type 0} (fault_of : Cause → Option (Kind × ℕ)) where
 
   -- the faults of a part, where the first is the reader's, and all others are after it
   module _ (of : Kind → FaultKind) (is : (kind : Kind) (n : ℕ) → fault_of (Fault (of kind) n) ≡ Some (kind, n)) where
-    pub least_said : (kinds : Kind → Type 0) (above : ℕ) (first : Told Kind) (others : List (Told Kind)) (kind : Kind) (n : ℕ) → kind ≡ first.kind → n ≡ first.line → All (IsBehind n kinds) (first ∷ others) → IsLeast fault_of kinds (said_faults of above (first ∷ others)) kind n
+    pub least_said : (kinds : Kind → Type 0) (above : ℕ) (first : Message Kind) (others : List (Message Kind)) (kind : Kind) (n : ℕ) → kind ≡ first.kind → n ≡ first.line → All (IsBehind n kinds) (first ∷ others) → IsLeast fault_of kinds (said_faults of above (first ∷ others)) kind n
     least_said kinds above first others kind n same here behind =
         let faults = first ∷ others in
-        let front = said_told of above first in
+        let front = message_said of above first in
         record {
-          told = (0, front, omega arith, refl, is first.kind first.line ∙ pair_some first.kind kind first.line n (sym same) (sym here));
-          others = All-map (λ s. IsNotBefore n kinds (fault_of s.cause)) (said_told of above) faults (λ k d h. subst (IsNotBefore n kinds) (sym (is (get_or faults k d).kind (get_or faults k d).line)) (behind k d h));
+          is_said = (0, front, omega arith, refl, is first.kind first.line ∙ pair_some first.kind kind first.line n (sym same) (sym here));
+          others = All-map (λ s. IsNotBefore n kinds (fault_of s.cause)) (message_said of above) faults (λ k d h. subst (IsNotBefore n kinds) (sym (is (get_or faults k d).kind (get_or faults k d).line)) (behind k d h));
         }
 
-    pub readers_said : {A : Type 0} (beside : Kind → Kind → Type 0) (above : ℕ) (r : Result A (Refused Kind)) (faults : List (Told Kind)) → AgreeOnText r faults → ((kind : Kind) (n : ℕ) → r ≡ Err (At kind n) → All (IsBehind n (beside kind)) faults) → LeastIsReaders fault_of beside r (said_faults of above faults)
+    pub readers_said : {A : Type 0} (beside : Kind → Kind → Type 0) (above : ℕ) (r : Result A (Refused Kind)) (faults : List (Message Kind)) → AgreeOnText r faults → ((kind : Kind) (n : ℕ) → r ≡ Err (At kind n) → All (IsBehind n (beside kind)) faults) → LeastIsReaders fault_of beside r (said_faults of above faults)
     readers_said beside above (Ok x) [] agree behind = All-nil (λ s. fault_of s.cause ≡ None)
     readers_said beside above (Ok x) (first ∷ others) agree behind = absurd agree
     readers_said beside above (Err e) [] agree behind = absurd agree
@@ -188,21 +188,21 @@ rise_sooner n m [] le h = tt
 rise_sooner n m (k ∷ ks) le h = (omega (arith, le, h.0), h.1)
 
 module _ {X Kind : Type 0} (line_of : X → ℕ) (kind_of : X → Kind) where
-  abbrev pub told_of : X → Told Kind
-  told_of x = told_here (line_of x) (kind_of x)
+  abbrev pub message_of : X → Message Kind
+  message_of x = message_here (line_of x) (kind_of x)
 
   all_later : (n : ℕ) (xs : List X) → Rise n (map line_of xs) → All (λ x. n ≤ line_of x) xs
   all_later n [] h = All-nil (λ x. n ≤ line_of x)
   all_later n (x ∷ xs) h = All-cons (λ y. n ≤ line_of y) x xs h.0 (all_later n xs (rise_sooner n (line_of x + 1) (map line_of xs) (omega (arith, h.0)) h.1))
 
-  rising_after : (n : ℕ) (first : X) (others : List X) → Rise n (map line_of (first ∷ others)) → All (IsBehind (line_of first) (Same (kind_of first))) (map told_of (first ∷ others))
+  rising_after : (n : ℕ) (first : X) (others : List X) → Rise n (map line_of (first ∷ others)) → All (IsBehind (line_of first) (Same (kind_of first))) (map message_of (first ∷ others))
   rising_after n first others h =
-      let P : Told Kind → Type 0 = IsBehind (line_of first) (Same (kind_of first)) in
+      let P : Message Kind → Type 0 = IsBehind (line_of first) (Same (kind_of first)) in
       let later = all_later (line_of first + 1) others h.1 in
-      All-cons P (told_of first) (map told_of others) (inr (refl, refl))
-      (All-map P told_of others (All-weaker (λ x. line_of first + 1 ≤ line_of x) (λ x. P (told_of x)) (λ x le. inl (omega arith)) others later))
+      All-cons P (message_of first) (map message_of others) (inr (refl, refl))
+      (All-map P message_of others (All-weaker (λ x. line_of first + 1 ≤ line_of x) (λ x. P (message_of x)) (λ x le. inl (omega arith)) others later))
 
-  pub least_of_rising : (fault_of : Cause → Option (Kind × ℕ)) (of : Kind → FaultKind) → ((kind : Kind) (n : ℕ) → fault_of (Fault (of kind) n) ≡ Some (kind, n)) → (above n : ℕ) (first : X) (others : List X) → Rise n (map line_of (first ∷ others)) → IsLeast fault_of (Same (kind_of first)) (map (λ x. said_told of above (told_of x)) (first ∷ others)) (kind_of first) (line_of first)
+  pub least_of_rising : (fault_of : Cause → Option (Kind × ℕ)) (of : Kind → FaultKind) → ((kind : Kind) (n : ℕ) → fault_of (Fault (of kind) n) ≡ Some (kind, n)) → (above n : ℕ) (first : X) (others : List X) → Rise n (map line_of (first ∷ others)) → IsLeast fault_of (Same (kind_of first)) (map (λ x. message_said of above (message_of x)) (first ∷ others)) (kind_of first) (line_of first)
   least_of_rising fault_of of is above n first others h =
-      subst (λ (xs : List Said). IsLeast fault_of (Same (kind_of first)) xs (kind_of first) (line_of first)) (map-map (said_told of above) told_of (first ∷ others))
-      (least_said fault_of of is (Same (kind_of first)) above (told_of first) (map told_of others) (kind_of first) (line_of first) refl refl (rising_after n first others h))
+      subst (λ (xs : List Said). IsLeast fault_of (Same (kind_of first)) xs (kind_of first) (line_of first)) (map-map (message_said of above) message_of (first ∷ others))
+      (least_said fault_of of is (Same (kind_of first)) above (message_of first) (map message_of others) (kind_of first) (line_of first) refl refl (rising_after n first others h))

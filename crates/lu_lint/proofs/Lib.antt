@@ -10,7 +10,7 @@ pub mod SettingUp
 pub mod Played
 pub mod LineNumbers
 pub mod LearntHints
-pub mod FaultsTold
+pub mod FaultsSaid
 pub mod Signed
 pub mod FurtherParts
 pub mod LeastLines

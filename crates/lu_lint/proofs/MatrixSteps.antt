@@ -12,7 +12,7 @@ use Rattle.lu_lint.specs.Said.{said_faults}
 use Rattle.lu_lint.specs.declared.remark.FaultKind.TheVariants as part
 use Rattle.lu_lint.specs.declared.remark.Position.{Position}
 use Rattle.lu_lint.specs.Lint as lint
-use Rattle.lu_lint.specs.Lint.{end_told, told_on, told_beside, faults_after, with_words}
+use Rattle.lu_lint.specs.Lint.{end_messages, line_messages, messages_beside, faults_after, with_words}
 use Rattle.lu_lint.proofs.Going as lines
 use Rattle.lu_lint.specs.Matrix.{FitsBy, LeavesDraft, fault_said, left_by, line_read, matrix_lint, matrix_mend}
 
@@ -60,14 +60,14 @@ pub as_read : (all : List Signature) (at : Position) (d : MatrixDraft) (line : L
 as_read all at d line before now next fault h =
     let r = line_read all d line in
     let same = sym h.fault_is in
-    (r.0, ap (λ (k : Option MatrixFaultKind). (r.0, k)) h.fault_is ∙ both r, h.left_is ∙ ap (λ (k : Option MatrixFaultKind). left_by r.0 line k) same, h.told ∙ ap (λ (k : Option MatrixFaultKind). before ++ fault_said at k) same)
+    (r.0, ap (λ (k : Option MatrixFaultKind). (r.0, k)) h.fault_is ∙ both r, h.left_is ∙ ap (λ (k : Option MatrixFaultKind). left_by r.0 line k) same, h.said ∙ ap (λ (k : Option MatrixFaultKind). before ++ fault_said at k) same)
 
 -- no line is read yet
 pub nothing_by : (all : List Signature) → FitsBy all nothing
 nothing_by all c is same = (nothing_limits, nothing_fits c)
 
--- nothing is told beside the fault of a line
-alone : (all : List Signature) (seen : List ℕ) (n : ℕ) (d : MatrixDraft) (line : List ℕ) (lines : List (List ℕ)) (fault : Option MatrixFaultKind) (above : ℕ) (before : List Said) → before ++ said_faults part.Matrix above (told_beside (matrix_lint all) seen n d line lines fault) ≡ before
+-- nothing is reported beside the fault of a line
+alone : (all : List Signature) (seen : List ℕ) (n : ℕ) (d : MatrixDraft) (line : List ℕ) (lines : List (List ℕ)) (fault : Option MatrixFaultKind) (above : ℕ) (before : List Said) → before ++ said_faults part.Matrix above (messages_beside (matrix_lint all) seen n d line lines fault) ≡ before
 alone all seen n d line lines None above before = append-nil before
 alone all seen n d line lines (Some kind) above before = append-nil before
 
@@ -77,24 +77,24 @@ left_same d line lines None = refl
 left_same d line lines (Some kind) = refl
 
 -- a fault is said of its line
-said_here : (all : List Signature) (at : Position) (d : MatrixDraft) (line : List ℕ) (fault : Option MatrixFaultKind) → fault_said at fault ≡ said_faults part.Matrix at.above (told_on (matrix_lint all) at.seen.items at.line d line fault)
+said_here : (all : List Signature) (at : Position) (d : MatrixDraft) (line : List ℕ) (fault : Option MatrixFaultKind) → fault_said at fault ≡ said_faults part.Matrix at.above (line_messages (matrix_lint all) at.seen.items at.line d line fault)
 said_here all at d line None = refl
 said_here all at d line (Some kind) = refl
 
-said_at_end : (at : Position) (fault : Option MatrixFaultKind) → fault_said at fault ≡ said_faults part.Matrix at.above (end_told at.seen.items at.line [] fault)
+said_at_end : (at : Position) (fault : Option MatrixFaultKind) → fault_said at fault ≡ said_faults part.Matrix at.above (end_messages at.seen.items at.line [] fault)
 said_at_end at None = refl
 said_at_end at (Some kind) = refl
 
--- a line is told or not, and the rest is read from the draft that it leaves
+-- the fault of a line is said, where it has one, and the rest is read from the draft that it leaves
 pub goes_on : (all : List Signature) (at : Position) (d d1 next : MatrixDraft) (fault : Option MatrixFaultKind) (line : List ℕ) (rest : List (List ℕ)) (before now total : List Said)
     → (d1, fault) ≡ going_on d (line_of all d line) → next ≡ left_by d1 line fault → now ≡ before ++ fault_said at fault
     → before ++ said_faults part.Matrix at.above (faults_after (matrix_lint all) at.seen.items at.line d (line ∷ rest)) ≡ total → now ++ said_faults part.Matrix at.above (faults_after (matrix_lint all) (with_words at.seen.items at.line line) (at.line + 1) next rest) ≡ total
 goes_on all at d d1 next fault line rest before now total e left more so_far =
     let l = matrix_lint all in
-    let told = before ++ said_faults part.Matrix at.above (told_on l at.seen.items at.line d1 line fault) in
+    let here = before ++ said_faults part.Matrix at.above (line_messages l at.seen.items at.line d1 line fault) in
     let others = said_faults part.Matrix at.above (faults_after l (with_words at.seen.items at.line line) (at.line + 1) next rest) in
-    let is : now ≡ told = more ∙ ap (λ (x : List Said). before ++ x) (said_here all at d1 line fault) in
-    ap (λ (x : List Said). x ++ others) (is ∙ sym (alone all at.seen.items at.line d1 line rest fault at.above told))
+    let is : now ≡ here = more ∙ ap (λ (x : List Said). before ++ x) (said_here all at d1 line fault) in
+    ap (λ (x : List Said). x ++ others) (is ∙ sym (alone all at.seen.items at.line d1 line rest fault at.above here))
     ∙ lines.goes_on l part.Matrix at.above at.seen.items at.line d d1 next fault line rest rest before total e (left ∙ left_same d1 line rest fault) refl so_far
 
 -- no line is left

@@ -1,9 +1,9 @@
 -- The words of a schedule, word by word, and that the first fault is the reader's.
-use Rattle.std.proofs.Common.{◌≡◌, ℕ, ◌+◌, ◌≤◌, ◌<◌, suc, zero, Bool, true, false, cond, ltb, List, [], ◌∷◌, ◌++◌, length, get_or, take, drop, Option, Some, None, Result, Ok, Err, refl, sym, ap, subst, ◌∙◌, arith, zero-add}
+use Rattle.std.proofs.Common.{◌≡◌, ℕ, ◌+◌, ◌≤◌, ◌<◌, suc, zero, Bool, true, false, cond, ltb, List, [], ◌∷◌, ◌++◌, length, get_or, take, drop, map, Option, Some, None, Result, Ok, Err, refl, sym, ap, subst, ◌∙◌, arith, zero-add}
 use Rattle.std.specs.List.{flat_map, slice_split}
-use Rattle.std.specs.Prelude.{◌==◌}
+use Rattle.std.specs.Prelude.{◌==◌, min}
 use Rattle.std.proofs.lemmas.Bool.{ltb-true, ltb-false}
-use Rattle.std.proofs.lemmas.List.{append_assoc, append-nil, map-append, take_all, take-map, length-map}
+use Rattle.std.proofs.lemmas.List.{append_assoc, append-nil, map-append, take-map, take_min}
 use Rattle.lu_text.specs.Lines.{texts}
 use Rattle.lu_text.proofs.Reading.{text_more, texts_end}
 use Rattle.lu_test.specs.declared.schedule.Move.{Move}
@@ -13,14 +13,14 @@ use Rattle.lu_test.specs.ScheduleText.{◌>>=◌, move_of, moves_of, moves_by, m
 use Rattle.lu_test.specs.ScheduleGoing.{words_by, schedule_line_words, schedule_words, moves_said}
 use Rattle.lu_lint.specs.declared.remark.Said.{Said}
 use Rattle.lu_lint.specs.declared.remark.FaultKind.TheVariants as part
-use Rattle.lu_lint.specs.Lint.{told_here}
+use Rattle.lu_lint.specs.Lint.{message_here}
 use Rattle.lu_lint.specs.Said.{said_faults}
-use Rattle.lu_lint.specs.Schedule.{fault_of, word_faults, length_faults, words_faults, form_faults, schedule_faults, schedule_said, schedule_told, AgreeOn}
+use Rattle.lu_lint.specs.Schedule.{fault_of, word_faults, length_faults, words_faults, form_faults, schedule_faults, schedule_said, AgreeOn}
 use Rattle.lu_lint.proofs.Going.{said_more}
 use denote.Ref.{Bor}
 
 pub said_both : (above : ℕ) (xs ys : List ScheduleFault) → schedule_said above (xs ++ ys) ≡ schedule_said above xs ++ schedule_said above ys
-said_both above xs ys = ap (said_faults part.Schedule above) (map-append (told_here 1) xs ys) ∙ said_more part.Schedule above (schedule_told xs) (schedule_told ys)
+said_both above xs ys = ap (said_faults part.Schedule above) (map-append (message_here 1) xs ys) ∙ said_more part.Schedule above (map (message_here 1) xs) (map (message_here 1) ys)
 
 -- one word more
 pub goes_on : (words : List (Bor (List ℕ))) (i : ℕ) (d : Bor (List ℕ)) (above : ℕ) (before next total : List Said) → i < length words → next ≡ before ++ schedule_said above (word_faults (get_or words i d).now)
@@ -35,11 +35,8 @@ pub ends : (words : List (Bor (List ℕ))) (i above : ℕ) (before total : List 
 ends words i above before total within so_far = sym (append-nil before) ∙ (rw (texts_end words i within) at so_far)
 
 -- the first words
-pub all_first : (words : List (Bor (List ℕ))) → length words ≤ 4112 → texts words ≡ take 4113 (texts words)
-all_first words few = sym (take_all 4113 (texts words) (let same : length (texts words) ≡ length words = simp length-map in omega arith))
-
-pub some_first : (words front : List (Bor (List ℕ))) → front ≡ take 4113 words → texts front ≡ take 4113 (texts words)
-some_first words front e = ap texts e ∙ sym (take-map (λ (w : Bor (List ℕ)). w.now) 4113 words)
+pub first_texts : (words front : List (Bor (List ℕ))) → front ≡ take (min 4113 (length words)) words → texts front ≡ take 4113 (texts words)
+first_texts words front e = ap texts (e ∙ take_min 4113 words) ∙ sym (take-map (λ (w : Bor (List ℕ)). w.now) 4113 words)
 
 -- of the words, and then of their number
 pub both : (above : ℕ) (all one two : List Said) (front words : List (List ℕ)) → one ≡ all ++ schedule_said above (flat_map word_faults front) → front ≡ take 4113 words → two ≡ one ++ schedule_said above (length_faults words) → two ≡ all ++ schedule_said above (words_faults words)

@@ -49,12 +49,12 @@ use Rattle.lu_lint.specs.Bundle.{PartsSaid, component_read, component_said, is_b
 use Rattle.lu_lint.specs.Component.{component_lint, jumps}
 use Rattle.lu_lint.specs.Further.{AfterMatrix, AfterThird, FourthSaid, fifth_said}
 use Rattle.lu_lint.specs.Least.{ComponentLeast, FourthLeast, FurtherLeast, LeastIsReaders, MatrixLeast, NoneSaid, PartsLeast, ReadersAreLeast, ReadsOrLeast, ReportLeast, Same, SameOrJump, ScheduleFirst, SpecificationLeast, ThirdLeast, component_fault, matrix_fault, report_fault, schedule_fault, specification_fault}
-use Rattle.lu_lint.specs.Lint.{Told, faults_in, told_here}
+use Rattle.lu_lint.specs.Lint.{Message, faults_in, message_here}
 use Rattle.lu_lint.specs.Matrix.{lint_of, matrix_lint}
 use Rattle.lu_lint.specs.Signatures.{signatures_meant}
 use Rattle.lu_lint.specs.Runs.{RunsSaid}
-use Rattle.lu_lint.specs.Said.{SaysFurther, above_next, line_below, said_faults, said_of_text, said_told}
-use Rattle.lu_lint.specs.Schedule.{AgreeOn, schedule_faults, schedule_said, schedule_told}
+use Rattle.lu_lint.specs.Said.{SaysFurther, above_next, line_below, said_faults, said_of_text, message_said}
+use Rattle.lu_lint.specs.Schedule.{AgreeOn, schedule_faults, schedule_said}
 use Rattle.lu_lint.specs.Parts.{ReportSaid, SaidOfSome, SpecificationSaid, PartSaid, histories_of, histories_said, history_said, report_said, specification_said, kind_of}
 use Rattle.lu_lint.specs.Warnings.{holds, possible_of_lines, warned}
 use Rattle.lu_lint.proofs.Going.{component_agrees, matrix_agrees}
@@ -121,8 +121,8 @@ no_specification _ h = refl
 none_of : {Kind : Type 0} (fault_of : Cause → Option (Kind × ℕ)) (p : ℕ) → ((c : Cause) → (part_of c ≡ p → ⊥) → fault_of c ≡ None) → (said : List Said) → AreNot p said → NoneSaid fault_of said
 none_of fault_of p law said are = All-weaker (λ s. part_of s.cause ≡ p → ⊥) (λ s. fault_of s.cause ≡ None) (λ s h. law s.cause h) said are
 
-faults_of : {Kind : Type 0} (of : Kind → FaultKind) (p : ℕ) → ((kind : Kind) (n : ℕ) → part_of (Fault (of kind) n) ≡ p) → (above : ℕ) (faults : List (Told Kind)) → AreOf p (said_faults of above faults)
-faults_of of p is above faults = All-map (λ s. part_of s.cause ≡ p) (said_told of above) faults (λ k d h. is _ _)
+faults_of : {Kind : Type 0} (of : Kind → FaultKind) (p : ℕ) → ((kind : Kind) (n : ℕ) → part_of (Fault (of kind) n) ≡ p) → (above : ℕ) (faults : List (Message Kind)) → AreOf p (said_faults of above faults)
+faults_of of p is above faults = All-map (λ s. part_of s.cause ≡ p) (message_said of above) faults (λ k d h. is _ _)
 
 -- ---- what is said of the first two parts, of the lines between the parts, and by runs
 
@@ -162,12 +162,12 @@ report_are : (above : ℕ) (text : List ℕ) (said : List Said) → ReportSaid a
 report_are above text said h = subst (AreOf 4) (sym h.2) (All-map (λ s. part_of s.cause ≡ 4) (report_said above) h.0 (λ k d within. refl))
 
 schedule_are : (above : ℕ) (text : List ℕ) (said : List Said) → said ≡ schedule_said above (schedule_faults text) → AreOf 3 said
-schedule_are above text said h = subst (AreOf 3) (sym h) (faults_of part.Schedule 3 (λ k n. refl) above (schedule_told (schedule_faults text)))
+schedule_are above text said h = subst (AreOf 3) (sym h) (faults_of part.Schedule 3 (λ k n. refl) above (map (message_here 1) (schedule_faults text)))
 
 history_are : {A : Type 0} (above : ℕ) (r : Result A (Refused RecordedFaultKind)) → AreOf 6 (history_said above r)
 history_are above (Ok x) = All-nil (λ s. part_of s.cause ≡ 6)
 history_are above (Err Memory) = All-nil (λ s. part_of s.cause ≡ 6)
-history_are above (Err (At kind n)) = All-cons (λ s. part_of s.cause ≡ 6) (said_told part.History above (told_here n kind)) [] refl (All-nil (λ s. part_of s.cause ≡ 6))
+history_are above (Err (At kind n)) = All-cons (λ s. part_of s.cause ≡ 6) (message_said part.History above (message_here n kind)) [] refl (All-nil (λ s. part_of s.cause ≡ 6))
 
 histories_are : (m : Matrix) (above : ℕ) (texts : List (List ℕ)) → AreOf 6 (histories_said m above texts)
 histories_are m above [] = All-nil (λ s. part_of s.cause ≡ 6)
@@ -230,22 +230,22 @@ specs_rise m (first ∷ lines) faults h = subst (λ (fs : List SpecLineFault). R
 -- of a text with marks
 free_rises : (m : Matrix) (begun : Bool) (n : ℕ) (gathered : List (List MarkedOp)) (lines : List (List ℕ)) (faults : List SpecLineFault) → free.AreFreeFaultsFrom m gathered (listing_from begun n lines) faults → Rise n (map (λ f. f.line) faults)
 free_rises m begun n gathered [] faults h = subst (λ (fs : List SpecLineFault). Rise n (map (λ f. f.line) fs)) (sym h) tt
-free_rises m begun n gathered (line ∷ lines) faults h = go (lists begun (words_of line)) (λ g fs told. free_rises m (has_begun begun (words_of line)) (n + 1) g lines fs told) h
+free_rises m begun n gathered (line ∷ lines) faults h = go (lists begun (words_of line)) (λ g fs listed. free_rises m (has_begun begun (words_of line)) (n + 1) g lines fs listed) h
   where
     one : (fault : Option SpecLineFault) (after : List (List MarkedOp)) (others : List SpecLineFault) → free.IsFreelyJudged m gathered (n, words_of line) fault after → Rise (n + 1) (map (λ f. f.line) others) → Rise n (map (λ f. f.line) (option_to_list fault ++ others))
     one None after others judged later = rise_sooner n (n + 1) _ (omega arith) later
     one (Some f) after others judged later = (omega (arith, judged.0), subst (λ (k : ℕ). Rise (k + 1) (map (λ f. f.line) others)) (sym judged.0) later)
 
     go : (b : Bool) → ((g : List (List MarkedOp)) (fs : List SpecLineFault) → free.AreFreeFaultsFrom m g (listing_from (has_begun begun (words_of line)) (n + 1) lines) fs → Rise (n + 1) (map (λ f. f.line) fs)) → free.AreFreeFaultsFrom m gathered ((cond b ((n, words_of line) ∷ []) []) ++ listing_from (has_begun begun (words_of line)) (n + 1) lines) faults → Rise n (map (λ f. f.line) faults)
-    go false later told = rise_sooner n (n + 1) _ (omega arith) (later gathered faults told)
-    go true later told = subst (λ (fs : List SpecLineFault). Rise n (map (λ f. f.line) fs)) (sym told.5) (one told.0 told.1 told.2 told.3 (later told.1 told.2 told.4))
+    go false later listed = rise_sooner n (n + 1) _ (omega arith) (later gathered faults listed)
+    go true later listed = subst (λ (fs : List SpecLineFault). Rise n (map (λ f. f.line) fs)) (sym listed.5) (one listed.0 listed.1 listed.2 listed.3 (later listed.1 listed.2 listed.4))
 
 given_rise : (m : Matrix) (text : List ℕ) (faults : List SpecLineFault) → free.AreGivenFaults m text faults → Rise 1 (map (λ f. f.line) faults)
 given_rise m text faults are = go (has_free_entries text) are
   where
     go : (b : Bool) → MatchBool b (free.AreFreeFaults m text faults) (specification.AreSpecFaults m text faults) → Rise 1 (map (λ f. f.line) faults)
-    go true told = free_rises m false 1 [] (lines_of text) faults told
-    go false told = specs_rise m (kept_lines text) faults told
+    go true listed = free_rises m false 1 [] (lines_of text) faults listed
+    go false listed = specs_rise m (kept_lines text) faults listed
 
 missing_rises : (n : ℕ) (wanted : Option LineForm) → Rise n (map (λ (f : ReportLineFault). f.line) (report.missing n wanted))
 missing_rises n None = tt
@@ -296,16 +296,16 @@ matrix_here c above text =
 specification_here : (m : Matrix) (above : ℕ) (text : List ℕ) (said : List Said) → SpecificationSaid m above text said → SpecificationLeast (Some m) text said
 specification_here m above text said h = subst (SpecificationLeast (Some m) text) (sym h.2) (go h.0 (given_told m text h.0 h.1) (given_rise m text h.0 h.1))
   where
-    go : (faults : List SpecLineFault) → free.IsGivenToldAsRead m text faults → Rise 1 (map (λ f. f.line) faults) → SpecificationLeast (Some m) text (map (specification_said above) faults)
-    go [] told rise = inl (told, All-nil (λ s. specification_fault s.cause ≡ None))
-    go (first ∷ others) told rise = inr (first.kind, first.line, told, least_of_rising (λ (f : SpecLineFault). f.line) (λ (f : SpecLineFault). f.kind) specification_fault part.Specification (λ k n. refl) above 1 first others rise)
+    go : (faults : List SpecLineFault) → free.IsGivenListedAsRead m text faults → Rise 1 (map (λ f. f.line) faults) → SpecificationLeast (Some m) text (map (specification_said above) faults)
+    go [] listed rise = inl (listed, All-nil (λ s. specification_fault s.cause ≡ None))
+    go (first ∷ others) listed rise = inr (first.kind, first.line, listed, least_of_rising (λ (f : SpecLineFault). f.line) (λ (f : SpecLineFault). f.kind) specification_fault part.Specification (λ k n. refl) above 1 first others rise)
 
 report_here : (above : ℕ) (text : List ℕ) (said : List Said) → ReportSaid above text said → ReportLeast text said
-report_here above text said h = subst (ReportLeast text) (sym h.2) (go h.0 (form_lines.told_as_read text h.0 h.1) (reports_rise _ 1 (kept_lines text) _ h.0 h.1))
+report_here above text said h = subst (ReportLeast text) (sym h.2) (go h.0 (form_lines.listed_as_read text h.0 h.1) (reports_rise _ 1 (kept_lines text) _ h.0 h.1))
   where
-    go : (faults : List ReportLineFault) → reports.IsToldAsRead text faults → Rise 1 (map (λ f. f.line) faults) → ReportLeast text (map (report_said above) faults)
-    go [] told rise = inl (told, All-nil (λ s. report_fault s.cause ≡ None))
-    go (first ∷ others) told rise = inr (Form, first.line, told, least_of_rising (λ (f : ReportLineFault). f.line) (λ (f : ReportLineFault). Form) report_fault part.Report (λ k n. refl) above 1 first others rise)
+    go : (faults : List ReportLineFault) → reports.IsListedAsRead text faults → Rise 1 (map (λ f. f.line) faults) → ReportLeast text (map (report_said above) faults)
+    go [] listed rise = inl (listed, All-nil (λ s. report_fault s.cause ≡ None))
+    go (first ∷ others) listed rise = inr (Form, first.line, listed, least_of_rising (λ (f : ReportLineFault). f.line) (λ (f : ReportLineFault). Form) report_fault part.Report (λ k n. refl) above 1 first others rise)
 
 -- ---- among what is said of all parts
 
@@ -363,8 +363,8 @@ no_fourth_after_history m (text ∷ texts) said = tt
 abbrev of_schedule : Said → Option ScheduleFault
 of_schedule s = schedule_fault s.cause
 
-told_on_first : (above : ℕ) (faults : List ScheduleFault) → All (λ t. IsOfKey (λ (s : Said). s.line) of_schedule (line_below above 1) (said_told part.Schedule above t)) (schedule_told faults)
-told_on_first above faults = All-map (λ t. IsOfKey (λ (s : Said). s.line) of_schedule (line_below above 1) (said_told part.Schedule above t)) (told_here 1) faults (λ k d h. inr refl)
+messages_on_first : (above : ℕ) (faults : List ScheduleFault) → All (λ t. IsOfKey (λ (s : Said). s.line) of_schedule (line_below above 1) (message_said part.Schedule above t)) (map (message_here 1) faults)
+messages_on_first above faults = All-map (λ t. IsOfKey (λ (s : Said). s.line) of_schedule (line_below above 1) (message_said part.Schedule above t)) (message_here 1) faults (λ k d h. inr refl)
 
 no_schedule_in : (said : List Said) → AreNot 3 said → All (λ s. of_schedule s ≡ None) said
 no_schedule_in said are = All-weaker (λ s. part_of s.cause ≡ 3 → ⊥) (λ s. of_schedule s ≡ None) (λ s h. no_schedule s.cause h) said are
@@ -408,7 +408,7 @@ module _ (first third behind runs found said : List Said) (parts : found ≡ (fi
       let none_after = no_schedule_in behind not_after in
       let none_runs = no_schedule_in runs (not_other 3 0 runs (λ e. omega arith) are_runs) in
       let left : (xs : List Said) → All (λ s. of_schedule s ≡ None) xs → All P xs = λ xs none. All-weaker (λ s. of_schedule s ≡ None) P (λ s e. inl e) xs none in
-      let here : All P third = subst (All P) (sym is) (All-map P _ (schedule_told (schedule_faults text)) (told_on_first above (schedule_faults text))) in
+      let here : All P third = subst (All P) (sym is) (All-map P _ (map (message_here 1) (schedule_faults text)) (messages_on_first above (schedule_faults text))) in
       let all : All P found = subst (All P) (sym parts) (All-append P (first ++ (third ++ behind)) runs (All-append P first (third ++ behind) (left first none_first) (All-append P third behind here (left behind none_after))) (left runs none_runs)) in
       let same : filter_map of_schedule said ≡ schedule_faults text =
       picked_alike key of_schedule place one found said refl moved stable all
@@ -472,31 +472,31 @@ module _ (component : List ℕ) (lines : List (List ℕ)) (behind further runs f
   component_least : AreNot 1 further → ComponentLeast component said
   component_least not_further =
       let r = meaning_of component_grammar component in
-      let told = said_of_text component_lint 0 component in
+      let reported = said_of_text component_lint 0 component in
       let warned = warnings_said (component_read component) (lines_of component) in
       let separators = separators_from 1 lines in
       let none : (xs : List Said) → AreNot 1 xs → NoneSaid component_fault xs = none_of component_fault 1 no_component in
       readers_moved component_fault SameOrJump r found said moved
       (subst (LeastIsReaders component_fault SameOrJump r) (sym parts)
-      (readers_left component_fault SameOrJump r ((separators ++ ((told ++ warned) ++ behind)) ++ further) runs (none runs (not_other 1 0 runs (λ e. omega arith) are_runs))
-      (readers_left component_fault SameOrJump r (separators ++ ((told ++ warned) ++ behind)) further (none further not_further)
-      (readers_right component_fault SameOrJump r separators ((told ++ warned) ++ behind) (none separators (not_other 1 0 separators (λ e. omega arith) (separators_are 1 lines)))
-      (readers_left component_fault SameOrJump r (told ++ warned) behind (none behind (not_other 1 2 behind (λ e. omega arith) are_after))
-      (readers_left component_fault SameOrJump r told warned (none warned (not_other 1 0 warned (λ e. omega arith) (warnings_are (component_read component) (lines_of component)))) (component_here component)))))))
+      (readers_left component_fault SameOrJump r ((separators ++ ((reported ++ warned) ++ behind)) ++ further) runs (none runs (not_other 1 0 runs (λ e. omega arith) are_runs))
+      (readers_left component_fault SameOrJump r (separators ++ ((reported ++ warned) ++ behind)) further (none further not_further)
+      (readers_right component_fault SameOrJump r separators ((reported ++ warned) ++ behind) (none separators (not_other 1 0 separators (λ e. omega arith) (separators_are 1 lines)))
+      (readers_left component_fault SameOrJump r (reported ++ warned) behind (none behind (not_other 1 2 behind (λ e. omega arith) are_after))
+      (readers_left component_fault SameOrJump r reported warned (none warned (not_other 1 0 warned (λ e. omega arith) (warnings_are (component_read component) (lines_of component)))) (component_here component)))))))
 
   matrix_least : (matrix : List ℕ) → behind ≡ matrix_said (component_read component) (above_next 0 component) matrix → AreNot 2 further → MatrixLeast (component_read component) matrix said
   matrix_least matrix is not_further =
       let c = component_read component in
-      let told = said_of_text component_lint 0 component in
+      let reported = said_of_text component_lint 0 component in
       let warned = warnings_said c (lines_of component) in
       let separators = separators_from 1 lines in
       let here : MatrixLeast c matrix behind = subst (MatrixLeast c matrix) (sym is) (judged_here c (above_next 0 component) matrix) in
       matrix_moved c matrix found said moved
       (subst (MatrixLeast c matrix) (sym parts)
-      (matrix_left c matrix ((separators ++ ((told ++ warned) ++ behind)) ++ further) runs (not_other 2 0 runs (λ e. omega arith) are_runs)
-      (matrix_left c matrix (separators ++ ((told ++ warned) ++ behind)) further not_further
-      (matrix_right c matrix separators ((told ++ warned) ++ behind) (not_other 2 0 separators (λ e. omega arith) (separators_are 1 lines))
-      (matrix_right c matrix (told ++ warned) behind (not_both 2 told warned (not_other 2 1 told (λ e. omega arith) (faults_of part.Component 1 (λ k n. refl) 0 (faults_in component_lint component))) (not_other 2 0 warned (λ e. omega arith) (warnings_are c (lines_of component)))) here)))))
+      (matrix_left c matrix ((separators ++ ((reported ++ warned) ++ behind)) ++ further) runs (not_other 2 0 runs (λ e. omega arith) are_runs)
+      (matrix_left c matrix (separators ++ ((reported ++ warned) ++ behind)) further not_further
+      (matrix_right c matrix separators ((reported ++ warned) ++ behind) (not_other 2 0 separators (λ e. omega arith) (separators_are 1 lines))
+      (matrix_right c matrix (reported ++ warned) behind (not_both 2 reported warned (not_other 2 1 reported (λ e. omega arith) (faults_of part.Component 1 (λ k n. refl) 0 (faults_in component_lint component))) (not_other 2 0 warned (λ e. omega arith) (warnings_are c (lines_of component)))) here)))))
 
 -- the parts after the matrix
 further_least : (m : Option Matrix) (above : ℕ) (texts : List (List ℕ)) (first further runs found said : List Said) → found ≡ (first ++ further) ++ runs → IsPermutation found said → IsStableByKey (λ s. s.line) nat_cmp found said → ((p : ℕ) → 3 ≤ p → AreNot p first) → AreOf 0 runs → AfterMatrix m above texts further → FurtherLeast m texts said
@@ -523,17 +523,17 @@ by_parts bound (component ∷ matrix ∷ rest) lines found said h moved stable =
     let m = matrix_read c matrix in
     let above = above_next (above_next 0 component) matrix in
     let behind = matrix_said c (above_next 0 component) matrix in
-    let told = h.1.1 in
-    let further = told.0 in
-    let runs = told.1 in
+    let on = h.1.1 in
+    let further = on.0 in
+    let runs = on.1 in
     let first = separators_from 1 lines ++ (component_said component ++ behind) in
     let all : found ≡ (first ++ further) ++ runs =
-    h.2 ∙ (ap (λ (x : List Said). separators_from 1 lines ++ x) (h.1.2 ∙ ap (λ (x : List Said). component_said component ++ x) told.4) ∙ in_order (separators_from 1 lines) (component_said component) behind further runs) in
+    h.2 ∙ (ap (λ (x : List Said). separators_from 1 lines ++ x) (h.1.2 ∙ ap (λ (x : List Said). component_said component ++ x) on.4) ∙ in_order (separators_from 1 lines) (component_said component) behind further runs) in
     let are_after = matrix_are c (above_next 0 component) matrix in
-    let are_runs = runs_are bound c m (above_next 0 component) matrix runs told.3 in (
-      component_least component lines behind further runs found said all moved are_after are_runs (further_not 1 (omega arith) (omega arith) m above rest further told.2),
-      matrix_least component lines behind further runs found said all moved are_after are_runs matrix refl (further_not 2 (omega arith) (omega arith) m above rest further told.2),
-      further_least m above rest first further runs found said all moved stable (λ p le. lines_not p (λ e. omega arith) (λ e. omega arith) (λ e. omega arith) 1 lines component behind are_after) are_runs told.2,
+    let are_runs = runs_are bound c m (above_next 0 component) matrix runs on.3 in (
+      component_least component lines behind further runs found said all moved are_after are_runs (further_not 1 (omega arith) (omega arith) m above rest further on.2),
+      matrix_least component lines behind further runs found said all moved are_after are_runs matrix refl (further_not 2 (omega arith) (omega arith) m above rest further on.2),
+      further_least m above rest first further runs found said all moved stable (λ p le. lines_not p (λ e. omega arith) (λ e. omega arith) (λ e. omega arith) 1 lines component behind are_after) are_runs on.2,
     )
 
 pub readers_are_least : ReadersAreLeast

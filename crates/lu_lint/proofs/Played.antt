@@ -39,9 +39,6 @@ entries-push (x ∷ h) e = ap (λ (y : List SerialOp). entry_of x ++ y) (entries
 pub entries_more : (h : List Event) (i : ℕ) (d : Event) (before next : List SerialOp) → i < length h → before ≡ entries_of (take i h) → next ≡ before ++ entry_of (get_or h i d) → next ≡ entries_of (take (i + 1) h)
 entries_more h i d before next within is more = rw (take_more h i d within) (more ∙ (ap (λ (y : List SerialOp). y ++ entry_of (get_or h i d)) is ∙ sym (entries-push (take i h) (get_or h i d))))
 
-pub entries_all : (h : List Event) (i : ℕ) (entries : List SerialOp) → length h ≤ i → entries ≡ entries_of (take i h) → entries ≡ entries_of h
-entries_all h i entries past is = is ∙ ap entries_of (take_all i h past)
-
 pub cut_shown : (c : Component) (matrix : Matrix) (u : List Move) (history : List Event) (hints : List SerialHint) → FromEachStart c matrix (ShowsHistory u history) → hints ≡ cut_hints history → FromEachStart c matrix (HintsOfCut u hints)
 cut_shown c matrix u history hints plays is = λ s start.
     (let played = plays s start in (played.0, history, played.1, is))

@@ -1,5 +1,5 @@
 -- Warnings, line by line.
-use Rattle.std.proofs.Common.{◌≡◌, ℕ, ◌+◌, ◌<◌, Bool, true, false, cond, add-one, List, [], ◌∷◌, ◌++◌, get_or, length, take, map, filter, Option, Some, None, Result, Ok, Err, refl, sym, ap, ◌∙◌}
+use Rattle.std.proofs.Common.{◌≡◌, ℕ, ◌+◌, ◌<◌, Bool, true, false, cond, add-one, List, [], ◌∷◌, ◌++◌, get_or, length, replicate, take, map, filter, Option, Some, None, Result, Ok, Err, refl, sym, ap, ◌∙◌}
 use Rattle.std.specs.Prelude.{◌&&◌, is_none, is_some, not}
 use Rattle.std.specs.List.{cons_option}
 use Rattle.std.specs.Option.{unwrap_or}
@@ -64,15 +64,15 @@ finds_on true none found more hints seen n d f f1 next fault line after rest tot
     plain : meant_as f line ≡ line
     plain = ap (λ (o : Option (List ℕ)). unwrap_or o line) (ap (λ (ms : List MeantName). meant_line (record { draft = f.draft; meant = ms }) line) h.0 ∙ same_line f.draft line)
 
-    told : more ≡ found ++ here
-    told = also ∙ ap (λ (xs : List FoundHint). found ++ map (possible seen n) xs) (are ∙ ap (λ (x : ComponentDraft). line_hints x line) inside)
+    all_found : more ≡ found ++ here
+    all_found = also ∙ ap (λ (xs : List FoundHint). found ++ map (possible seen n) xs) (are ∙ ap (λ (x : ComponentDraft). line_hints x line) inside)
 
     go : (r : Result ComponentDraft LangFaultKind) → line_of f.draft (meant_as f line) ≡ r → (f1, fault) ≡ going_on f (with_draft f r) → Finds (true && is_none fault) more (with_words seen n line) (n + 1) next rest total
     go (Ok y) read g =
         let same : f1 ≡ record f { draft = y } = ap (λ (x : FaultyDraft × Option LangFaultKind). x.0) g in
         let free : fault ≡ None = ap (λ (x : FaultyDraft × Option LangFaultKind). x.1) g in
         let from : y ≡ next_draft f.draft line = ap (λ (r : Result ComponentDraft LangFaultKind). (going_on f.draft r).0) (sym read ∙ ap (line_of f.draft) plain) in
-        let all : more ++ others y ≡ total = ap (λ (x : List Possible). x ++ others y) told ∙ (ap (λ (x : ComponentDraft). (found ++ here) ++ others x) from ∙ (append_assoc found here (others (next_draft f.draft line)) ∙ h.1)) in
+        let all : more ++ others y ≡ total = ap (λ (x : List Possible). x ++ others y) all_found ∙ (ap (λ (x : ComponentDraft). (found ++ here) ++ others x) from ∙ (append_assoc found here (others (next_draft f.draft line)) ∙ h.1)) in
         rw (left, free, same) (h.0, all)
     go (Err kind) read g =
         let some : fault ≡ Some kind = ap (λ (x : FaultyDraft × Option LangFaultKind). x.1) g in
@@ -112,7 +112,7 @@ held_more c r warnings all these next is e more =
     rw (more, e, is) (map-append (λ r. r.said) all (remarks_held c warnings) ∙ ap (λ (x : List Said). said_of all ++ x) (remarks_said c warnings))
 
 -- no round is made
-pub no_round : (b : OpenOp) (row : List Bool) → row ≡ map (λ s. false) b.statements → row ≡ returns_within b 0
+pub no_round : (b : OpenOp) (row : List Bool) → row ≡ replicate (length b.statements) false → row ≡ returns_within b 0
 unfolding returns_within
 no_round b row e = e
 

@@ -1,4 +1,4 @@
--- What the lines of a text are read as, beside the faults that are told of them.
+-- What the lines of a text are read as, beside the faults that are reported of them.
 use Rattle.std.proofs.Common.{◌≡◌, ℕ, ◌+◌, Bool, true, false, List, [], ◌∷◌, ◌++◌, Option, Some, None, Result, Ok, Err, refl, sym, ap, subst, ◌∙◌}
 use Rattle.std.specs.Prelude.{Vec, ◌==◌, ◌&&◌, IfSome, IsSome, is_none, is_some, length, not}
 use Rattle.std.specs.Option.{unwrap_or}

@@ -15,12 +15,11 @@ use Rattle.lu_test.specs.Matrix.{Matrix}
 use Rattle.lu_test.specs.MatrixText.{matrix_grammar}
 use Rattle.lu_lint.specs.Further.{AfterMatrix}
 use Rattle.lu_lint.specs.Component.{component_lint, faulty_of_lines, read_of_lines, read_or_left}
-use Rattle.lu_lang.specs.Faulty.{FaultyDraft}
 use Rattle.lu_lint.specs.Matrix.{lint_of, matrix_lint}
 use Rattle.lu_lint.specs.declared.component.ReadComponent.{ReadComponent}
 use Rattle.lu_lint.specs.declared.component.ReadComponent.TheVariants as read
 use Rattle.lu_lint.specs.Signatures.{signatures_meant}
-use Rattle.lu_lint.specs.Said.{SaysAndReads, SaysFurther, SaysSuch, above_next, said_of_lines, said_of_text}
+use Rattle.lu_lint.specs.Said.{SaysAndReads, SaysFurther, above_next, said_of_lines, said_of_text}
 use Rattle.lu_lint.specs.Warnings.{Possible, held, warnings_of_lines}
 use Rattle.lu_lint.specs.Runs.{RunsSaid}
 
@@ -53,17 +52,13 @@ abbrev pub matrix_read : ReadComponent → List ℕ → Option Matrix
 matrix_read (read.Faulty f) text = None
 matrix_read (read.Sound c) text = result_ok (meaning_of (matrix_grammar c) text)
 
--- what is said of a matrix after a component with faults: by the signatures that it was to have,
--- where these are no more than a component may have
-abbrev pub said_after_faulty : FaultyDraft → ℕ → List ℕ → List Said
-said_after_faulty f above text =
+-- what is said of a matrix by its component; after one with faults by the signatures that it was to
+-- have, where these are no more than a component may have
+abbrev pub matrix_said : ReadComponent → ℕ → List ℕ → List Said
+matrix_said (read.Faulty f) above text =
     if nat_le (length (signatures_meant f)) MOST_OPS
     then said_of_text (matrix_lint (signatures_meant f)) above text
     else []
-
--- what is said of a matrix by its component
-abbrev pub matrix_said : ReadComponent → ℕ → List ℕ → List Said
-matrix_said (read.Faulty f) above text = said_after_faulty f above text
 matrix_said (read.Sound c) above text = said_of_text (lint_of c) above text
 
 -- where it succeeds, the matrix is linted: that is said of it, and it is read, where it and its
@@ -99,23 +94,6 @@ abbrev pub LintsComponentLines : {E Y Z : Type 0} → Result (Vec Remark Z × Re
     → Vec Remark Y → List (List ℕ) → Type 0
 LintsComponentLines result before lines =
     SaysAndReads result before (component_lines_said lines) (read_of_lines lines)
-
--- what is said of the parts after a matrix that is read or not, before which this many lines stand,
--- and by runs
-abbrev pub AfterMatrixAndRuns : ℕ → ReadComponent → Option Matrix → ℕ → List ℕ → List (List ℕ)
-    → List Said
-    → Type 0
-AfterMatrixAndRuns bound c m above matrix parts said =
-    (further : List Said) × (runs : List Said)
-    × AfterMatrix m (above_next above matrix) parts further
-    × RunsSaid bound c m above matrix runs
-    × (said ≡ further ++ runs)
-
--- where it succeeds, that is said too, after what was said before
-abbrev pub SaysRest : {E Y Z : Type 0} → Result (Vec Remark Z) E → Vec Remark Y → ℕ → ReadComponent
-    → Option Matrix → ℕ → List ℕ → List (List ℕ) → Type 0
-SaysRest result before bound c m above matrix parts =
-    SaysSuch result before (AfterMatrixAndRuns bound c m above matrix parts)
 
 -- what is said on a matrix, before which this many lines stand: of it, of the parts after it, and
 -- by runs

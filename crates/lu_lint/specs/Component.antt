@@ -14,7 +14,7 @@ use Rattle.lu_lint.specs.declared.remark.Position.{Position}
 use Rattle.lu_lint.specs.declared.remark.Said.{Said}
 use Rattle.lu_lint.specs.declared.remark.FaultKind.TheVariants as part
 use Rattle.lu_lint.specs.Lint as lint
-use Rattle.lu_lint.specs.Lint.{Lint, draft_after, end_told, told_at, told_on}
+use Rattle.lu_lint.specs.Lint.{Lint, draft_after, end_messages, message_before, line_messages}
 use Rattle.lu_lint.specs.Said.{said_faults}
 
 abbrev pub faulty_backs : FaultyDraft → List ℕ → LangFaultKind → List ℕ
@@ -78,16 +78,16 @@ read_as f sound =
 -- of jumps to labels that are not there, this many lines with words before it
 abbrev pub jumps_said : Position → LangFaultKind → List ℕ → List Said
 jumps_said at kind backs =
-    said_faults part.Component at.above (map (told_at at.seen.items at.line kind) backs)
+    said_faults part.Component at.above (map (message_before at.seen.items at.line kind) backs)
 
 -- of the line, where it has a fault
 abbrev pub line_said : Position → FaultyDraft → List ℕ → Option LangFaultKind → List Said
 line_said at f line fault =
     said_faults part.Component at.above
-    (told_on component_lint at.seen.items at.line f line fault)
+    (line_messages component_lint at.seen.items at.line f line fault)
 
 -- of the end of the text, where it has a fault
 abbrev pub end_said : Position → FaultyDraft → List Said
 end_said at f =
     said_faults part.Component at.above
-    (end_told at.seen.items at.line (faulty_end_others f) (fault_in (faulty_grammar.finish f)))
+    (end_messages at.seen.items at.line (faulty_end_others f) (fault_in (faulty_grammar.finish f)))

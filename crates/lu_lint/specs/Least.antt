@@ -70,7 +70,7 @@ IsNotBefore n kinds (Some fault) = (n < fault.1) ⊎ (fault.1 ≡ n) × kinds fa
 -- n; or it is of line n too, and one of these kinds.
 pub record IsLeast {Kind : Type 0} (fault_of : Cause → Option (Kind × ℕ)) (kinds : Kind → Type 0)
     (said : List Said) (kind : Kind) (n : ℕ) : Type 0 where
-  pub told : Any (λ s. fault_of s.cause ≡ Some (kind, n)) said
+  pub is_said : Any (λ s. fault_of s.cause ≡ Some (kind, n)) said
   pub others : All (λ s. IsNotBefore n kinds (fault_of s.cause)) said
 
 -- a fault of the same line of the part is the same

@@ -8,8 +8,9 @@ use Rattle.lu_text.specs.Words.{Word}
 use Rattle.lu_text.specs.Faults.{Grammar}
 use Rattle.lu_lint.specs.declared.remark.FaultKind.{FaultKind}
 
--- A fault, the line that it is a fault of, and the line that its message is shown on.
-pub record Told (Kind : Type 0) : Type 0 where
+-- The message of a fault: of which kind and of which line the fault is, and on which line it is
+-- shown.
+pub record Message (Kind : Type 0) : Type 0 where
   pub kind : Kind
   pub line : ℕ
   pub shown_on : ℕ
@@ -38,54 +39,54 @@ with_words seen n line = seen_with seen n (words_of line)
 abbrev pub line_before : List ℕ → ℕ → ℕ → ℕ
 line_before seen n back = unwrap_or (slice_get seen (length seen - back)) n
 
--- a fault of line n whose message is shown on this line
-abbrev pub told_there : {Kind : Type 0} → ℕ → Kind → ℕ → Told Kind
-told_there n kind line = record { kind = kind; line = n; shown_on = line }
+-- that of a fault of line n, shown on this line
+abbrev pub message_on : {Kind : Type 0} → ℕ → Kind → ℕ → Message Kind
+message_on n kind line = record { kind = kind; line = n; shown_on = line }
 
--- on the line this many lines with words before it
-abbrev pub told_at : {Kind : Type 0} → List ℕ → ℕ → Kind → ℕ → Told Kind
-told_at seen n kind back = told_there n kind (line_before seen n back)
+-- shown on the line this many lines with words before it
+abbrev pub message_before : {Kind : Type 0} → List ℕ → ℕ → Kind → ℕ → Message Kind
+message_before seen n kind back = message_on n kind (line_before seen n back)
 
--- on its line
-abbrev pub told_here : {Kind : Type 0} → ℕ → Kind → Told Kind
-told_here n kind = told_there n kind n
+-- shown on its line
+abbrev pub message_here : {Kind : Type 0} → ℕ → Kind → Message Kind
+message_here n kind = message_on n kind n
 
--- what is reported of a fault of line n
-abbrev pub told : {Kind : Type 0} → List ℕ → ℕ → Kind → List ℕ → List (Told Kind)
-told seen n kind [] = told_here n kind ∷ []
-told seen n kind (back ∷ backs) = map (told_at seen n kind) (back ∷ backs)
+-- the messages of a fault of line n
+abbrev pub messages : {Kind : Type 0} → List ℕ → ℕ → Kind → List ℕ → List (Message Kind)
+messages seen n kind [] = message_here n kind ∷ []
+messages seen n kind (back ∷ backs) = map (message_before seen n kind) (back ∷ backs)
 
 -- the same, where there is one
-abbrev pub told_on : {Kind Draft Value : Type 0} → Lint Kind Draft Value → List ℕ → ℕ → Draft
+abbrev pub line_messages : {Kind Draft Value : Type 0} → Lint Kind Draft Value → List ℕ → ℕ → Draft
     → List ℕ
     → Option Kind
-    → List (Told Kind)
-told_on l seen n d line None = []
-told_on l seen n d line (Some kind) = told seen n kind (l.backs d line kind)
+    → List (Message Kind)
+line_messages l seen n d line None = []
+line_messages l seen n d line (Some kind) = messages seen n kind (l.backs d line kind)
 
--- what is reported of others beside a fault of line n
-abbrev pub others_told : {Kind : Type 0} → List ℕ → ℕ → List (Kind × ℕ) → List (Told Kind)
-others_told seen n others = map (λ other. told_at seen n other.0 other.1) others
+-- the messages of others beside a fault of line n
+abbrev pub other_messages : {Kind : Type 0} → List ℕ → ℕ → List (Kind × ℕ) → List (Message Kind)
+other_messages seen n others = map (λ other. message_before seen n other.0 other.1) others
 
 -- the same of a line, before these lines, where it has a fault
-abbrev pub told_beside : {Kind Draft Value : Type 0} → Lint Kind Draft Value → List ℕ → ℕ → Draft
+abbrev pub messages_beside : {Kind Draft Value : Type 0} → Lint Kind Draft Value → List ℕ → ℕ → Draft
     → List ℕ
     → List (List ℕ)
     → Option Kind
-    → List (Told Kind)
-told_beside l seen n d line lines None = []
-told_beside l seen n d line lines (Some kind) = others_told seen n (l.others d line lines kind)
+    → List (Message Kind)
+messages_beside l seen n d line lines None = []
+messages_beside l seen n d line lines (Some kind) = other_messages seen n (l.others d line lines kind)
 
 -- the fault of the end, on line n, where there is one, and others beside it
-abbrev pub end_told : {Kind : Type 0} → List ℕ → ℕ → List (Kind × ℕ) → Option Kind
-    → List (Told Kind)
-end_told seen n others None = []
-end_told seen n others (Some kind) = told_here n kind ∷ others_told seen n others
+abbrev pub end_messages : {Kind : Type 0} → List ℕ → ℕ → List (Kind × ℕ) → Option Kind
+    → List (Message Kind)
+end_messages seen n others None = []
+end_messages seen n others (Some kind) = message_here n kind ∷ other_messages seen n others
 
 abbrev pub end_faults : {Kind A : Type 0} → List ℕ → ℕ → List (Kind × ℕ) → Result A Kind
-    → List (Told Kind)
+    → List (Message Kind)
 end_faults seen n others (Ok x) = []
-end_faults seen n others (Err kind) = told_here n kind ∷ others_told seen n others
+end_faults seen n others (Err kind) = message_here n kind ∷ other_messages seen n others
 
 -- the draft from which the lines after a line are read, where the line left this or has a fault
 abbrev pub left_by : {Kind Draft : Type 0} → (Draft → List ℕ → List (List ℕ) → Draft) → Draft
@@ -102,18 +103,18 @@ abbrev pub then_faults : {Kind Draft Value : Type 0} → Lint Kind Draft Value �
     → List ℕ
     → List (List ℕ)
     → Result Draft Kind
-    → (Draft → List (Told Kind))
-    → List (Told Kind)
+    → (Draft → List (Message Kind))
+    → List (Message Kind)
 then_faults l seen n d line lines (Ok next) rest = rest next
 then_faults l seen n d line lines (Err kind) rest =
-    told seen n kind (l.backs d line kind)
-    ++ (others_told seen n (l.others d line lines kind) ++ rest (l.mend d line lines))
+    messages seen n kind (l.backs d line kind)
+    ++ (other_messages seen n (l.others d line lines kind) ++ rest (l.mend d line lines))
 
 -- the faults of these lines, which begin with line n, after this draft
 unfoldable pub faults_after : {Kind Draft Value : Type 0} → Lint Kind Draft Value → List ℕ → ℕ
     → Draft
     → List (List ℕ)
-    → List (Told Kind)
+    → List (Message Kind)
 faults_after l seen n d [] = end_faults seen n (l.end_others d) (l.grammar.finish d)
 faults_after l seen n d (line ∷ lines) =
     then_faults l seen n d line lines (l.grammar.line d line)
@@ -121,17 +122,17 @@ faults_after l seen n d (line ∷ lines) =
 
 -- the faults of a text's lines
 abbrev pub faults_of_lines : {Kind Draft Value : Type 0} → Lint Kind Draft Value → List (List ℕ)
-    → List (Told Kind)
+    → List (Message Kind)
 faults_of_lines l lines = faults_after l [] 1 l.grammar.nothing lines
 
 -- the faults of a text
 abbrev pub faults_in : {Kind Draft Value : Type 0} → Lint Kind Draft Value → List ℕ
-    → List (Told Kind)
+    → List (Message Kind)
 faults_in l text = faults_of_lines l (lines_of text)
 
 -- what a reader and lint say of one text: it is read where there is no fault, and else the first
 -- fault is the reader's
-abbrev pub AgreeOnText : {Kind A : Type 0} → Result A (Fault Kind) → List (Told Kind) → Type 0
+abbrev pub AgreeOnText : {Kind A : Type 0} → Result A (Fault Kind) → List (Message Kind) → Type 0
 AgreeOnText (Ok x) [] = Unit {0}
 AgreeOnText (Ok x) (first ∷ others) = ⊥
 AgreeOnText (Err e) [] = ⊥

@@ -13,8 +13,8 @@ use Rattle.lu_lint.specs.declared.remark.Position.{Position}
 use Rattle.lu_lint.specs.declared.remark.Remark.{Remark}
 use Rattle.lu_lint.specs.declared.remark.Said.{Said}
 use Rattle.lu_lint.specs.declared.remark.FaultKind.TheVariants as part
-use Rattle.lu_lint.specs.Lint.{Lint, told_here}
-use Rattle.lu_lint.specs.Said.{said_of, said_of_lines, said_told}
+use Rattle.lu_lint.specs.Lint.{Lint, message_here}
+use Rattle.lu_lint.specs.Said.{said_of, said_of_lines, message_said}
 
 -- what a line with a fault leaves, whatever stands after it
 abbrev pub matrix_mend : MatrixDraft → List ℕ → List (List ℕ) → MatrixDraft
@@ -44,7 +44,7 @@ left_by d line (Some kind) = mend d line
 -- what is said of a fault of the line that stands here, where it has one
 abbrev pub fault_said : Position → Option MatrixFaultKind → List Said
 fault_said at None = []
-fault_said at (Some kind) = said_told part.Matrix at.above (told_here at.line kind) ∷ []
+fault_said at (Some kind) = message_said part.Matrix at.above (message_here at.line kind) ∷ []
 
 -- the matrix of what lines left that have no fault, or have some
 abbrev pub matrix_if : MatrixDraft → Bool → Option Matrix
@@ -60,7 +60,7 @@ line_read all d line = going_on d (line_of all d line)
 pub record LeavesDraft (all : List Signature) (at : Position) (d : MatrixDraft) (line : List ℕ)
     (before next : List Said) (left : MatrixDraft) (fault : Option MatrixFaultKind)
     : Type 0 where
-  pub told : next ≡ before ++ fault_said at (line_read all d line).1
+  pub said : next ≡ before ++ fault_said at (line_read all d line).1
   pub left_is : left ≡ left_by (line_read all d line).0 line (line_read all d line).1
   pub fault_is : fault ≡ (line_read all d line).1
 

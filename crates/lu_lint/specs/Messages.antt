@@ -44,15 +44,12 @@ abbrev pub remark_head : ℕ → List ℕ → List ℕ → List ℕ
 remark_head line word words =
     codes "line " ++ decimal line ++ codes ": " ++ word ++ words
 
--- the code of a fault and its line in the part, as the other commands name them
-abbrev pub fault_tail : FaultKind → ℕ → List ℕ
-fault_tail kind n =
+-- of a fault its code and its line in the part, as the other commands name them
+abbrev pub remark_tail : Cause → List ℕ
+remark_tail (Fault kind n) =
     codes " (" ++ refusal_code kind ++ codes ", line " ++ decimal n ++ codes " of the "
     ++ fault_part kind
     ++ codes ")\n"
-
-abbrev pub remark_tail : Cause → List ℕ
-remark_tail (Fault kind n) = fault_tail kind n
 remark_tail Separator = codes "\n"
 remark_tail FifthPart = codes " (B1)\n"
 remark_tail (Warning hint) = codes "\n"

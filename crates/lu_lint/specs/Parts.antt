@@ -20,8 +20,8 @@ use Rattle.lu_lint.specs.declared.remark.Said.{Said}
 use Rattle.lu_lint.specs.declared.remark.FaultKind.TheVariants as part
 use Rattle.lu_lint.specs.declared.part_kind.PartKind.{PartKind}
 use Rattle.lu_lint.specs.declared.part_kind.PartKind.TheVariants.{Specification, Report, History, Schedule}
-use Rattle.lu_lint.specs.Lint.{told_here}
-use Rattle.lu_lint.specs.Said.{above_next, said_told}
+use Rattle.lu_lint.specs.Lint.{message_here}
+use Rattle.lu_lint.specs.Said.{above_next, message_said}
 use Rattle.lu_lint.specs.Schedule.{schedule_faults, schedule_said}
 
 -- a line of a recorded history begins with this word
@@ -51,7 +51,7 @@ kind_of text =
 
 -- a fault of a report is said of its own line
 abbrev pub report_said : ℕ → ReportLineFault → Said
-report_said above fault = said_told part.Report above (told_here fault.line Form)
+report_said above fault = message_said part.Report above (message_here fault.line Form)
 
 -- what is said of a report: each of its faults
 abbrev pub ReportSaid : ℕ → List ℕ → List Said → Type 0
@@ -62,7 +62,7 @@ ReportSaid above text said =
 -- a fault of a specification is said of its own line
 abbrev pub specification_said : ℕ → SpecLineFault → Said
 specification_said above fault =
-    said_told part.Specification above (told_here fault.line fault.kind)
+    message_said part.Specification above (message_here fault.line fault.kind)
 
 -- what is said of a specification of a matrix: each of its faults
 abbrev pub SpecificationSaid : Matrix → ℕ → List ℕ → List Said → Type 0
@@ -83,7 +83,7 @@ ScheduleSaid above text said = said ≡ schedule_said above (schedule_faults tex
 abbrev pub history_said : {A : Type 0} → ℕ → Result A (Fault RecordedFaultKind) → List Said
 history_said above (Ok recorded) = []
 history_said above (Err Memory) = []
-history_said above (Err (At kind n)) = said_told part.History above (told_here n kind) ∷ []
+history_said above (Err (At kind n)) = message_said part.History above (message_here n kind) ∷ []
 
 -- what is said of the text of a recorded history of a matrix: its first fault
 abbrev pub recorded_said : Matrix → ℕ → List ℕ → List Said

@@ -9,8 +9,6 @@ use Rattle.lu_lang.specs.declared.fault.LangFaultKind.TheVariants.{Name}
 use Rattle.lu_lang.specs.Faulty.{FaultyDraft}
 use Rattle.lu_lang.specs.Meant.{faulty_grammar}
 use Rattle.lu_lint.specs.declared.component.Reading.{Reading}
-use Rattle.lu_lint.specs.declared.component.ReadComponent.{ReadComponent}
-use Rattle.lu_lint.specs.declared.warning.PossibleWarning.{PossibleWarning}
 use Rattle.lu_lint.specs.declared.remark.Position.{Position}
 use Rattle.lu_lint.specs.declared.remark.Remark.{Remark}
 use Rattle.lu_lint.specs.declared.remark.Said.{Said}
@@ -36,7 +34,7 @@ all_on_line at f line lines fault =
 -- fault or none; `lines` are those after it.
 pub record LeavesDraft (at : Position) (f : FaultyDraft) (line : List ℕ) (lines : List (List ℕ))
     (before next : List Said) (left : FaultyDraft) (fault : Option LangFaultKind) : Type 0 where
-  pub told : next ≡ before
+  pub said : next ≡ before
       ++ all_on_line at (line_read f line).0 line lines (line_read f line).1
   pub left_is : left ≡ left_by (line_read f line).0 line lines (line_read f line).1
   pub fault_is : fault ≡ (line_read f line).1
@@ -68,7 +66,7 @@ pub record FindsAt (r : Reading) (n : ℕ) (words : List Word) (next : Reading) 
 -- after it.
 pub record ReadsFound (r : Reading) (n : ℕ) (line : List ℕ) (words : List Word)
     (lines : List (List ℕ)) (next : Reading) : Type 0 where
-  pub told : said_of next.all.items ≡ said_of r.all.items
+  pub said : said_of next.all.items ≡ said_of r.all.items
       ++ all_on_line (line_at r n) (line_read r.draft line).0 line lines
       (line_read r.draft line).1
   pub left : next.draft ≡ left_by (line_read r.draft line).0 line lines (line_read r.draft line).1
@@ -97,9 +95,3 @@ all_end_said r n =
 -- that is said at the end, and this is what the lines are read as
 abbrev pub ReadsEnd : {E V : Type 0} → Result (Vec Remark × V) E → Reading → ℕ → V → Type 0
 ReadsEnd result r n value = SaysAndReads result r.all (all_end_said r n) value
-
--- those of these warnings that hold of the component are said, and it is what is read
-abbrev pub SaysHeld : {E : Type 0} → Result (Vec Remark × ReadComponent) E → Vec Remark
-    → ReadComponent → List PossibleWarning → Type 0
-SaysHeld result before c warnings =
-    SaysAndReads result before (held_of c (map without_words warnings)) c

@@ -34,7 +34,6 @@ use Rattle.lu_lint.specs.declared.remark.RunHint.{RunHint}
 use Rattle.lu_lint.specs.declared.remark.RunHint.TheVariants.{SetupGoesOn, SetupTraps, Serial}
 use Rattle.lu_lint.specs.declared.component.ReadComponent.{ReadComponent}
 use Rattle.lu_lint.specs.declared.component.ReadComponent.TheVariants.{Sound, Faulty}
-use Rattle.lu_lint.specs.declared.runs.MatrixRuns.{MatrixRuns}
 use Rattle.lu_lint.specs.declared.setup_run.TheConstants.{MOST_MOVES_OF_SETUP}
 use Rattle.lu_lint.specs.Said.{line_below}
 
@@ -120,12 +119,12 @@ are_alike a b = a.thread == b.thread && (a.call == b.call && same_ending a.endin
 
 -- one more, unless one of them is of its call and its ending
 abbrev pub with_hint : List SerialHint → SerialHint → List SerialHint
-with_hint told hint = if list_any (are_alike hint) told then told else told ++ hint ∷ []
+with_hint found hint = if list_any (are_alike hint) found then found else found ++ hint ∷ []
 
 -- these, and the first of each call and each ending that is none of theirs
 unfoldable pub with_firsts : List SerialHint → List SerialHint → List SerialHint
-with_firsts told [] = told
-with_firsts told (hint ∷ hints) = with_firsts (with_hint told hint) hints
+with_firsts found [] = found
+with_firsts found (hint ∷ hints) = with_firsts (with_hint found hint) hints
 
 -- of each call that traps in one of these histories the first such, and of each that is stuck
 abbrev pub set_hints : List (List SerialOp) → List SerialHint
@@ -133,7 +132,7 @@ set_hints histories = with_firsts [] (flat_map history_hints histories)
 
 -- these hints with those of the set's histories, each after the path
 abbrev pub with_set : List SerialHint → List SerialOp → List (List SerialOp) → List SerialHint
-with_set told path set = with_firsts told (flat_map (λ h. history_hints (path ++ h)) set)
+with_set found path set = with_firsts found (flat_map (λ h. history_hints (path ++ h)) set)
 
 -- ---- a schedule that is cut
 
@@ -231,15 +230,11 @@ lines_from word n (line ∷ lines) = line_if word n line ++ lines_from word (n +
 abbrev pub lines_with : Word → List ℕ → List ℕ
 lines_with word text = lines_from word 1 (lines_of text)
 
--- number i of these
-abbrev pub number_at : List ℕ → ℕ → ℕ
-number_at numbers i = unwrap_or (slice_get numbers i) 0
-
 -- the line of the setup, or that of the thread, where these are their lines
 abbrev pub hint_line : List ℕ → List ℕ → RunHint → ℕ
-hint_line setup threads (SetupGoesOn k) = number_at setup 0
-hint_line setup threads (SetupTraps k) = number_at setup 0
-hint_line setup threads (Serial hint) = number_at threads hint.thread
+hint_line setup threads (SetupGoesOn k) = unwrap_or (slice_get setup 0) 0
+hint_line setup threads (SetupTraps k) = unwrap_or (slice_get setup 0) 0
+hint_line setup threads (Serial hint) = unwrap_or (slice_get threads hint.thread) 0
 
 -- what is said of a hint of a matrix with these lines, before which this many of the bundle stand
 abbrev pub said_of_hint : ℕ → List ℕ → List ℕ → RunHint → Said
@@ -257,11 +252,6 @@ abbrev pub RunsOf : ℕ → Component → Matrix → ℕ → List ℕ → List S
 RunsOf bound c matrix above text said =
     (hints : List RunHint) × Show c matrix bound hints
     × (said ≡ all_shown above text hints)
-
--- those of such runs
-abbrev pub RunsOfMatrix : MatrixRuns → ℕ → List ℕ → List Said → Type 0
-RunsOfMatrix runs above text said =
-    RunsOf runs.bound runs.component.now runs.matrix.now above text said
 
 -- the same, where both are read
 abbrev pub RunsSaid : ℕ → ReadComponent → Option Matrix → ℕ → List ℕ → List Said → Type 0

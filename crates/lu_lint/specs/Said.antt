@@ -1,15 +1,13 @@
 -- What lint says of a bundle: on which line of it, and of what.
-use Rattle.std.specs.Prelude.{◌≡◌, ℕ, ◌+◌, ◌-◌, ◌^◌, Bool, true, false, List, ◌++◌, length, map, min, Option, Result, IfOk, Vec}
+use Rattle.std.specs.Prelude.{◌≡◌, ℕ, ◌+◌, ◌-◌, ◌^◌, Bool, true, false, List, ◌++◌, length, map, min, Result, IfOk, Vec}
 use Rattle.std.specs.List.{list_any}
-use Rattle.std.specs.Result.{result_ok}
-use Rattle.lu_text.specs.Faults.{meaning_of, meaning_of_lines}
 use Rattle.lu_text.specs.Lines.{kept_lines}
 use Rattle.lu_lint.specs.declared.remark.Said.{Said}
 use Rattle.lu_lint.specs.declared.remark.Remark.{Remark}
 use Rattle.lu_lint.specs.declared.remark.FaultKind.{FaultKind}
 use Rattle.lu_lint.specs.declared.remark.Cause.{Cause}
 use Rattle.lu_lint.specs.declared.remark.Cause.TheVariants.{Fault, FifthPart, Separator, Warning, Run}
-use Rattle.lu_lint.specs.Lint.{Lint, Told, faults_in, faults_of_lines}
+use Rattle.lu_lint.specs.Lint.{Lint, Message, faults_in, faults_of_lines}
 
 -- what is said, without its words
 abbrev pub said_of : List Remark → List Said
@@ -50,13 +48,13 @@ abbrev pub above_next : ℕ → List ℕ → ℕ
 above_next above part = line_below above (length (kept_lines part) + 1)
 
 -- a fault of such a part
-abbrev pub said_told : {Kind : Type 0} → (Kind → FaultKind) → ℕ → Told Kind → Said
-said_told of above t =
+abbrev pub message_said : {Kind : Type 0} → (Kind → FaultKind) → ℕ → Message Kind → Said
+message_said of above t =
     record { line = line_below above t.shown_on; cause = Fault (of t.kind) t.line }
 
 -- the faults of such a part
-abbrev pub said_faults : {Kind : Type 0} → (Kind → FaultKind) → ℕ → List (Told Kind) → List Said
-said_faults of above faults = map (said_told of above) faults
+abbrev pub said_faults : {Kind : Type 0} → (Kind → FaultKind) → ℕ → List (Message Kind) → List Said
+said_faults of above faults = map (message_said of above) faults
 
 -- what is said of the lines of a part that is read like this
 abbrev pub said_of_lines : {Kind Draft Value : Type 0} → Lint Kind Draft Value → ℕ
@@ -68,23 +66,6 @@ said_of_lines l above lines = said_faults l.of above (faults_of_lines l lines)
 abbrev pub said_of_text : {Kind Draft Value : Type 0} → Lint Kind Draft Value → ℕ → List ℕ
     → List Said
 said_of_text l above text = said_faults l.of above (faults_in l text)
-
--- where it succeeds, the lines of a part that is read like this are linted: that is said of them,
--- and their value is read, where they have no fault
-abbrev pub LintsLines : {E Y Z Kind Draft Value : Type 0}
-    → Result (Vec Remark Z × Option Value) E → Vec Remark Y → Lint Kind Draft Value → ℕ
-    → List (List ℕ)
-    → Type 0
-LintsLines result before l above lines =
-    SaysAndReads result before (said_of_lines l above lines)
-    (result_ok (meaning_of_lines l.grammar lines))
-
--- and so is its text
-abbrev pub LintsText : {E Y Z Kind Draft Value : Type 0}
-    → Result (Vec Remark Z × Option Value) E → Vec Remark Y → Lint Kind Draft Value → ℕ → List ℕ
-    → Type 0
-LintsText result before l above text =
-    SaysAndReads result before (said_of_text l above text) (result_ok (meaning_of l.grammar text))
 
 -- everything but a warning is a fault
 abbrev pub is_fault : Cause → Bool

@@ -8,7 +8,7 @@ use Rattle.lu_test.specs.ScheduleText.{move_of}
 use Rattle.lu_test.specs.ScheduleGoing.{schedule_words}
 use Rattle.lu_lint.specs.declared.remark.Said.{Said}
 use Rattle.lu_lint.specs.declared.remark.FaultKind.TheVariants as part
-use Rattle.lu_lint.specs.Lint.{Told, told_here}
+use Rattle.lu_lint.specs.Lint.{message_here}
 use Rattle.lu_lint.specs.Said.{said_faults}
 
 abbrev pub fault_of : {A : Type 0} → Result A ScheduleFault → List ScheduleFault
@@ -26,13 +26,10 @@ length_faults words = if nat_lt MOST_LISTED_MOVES (length words) then Limit ∷ 
 abbrev pub faults_of_each : List (List ℕ) → List ScheduleFault
 faults_of_each words = flat_map word_faults words
 
--- the words up to the first that is too many
-abbrev pub up_to_too_many : List (List ℕ) → List (List ℕ)
-up_to_too_many words = take (MOST_LISTED_MOVES + 1) words
-
--- of each of these, and that there are too many
+-- of each up to the first that is too many, and that there are too many
 abbrev pub words_faults : List (List ℕ) → List ScheduleFault
-words_faults words = faults_of_each (up_to_too_many words) ++ length_faults words
+words_faults words =
+    faults_of_each (take (MOST_LISTED_MOVES + 1) words) ++ length_faults words
 
 abbrev pub form_faults : Option (List (List ℕ)) → List ScheduleFault
 form_faults None = Form ∷ []
@@ -42,13 +39,9 @@ form_faults (Some words) = words_faults words
 abbrev pub schedule_faults : List ℕ → List ScheduleFault
 schedule_faults text = form_faults (schedule_words text)
 
--- all are reported on its first line
-abbrev pub schedule_told : List ScheduleFault → List (Told ScheduleFault)
-schedule_told faults = map (told_here 1) faults
-
--- what is said of them
+-- what is said of them: all stand on its first line
 abbrev pub schedule_said : ℕ → List ScheduleFault → List Said
-schedule_said above faults = said_faults part.Schedule above (schedule_told faults)
+schedule_said above faults = said_faults part.Schedule above (map (message_here 1) faults)
 
 -- a text is read where it has no fault, and else its first fault is the reader's
 abbrev pub AgreeOn : {A : Type 0} → Result A ScheduleFault → List ScheduleFault → Type 0

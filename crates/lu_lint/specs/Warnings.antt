@@ -1,5 +1,5 @@
 -- Warnings of a component that is read: what can be left out or goes on for ever.
-use Rattle.std.specs.Prelude.{◌≡◌, find, ℕ, zero, suc, ◌+◌, ◌-◌, Bool, true, false, List, [], ◌∷◌, ◌++◌, length, map, filter, take, drop, Option, Some, None, Result, IfOk, Vec, slice_get, codes, ◌==◌, ◌&&◌, ◌||◌, not, nat_le, if◌then◌else◌}
+use Rattle.std.specs.Prelude.{◌≡◌, find, ℕ, zero, suc, ◌+◌, ◌-◌, Bool, true, false, List, [], ◌∷◌, ◌++◌, length, map, filter, take, drop, Option, Some, None, Result, IfOk, Vec, slice_get, replicate, codes, ◌==◌, ◌&&◌, ◌||◌, not, nat_le, if◌then◌else◌}
 use Rattle.std.specs.List.{enumerate_from, filter_map, list_all, list_any}
 use Rattle.std.specs.Option.{option_map, unwrap_or}
 use Rattle.std.specs.Str.{bytes_eq}
@@ -94,7 +94,7 @@ next_returns b row = map (λ s. returns_by b row s.0 s.1) (enumerate_from 0 b.st
 
 -- from which places a return is reached by at most this many instructions
 unfoldable pub returns_within : OpenOp → ℕ → List Bool
-returns_within b zero = map (λ s. false) b.statements
+returns_within b zero = replicate (length b.statements) false
 returns_within b (suc n) = next_returns b (returns_within b n)
 
 -- a return is reached from the first instruction, by one way or another

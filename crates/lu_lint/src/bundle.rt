@@ -27,26 +27,6 @@ pub(crate) fn above_next(alloc: Global, above: usize, part: &[u8]) -> Result<usi
     Ok(line_below(above, lines.len() + 1))
 }
 
-/// The remarks with one on this line, where it is nearly `---`.
-fn with_separator<W: Wording>(
-    alloc: Global,
-    wording: &W,
-    all: Vec<Remark>,
-    number: usize,
-    line: &[u8],
-) -> Result<Vec<Remark>, AllocError>
-    ensures { SaysAlso result all (spec.separator_said number line.now) }
-{
-    if !is_blurred(line) {
-        return Ok(all);
-    }
-    let said = Said {
-        line: number,
-        cause: Cause::Separator,
-    };
-    with_remark(all, said, wording.separator(alloc, line)?)
-}
-
 /// The remarks with one on each line that is nearly `---`.
 pub(crate) fn with_separators<W: Wording>(
     alloc: Global,
@@ -57,7 +37,14 @@ pub(crate) fn with_separators<W: Wording>(
     ensures { SaysAlso result all (separators_from 1 (texts lines.now)) }
 {
     for (before, line) in lines.iter().enumerate() {
-        all = with_separator(alloc, wording, all, before + 1, line)?;
+        if !is_blurred(line) {
+            continue;
+        }
+        let said = Said {
+            line: before + 1,
+            cause: Cause::Separator,
+        };
+        all = with_remark(all, said, wording.separator(alloc, line)?)?;
     }
     Ok(all)
 }

@@ -4,11 +4,10 @@ ghost use Rattle.std.specs.Prelude.{◌≡◌, true, IfOk, Some, map};
 ghost use Rattle.lu_lang.specs.Sound.{IsSoundDraft};
 ghost use Rattle.lu_lint.specs.Bundle.{LintsComponentLines, component_read, component_said, held_of};
 ghost use Rattle.lu_lint.specs.Component as spec;
-ghost use Rattle.lu_text.specs.Results.{HasItems};
-ghost use Rattle.lu_lint.specs.Lint.{told_there};
-ghost use Rattle.lu_lint.specs.Reading.{FindsAt, ReadsDraft, ReadsEnd, ReadsOn, ReadsRest, SaysHeld, all_on_line, hints_at};
-ghost use Rattle.lu_lint.specs.Said.{SaysAlso, SaysAndReads, said_told};
-ghost use Rattle.lu_lint.specs.Warnings.{FindsAlso, without_words};
+ghost use Rattle.lu_lint.specs.Lint.{message_on};
+ghost use Rattle.lu_lint.specs.Reading.{FindsAt, ReadsDraft, ReadsEnd, ReadsOn, ReadsRest};
+ghost use Rattle.lu_lint.specs.Said.{SaysAlso, SaysAndReads, message_said};
+ghost use Rattle.lu_lint.specs.Warnings.{without_words};
 ghost use Rattle.lu_lint.specs.declared.remark.FaultKind.TheVariants as part;
 ghost use Rattle.lu_text.specs.Lines.{texts};
 
@@ -27,8 +26,8 @@ use std::alloc::{AllocError, Global};
 
 /// What is said of a fault of a component, whose message is shown on this line of it.
 fn said(at: &Position, kind: LangFaultKind, line: usize) -> Said
-    ensures { result ≡ said_told part.Component at.now.above
-        (told_there at.now.line kind line) }
+    ensures { result ≡ message_said part.Component at.now.above
+        (message_on at.now.line kind line) }
 {
     Said {
         line: line_below(at.above, line),
@@ -57,21 +56,7 @@ fn with_jumps<W: Wording>(
     Ok(all)
 }
 
-/// The words for a fault of this line, which was read as it was meant.
-fn words_of_fault<W: Wording>(
-    alloc: Global,
-    wording: &W,
-    draft: &FaultyDraft,
-    kind: LangFaultKind,
-    text: &[u8],
-) -> Result<String, AllocError> {
-    match meant_line(alloc, draft, text)? {
-        None => wording.component_fault(alloc, &draft.draft, kind, text),
-        Some(line) => wording.component_fault(alloc, &draft.draft, kind, &line),
-    }
-}
-
-/// The remarks with those on a fault of this line.
+/// The remarks with those on a fault of this line, which was read as it was meant.
 fn with_fault<W: Wording>(
     alloc: Global,
     wording: &W,
@@ -85,65 +70,12 @@ fn with_fault<W: Wording>(
 {
     let backs = message_backs(alloc, &draft.draft, text, kind)?;
     if backs.is_empty() {
-        let words = words_of_fault(alloc, wording, draft, kind, text)?;
-        let all = with_remark(all, said(at, kind, at.line), words)?;
-        return Ok(all);
+        let line = meant_line(alloc, draft, text)?;
+        let meant = line.as_deref().unwrap_or(text);
+        let words = wording.component_fault(alloc, &draft.draft, kind, meant)?;
+        return with_remark(all, said(at, kind, at.line), words);
     }
-    // For the proof: what this returns is looked at before it is returned.
-    let all = with_jumps(alloc, wording, all, at, &draft.draft, kind, &backs)?;
-    Ok(all)
-}
-
-/// The remarks with those on this line, where it has a fault.
-fn with_line<W: Wording>(
-    alloc: Global,
-    wording: &W,
-    all: Vec<Remark>,
-    at: &Position,
-    draft: &FaultyDraft,
-    fault: Option<LangFaultKind>,
-    text: &[u8],
-) -> Result<Vec<Remark>, AllocError>
-    ensures { SaysAlso result all (spec.line_said at.now draft.now text.now fault) }
-{
-    match fault {
-        None => Ok(all),
-        Some(kind) => with_fault(alloc, wording, all, at, draft, kind, text),
-    }
-}
-
-/// By how many lines with words the jumps to labels that are not there stand before a line that are
-/// reported beside its fault; `lines` are those after it.
-fn backs_beside(
-    alloc: Global,
-    draft: &FaultyDraft,
-    fault: Option<LangFaultKind>,
-    text: &[u8],
-    lines: &[&[u8]],
-) -> Result<Vec<usize>, AllocError>
-    ensures { HasItems result (spec.backs_beside draft.now text.now (texts lines.now) fault) }
-{
-    match fault {
-        None => Ok(Vec::new(alloc)),
-        Some(kind) => left_backs(alloc, &draft.draft, text, lines, kind),
-    }
-}
-
-/// The draft from which the lines after a line are read.
-fn left_by(
-    alloc: Global,
-    draft: FaultyDraft,
-    fault: Option<LangFaultKind>,
-    text: &[u8],
-    lines: &[&[u8]],
-) -> Result<FaultyDraft, AllocError>
-    ensures { IfOk result (λ next.
-        next ≡ spec.left_by draft text.now (texts lines.now) fault) }
-{
-    match fault {
-        None => Ok(draft),
-        Some(_) => mended(alloc, draft, text, lines),
-    }
+    with_jumps(alloc, wording, all, at, &draft.draft, kind, &backs)
 }
 
 /// The remarks with those on the end of the text, where it has a fault: on that, and on jumps to
@@ -163,8 +95,7 @@ fn with_end<W: Wording>(
             let words = wording.component_end(alloc, &draft.draft)?;
             let all = with_remark(all, said(at, kind, at.line), words)?;
             let backs = open_backs(alloc, &draft.draft)?;
-            // For the proof: what this returns is looked at before it is returned.
-            let all = with_jumps(
+            with_jumps(
                 alloc,
                 wording,
                 all,
@@ -172,8 +103,7 @@ fn with_end<W: Wording>(
                 &draft.draft,
                 LangFaultKind::Name,
                 &backs,
-            )?;
-            Ok(all)
+            )
         }
     }
 }
@@ -241,56 +171,9 @@ struct Reading {
     seen: Vec<usize>,
 }
 
-/// The warnings with those found at a line of these words, where no line before it has a fault.
-fn with_line_hints<W: Wording>(
-    alloc: Global,
-    wording: &W,
-    warnings: Vec<PossibleWarning>,
-    at: &Position,
-    sound: bool,
-    draft: &FaultyDraft,
-    text: &[u8],
-    words: &[&[u8]],
-) -> Result<Vec<PossibleWarning>, AllocError>
-    ensures { FindsAlso result warnings (hints_at at.now sound draft.now (texts words.now)) }
-{
-    let hints = hints_while(alloc, sound, &draft.draft, words)?;
-    // For the proof: what this returns is looked at before it is returned.
-    let warnings = with_found(alloc, wording, warnings, at, &draft.draft, text, &hints)?;
-    Ok(warnings)
-}
-
-/// The remarks with those on this line, where it has a fault, and on the jumps that are reported
-/// beside it; `lines` are those after it.
-fn with_line_faults<W: Wording>(
-    alloc: Global,
-    wording: &W,
-    all: Vec<Remark>,
-    at: &Position,
-    draft: &FaultyDraft,
-    fault: Option<LangFaultKind>,
-    text: &[u8],
-    lines: &[&[u8]],
-) -> Result<Vec<Remark>, AllocError>
-    ensures { SaysAlso result all (all_on_line at.now draft.now text.now (texts lines.now) fault) }
-{
-    let all = with_line(alloc, wording, all, at, draft, fault, text)?;
-    let backs = backs_beside(alloc, draft, fault, text, lines)?;
-    // For the proof: what this returns is looked at before it is returned.
-    let all = with_jumps(
-        alloc,
-        wording,
-        all,
-        at,
-        &draft.draft,
-        LangFaultKind::Name,
-        &backs,
-    )?;
-    Ok(all)
-}
-
-/// The remarks with those on this line after this draft, the draft from which the lines after it
-/// are read, and the line's fault.
+/// The remarks with those on this line after this draft, where it has a fault, and on the jumps to
+/// labels that are not there which are reported beside it; the draft from which the lines after it
+/// are read; and the line's fault. `lines` are those after it.
 fn read_draft<W: Wording>(
     alloc: Global,
     wording: &W,
@@ -303,8 +186,21 @@ fn read_draft<W: Wording>(
     ensures { ReadsDraft result all at.now draft text.now (texts lines.now) }
 {
     let (draft, fault) = read_or_fault(alloc, draft, text)?;
-    let all = with_line_faults(alloc, wording, all, at, &draft, fault, text, lines)?;
-    let draft = left_by(alloc, draft, fault, text, lines)?;
+    let Some(kind) = fault else {
+        return Ok((all, draft, None));
+    };
+    let all = with_fault(alloc, wording, all, at, &draft, kind, text)?;
+    let backs = left_backs(alloc, &draft.draft, text, lines, kind)?;
+    let all = with_jumps(
+        alloc,
+        wording,
+        all,
+        at,
+        &draft.draft,
+        LangFaultKind::Name,
+        &backs,
+    )?;
+    let draft = mended(alloc, draft, text, lines)?;
     Ok((all, draft, fault))
 }
 
@@ -331,7 +227,8 @@ fn find_warnings<W: Wording>(
         line,
         seen,
     };
-    let warnings = with_line_hints(alloc, wording, warnings, &at, sound, &draft, text, words)?;
+    let hints = hints_while(alloc, sound, &draft.draft, words)?;
+    let warnings = with_found(alloc, wording, warnings, &at, &draft.draft, text, &hints)?;
     Ok(Reading {
         all,
         draft,
@@ -394,19 +291,6 @@ fn read_line<W: Wording>(
     read_words(alloc, wording, reading, line, text, &words, lines)
 }
 
-/// The remarks with those of these warnings that hold of a component, and the component.
-fn read_held(
-    alloc: Global,
-    all: Vec<Remark>,
-    component: ReadComponent,
-    warnings: Vec<PossibleWarning>,
-) -> Result<(Vec<Remark>, ReadComponent), AllocError>
-    ensures { SaysHeld result all component warnings.items }
-{
-    let all = with_held(alloc, all, &component, warnings)?;
-    Ok((all, component))
-}
-
 /// The remarks with those on the end of the lines, which is after all of them, and what the lines
 /// are read as.
 fn read_end<W: Wording>(
@@ -431,7 +315,9 @@ fn read_end<W: Wording>(
         seen,
     };
     let all = with_end(alloc, wording, all, &at, &draft)?;
-    read_held(alloc, all, read_as(draft, sound), warnings)
+    let component = read_as(draft, sound);
+    let all = with_held(alloc, all, &component, warnings)?;
+    Ok((all, component))
 }
 
 /// The remarks with those on these lines of a component, each of which is read once, and what the

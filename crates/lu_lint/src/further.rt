@@ -12,7 +12,7 @@ use crate::part_kind::{PartKind, kind_of};
 use crate::remark::{Cause, Remark, Said, with_remark};
 use crate::report::with_report;
 use crate::schedule::with_schedule;
-use crate::specification::with_specification_of;
+use crate::specification::with_specification;
 use crate::words::Wording;
 use lu_test::Matrix;
 use std::alloc::{AllocError, Global};
@@ -53,18 +53,10 @@ fn with_part<W: Wording>(
     ensures { SaysSuch result all (PartSaid kind matrix.now above text.now) }
 {
     match kind {
-        PartKind::Specification => with_specification_of(alloc, wording, all, matrix, above, text),
+        PartKind::Specification => with_specification(alloc, wording, all, matrix, above, text),
         PartKind::Report => with_report(alloc, wording, all, above, text),
-        PartKind::History => {
-            // For the proof: what this returns is looked at before it is returned.
-            let all = with_histories(alloc, wording, all, matrix, above, &[text])?;
-            Ok(all)
-        }
-        PartKind::Schedule => {
-            // For the proof: what this returns is looked at before it is returned.
-            let all = with_schedule(alloc, wording, all, above, text)?;
-            Ok(all)
-        }
+        PartKind::History => with_histories(alloc, wording, all, matrix, above, &[text]),
+        PartKind::Schedule => with_schedule(alloc, wording, all, above, text),
     }
 }
 
@@ -83,11 +75,9 @@ fn with_fourth<W: Wording>(
     let Some((text, others)) = parts.split_first() else {
         return Ok(all);
     };
-    let all = with_specification_of(alloc, wording, all, matrix, above, text)?;
+    let all = with_specification(alloc, wording, all, matrix, above, text)?;
     let after = above_next(alloc, above, text)?;
-    // For the proof: what this returns is looked at before it is returned.
-    let all = with_fifth(alloc, wording, all, after, others)?;
-    Ok(all)
+    with_fifth(alloc, wording, all, after, others)
 }
 
 /// The remarks with those on the parts after a third part that is this.
@@ -131,7 +121,5 @@ pub(crate) fn with_further<W: Wording>(
     let kind = kind_of(alloc, text)?;
     let all = with_part(alloc, wording, all, kind, matrix, above, text)?;
     let after = above_next(alloc, above, text)?;
-    // For the proof: what this returns is looked at before it is returned.
-    let all = with_after(alloc, wording, all, kind, matrix, after, others)?;
-    Ok(all)
+    with_after(alloc, wording, all, kind, matrix, after, others)
 }

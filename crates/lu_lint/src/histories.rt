@@ -1,9 +1,9 @@
 //! Recorded histories, each a part of a bundle.
 
-ghost use Rattle.std.specs.Prelude.{◌≡◌, ◌∷◌, []};
+ghost use Rattle.std.specs.Prelude.{◌≡◌};
 ghost use Rattle.lu_text.specs.Lines.{texts};
 ghost use Rattle.lu_lint.specs.Lint as lint;
-ghost use Rattle.lu_lint.specs.Said.{SaysAlso, said_told};
+ghost use Rattle.lu_lint.specs.Said.{SaysAlso, message_said};
 ghost use Rattle.lu_lint.specs.Parts as spec;
 ghost use Rattle.lu_lint.specs.declared.remark.FaultKind.TheVariants as part;
 
@@ -17,30 +17,12 @@ use std::alloc::{AllocError, Global};
 
 /// What is said of a fault of a recorded history.
 fn said(above: usize, kind: RecordedFaultKind, line: usize) -> Said
-    ensures { result ≡ said_told part.History above (lint.told_here line kind) }
+    ensures { result ≡ message_said part.History above (lint.message_here line kind) }
 {
     Said {
         line: line_below(above, line),
         cause: Cause::Fault(FaultKind::History(kind), line),
     }
-}
-
-/// The remarks with one on this fault of a recorded history.
-fn with_fault<W: Wording>(
-    alloc: Global,
-    wording: &W,
-    all: Vec<Remark>,
-    matrix: &Matrix,
-    above: usize,
-    text: &[u8],
-    kind: RecordedFaultKind,
-    line: usize,
-) -> Result<Vec<Remark>, AllocError>
-    ensures { SaysAlso result all (said_told part.History above (lint.told_here line kind) ∷ []) }
-{
-    let lines = kept_lines(alloc, text)?;
-    let words = wording.history_fault(alloc, matrix, kind, line_of(&lines, line))?;
-    with_remark(all, said(above, kind, line), words)
 }
 
 /// The remarks with that on the first fault of a recorded history, where it has one.
@@ -56,29 +38,13 @@ fn with_history<W: Wording>(
 {
     match read_recorded(alloc, matrix, text) {
         Ok(_) => Ok(all),
-        Err(Fault::At(kind, line)) => with_fault(
-            alloc, wording, all, matrix, above, text, kind, line,
-        ),
+        Err(Fault::At(kind, line)) => {
+            let lines = kept_lines(alloc, text)?;
+            let words = wording.history_fault(alloc, matrix, kind, line_of(&lines, line))?;
+            with_remark(all, said(above, kind, line), words)
+        }
         Err(Fault::Memory) => Err(AllocError),
     }
-}
-
-/// The remarks with those on recorded histories of a matrix.
-fn with_each<W: Wording>(
-    alloc: Global,
-    wording: &W,
-    mut all: Vec<Remark>,
-    matrix: &Matrix,
-    mut above: usize,
-    parts: &[&[u8]],
-) -> Result<Vec<Remark>, AllocError>
-    ensures { SaysAlso result all (spec.histories_said matrix.now above (texts parts.now)) }
-{
-    for text in parts {
-        all = with_history(alloc, wording, all, matrix, above, text)?;
-        above = above_next(alloc, above, text)?;
-    }
-    Ok(all)
 }
 
 /// The remarks with those on recorded histories, where there is a matrix. Before the first of them
@@ -86,15 +52,19 @@ fn with_each<W: Wording>(
 pub(crate) fn with_histories<W: Wording>(
     alloc: Global,
     wording: &W,
-    all: Vec<Remark>,
+    mut all: Vec<Remark>,
     matrix: &Option<Matrix>,
-    above: usize,
+    mut above: usize,
     parts: &[&[u8]],
 ) -> Result<Vec<Remark>, AllocError>
     ensures { SaysAlso result all (spec.histories_of matrix.now above (texts parts.now)) }
 {
-    match matrix {
-        None => Ok(all),
-        Some(matrix) => with_each(alloc, wording, all, matrix, above, parts),
+    let Some(matrix) = matrix else {
+        return Ok(all);
+    };
+    for text in parts {
+        all = with_history(alloc, wording, all, matrix, above, text)?;
+        above = above_next(alloc, above, text)?;
     }
+    Ok(all)
 }

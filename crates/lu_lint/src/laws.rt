@@ -3,7 +3,7 @@
 ghost use Rattle.lu_lint.specs.Laws.{ComponentAgrees, MatrixAgrees, ScheduleAgrees};
 ghost use Rattle.lu_lint.specs.Least.{ReadersAreLeast};
 
-/// Lint tells no fault of a text exactly where the reader reads it; else the first fault, by its
+/// Lint reports no fault of a text exactly where the reader reads it; else the first fault, by its
 /// own line, is the reader's, with its kind and its line. So it is of what is said of a bundle, in
 /// whatever order: of a part, the fault with the least line of the part is the reader's. Where more
 /// than one has that line, they are the faults of a schedule, of which the first is the reader's;

@@ -1,11 +1,10 @@
 //! What lint says of a bundle.
 
-ghost use Rattle.std.specs.Prelude.{◌≡◌, ◌≤◌, ◌∷◌, IfOk, string_bytes};
+ghost use Rattle.std.specs.Prelude.{◌≡◌, ◌≤◌, IfOk, string_bytes};
 ghost use Rattle.std.specs.List.Sorted.{IsNonDecreasingBy};
 ghost use Rattle.lu_report.specs.Limits.{most_moves};
 ghost use Rattle.lu_text.specs.Lines.{texts};
-ghost use Rattle.lu_lint.specs.Bundle.{AfterComponent, BundleSaid, OnMatrix, IsSaidOf, PartsSaid, SaysRest};
-ghost use Rattle.lu_lint.specs.Runs.{AreTest};
+ghost use Rattle.lu_lint.specs.Bundle.{AfterComponent, BundleSaid, IsSaidOf, PartsSaid};
 ghost use Rattle.lu_lint.specs.Messages.{remarks_text};
 ghost use Rattle.lu_lint.specs.Said as said;
 ghost use Rattle.lu_lint.specs.Said.{SaysSuch, said_of};
@@ -18,7 +17,6 @@ use crate::remark::Remark;
 use crate::runs::with_runs;
 use crate::words::Wording;
 use crate::writing::write_remarks;
-use lu_test::Matrix;
 use lu_text::{kept_lines, meant_parts};
 use std::alloc::{AllocError, Global};
 
@@ -35,53 +33,8 @@ pub struct Linted {
     pub faults: bool,
 }
 
-/// The remarks with those on the parts after a matrix that is read or not, and by runs.
-fn with_after_matrix<W: Wording>(
-    alloc: Global,
-    wording: &W,
-    all: Vec<Remark>,
-    serial: u16,
-    component: &ReadComponent,
-    matrix: &Option<Matrix>,
-    above: usize,
-    text: &[u8],
-    parts: &[&[u8]],
-) -> Result<Vec<Remark>, AllocError>
-    requires fits { AreTest component.now matrix.now }
-    requires some { 1 ≤ serial }
-    requires few { serial ≤ most_moves }
-    ensures { SaysRest result all serial component.now matrix.now above text.now (texts parts.now) }
-{
-    let after = above_next(alloc, above, text)?;
-    let all = with_further(alloc, wording, all, matrix, after, parts)?;
-    // For the proof: what this returns is looked at before it is returned.
-    let all = with_runs(alloc, wording, all, component, matrix, serial, above, text)?;
-    Ok(all)
-}
-
-/// The remarks with those on a matrix, before which `above` lines stand, on the parts after it, and
-/// by runs.
-fn with_second<W: Wording>(
-    alloc: Global,
-    wording: &W,
-    all: Vec<Remark>,
-    serial: u16,
-    component: &ReadComponent,
-    above: usize,
-    text: &[u8],
-    parts: &[&[u8]],
-) -> Result<Vec<Remark>, AllocError>
-    requires some { 1 ≤ serial }
-    requires few { serial ≤ most_moves }
-    ensures { SaysSuch result all (OnMatrix serial component.now above text.now (texts parts.now)) }
-{
-    let (all, matrix) = with_matrix(alloc, wording, all, component, above, text)?;
-    with_after_matrix(
-        alloc, wording, all, serial, component, &matrix, above, text, parts,
-    )
-}
-
-/// The remarks with those on the parts after a component.
+/// The remarks with those on the parts after a component: on a matrix, before which `above` lines
+/// stand, on the parts after it, and by runs.
 fn with_after<W: Wording>(
     alloc: Global,
     wording: &W,
@@ -95,30 +48,13 @@ fn with_after<W: Wording>(
     requires few { serial ≤ most_moves }
     ensures { SaysSuch result all (AfterComponent serial component.now above (texts parts.now)) }
 {
-    match parts.split_first() {
-        None => Ok(all),
-        Some((text, others)) => with_second(
-            alloc, wording, all, serial, component, above, text, others,
-        ),
-    }
-}
-
-/// The remarks with those on a component and on the parts after it.
-fn with_first<W: Wording>(
-    alloc: Global,
-    wording: &W,
-    all: Vec<Remark>,
-    serial: u16,
-    text: &[u8],
-    parts: &[&[u8]],
-) -> Result<Vec<Remark>, AllocError>
-    requires some { 1 ≤ serial }
-    requires few { serial ≤ most_moves }
-    ensures { SaysSuch result all (PartsSaid serial (text.now ∷ texts parts.now)) }
-{
-    let above = above_next(alloc, 0, text)?;
-    let (all, component) = with_component(alloc, wording, all, text)?;
-    with_after(alloc, wording, all, serial, &component, above, parts)
+    let Some((text, others)) = parts.split_first() else {
+        return Ok(all);
+    };
+    let (all, matrix) = with_matrix(alloc, wording, all, component, above, text)?;
+    let after = above_next(alloc, above, text)?;
+    let all = with_further(alloc, wording, all, &matrix, after, others)?;
+    with_runs(alloc, wording, all, component, &matrix, serial, above, text)
 }
 
 /// The remarks with those on the parts of a bundle, of which each is read once.
@@ -133,10 +69,12 @@ fn with_parts<W: Wording>(
     requires few { serial ≤ most_moves }
     ensures { SaysSuch result all (PartsSaid serial (texts parts.now)) }
 {
-    match parts.split_first() {
-        None => Ok(all),
-        Some((text, others)) => with_first(alloc, wording, all, serial, text, others),
-    }
+    let Some((text, others)) = parts.split_first() else {
+        return Ok(all);
+    };
+    let above = above_next(alloc, 0, text)?;
+    let (all, component) = with_component(alloc, wording, all, text)?;
+    with_after(alloc, wording, all, serial, &component, above, others)
 }
 
 /// What is said of a bundle, in the order in which it is found.
@@ -153,9 +91,7 @@ fn remarks_on<W: Wording>(
     let lines = kept_lines(alloc, bundle)?;
     let parts = meant_parts(alloc, bundle)?;
     let all = with_separators(alloc, wording, Vec::new(alloc), &lines)?;
-    // For the proof: what this returns is looked at before it is returned.
-    let all = with_parts(alloc, wording, all, serial, &parts)?;
-    Ok(all)
+    with_parts(alloc, wording, all, serial, &parts)
 }
 
 /// Whether one of the remarks is a fault.

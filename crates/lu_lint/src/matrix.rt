@@ -1,20 +1,17 @@
 //! The faults of a matrix's text.
 
-ghost use Rattle.std.specs.Prelude.{◌≡◌, IfOk, IfSome, []};
-ghost use Rattle.std.specs.Option.{unwrap_or};
-ghost use Rattle.lu_lint.specs.Lint as lint;
-ghost use Rattle.lu_lint.specs.Lint.{told_here};
+ghost use Rattle.std.specs.Prelude.{◌≡◌, IfOk, IfSome};
+ghost use Rattle.lu_lint.specs.Lint.{message_here};
 ghost use Rattle.lu_lint.specs.Matrix as spec;
-ghost use Rattle.lu_lint.specs.Matrix.{FitsBy, LintsMatrixLines, ReadsDraft, fault_said, lint_of};
-ghost use Rattle.lu_lint.specs.Bundle.{LintsMatrix, said_after_faulty};
+ghost use Rattle.lu_lint.specs.Matrix.{FitsBy, LintsMatrixLines, ReadsDraft, fault_said};
+ghost use Rattle.lu_lint.specs.Bundle.{LintsMatrix};
 ghost use Rattle.lu_lint.specs.Runs.{AreTest};
-ghost use Rattle.lu_lint.specs.Said.{LintsText, SaysAlso, said_told};
+ghost use Rattle.lu_lint.specs.Said.{SaysAlso, message_said};
 ghost use Rattle.lu_lint.specs.declared.remark.FaultKind.TheVariants as part;
-ghost use Rattle.lu_text.specs.Faults.{fault_in, going_on};
+ghost use Rattle.lu_text.specs.Faults.{fault_in};
 ghost use Rattle.lu_test.specs.Matrix.{IsOf};
-ghost use Rattle.lu_test.specs.MatrixText.{AreFew, CanRead, IsDraft, finished, line_of, nothing, matrix_of as left_matrix};
+ghost use Rattle.lu_test.specs.MatrixText.{AreFew, CanRead, IsDraft, finished, matrix_of as left_matrix};
 ghost use Rattle.lu_text.specs.Lines.{lines_of as lines_in, texts};
-ghost use Rattle.lu_text.specs.Results.{HasItems};
 
 use crate::component::ReadComponent;
 use crate::remark::{
@@ -23,89 +20,19 @@ use crate::remark::{
 use crate::signatures::signatures_meant;
 use crate::words::Wording;
 use lu_component::{Component, MOST_OPS};
-use lu_lang::FaultyDraft;
 use lu_test::{
     Calls, Matrix, MatrixDraft, MatrixFaultKind, Signature, end_fault, mended, signatures_of,
 };
 use lu_text::{lines_of, words_of};
 use std::alloc::{AllocError, Global};
 
-/// No line is read.
-fn no_lines(alloc: Global) -> MatrixDraft
-    ensures { result ≡ nothing }
-{
-    MatrixDraft {
-        setup: None,
-        threads: Vec::new(alloc),
-    }
-}
-
 /// What is said of a fault of a matrix.
 fn said(above: usize, kind: MatrixFaultKind, line: usize) -> Said
-    ensures { result ≡ said_told part.Matrix above (told_here line kind) }
+    ensures { result ≡ message_said part.Matrix above (message_here line kind) }
 {
     Said {
         line: line_below(above, line),
         cause: Cause::Fault(FaultKind::Matrix(kind), line),
-    }
-}
-
-/// A line, and the draft before it.
-#[derive(Clone, Copy, Drop)]
-struct Next<'a> {
-    draft: &'a MatrixDraft,
-    text: &'a [u8],
-}
-
-/// The draft after one more line, and no fault; or the draft before it, and what is wrong with the
-/// line.
-fn read_line(
-    alloc: Global,
-    signatures: &[Signature<'_>],
-    mut draft: MatrixDraft,
-    text: &[u8],
-) -> Result<(MatrixDraft, Option<MatrixFaultKind>), AllocError>
-    requires { CanRead signatures.now draft }
-    ensures { IfOk result (λ r.
-        r ≡ going_on draft (line_of signatures.now draft text.now)) }
-{
-    let fault = draft.line(alloc, signatures, text)?;
-    Ok((draft, fault))
-}
-
-/// The remarks with that on this line, where it has a fault.
-fn with_line<W: Wording>(
-    alloc: Global,
-    wording: &W,
-    signatures: &[Signature<'_>],
-    all: Vec<Remark>,
-    at: &Position,
-    next: Next<'_>,
-    fault: Option<MatrixFaultKind>,
-) -> Result<Vec<Remark>, AllocError>
-    ensures { SaysAlso result all (fault_said at.now fault) }
-{
-    match fault {
-        None => Ok(all),
-        Some(kind) => {
-            let words = wording.matrix_fault(alloc, signatures, next.draft, kind, next.text)?;
-            with_remark(all, said(at.above, kind, at.line), words)
-        }
-    }
-}
-
-/// The draft from which the lines after a line are read.
-fn left_by(
-    alloc: Global,
-    draft: MatrixDraft,
-    fault: Option<MatrixFaultKind>,
-    text: &[u8],
-) -> Result<MatrixDraft, AllocError>
-    ensures { IfOk result (λ next. next ≡ spec.left_by draft text.now fault) }
-{
-    match fault {
-        None => Ok(draft),
-        Some(_) => mended(alloc, draft, text),
     }
 }
 
@@ -117,32 +44,19 @@ fn read_draft<W: Wording>(
     signatures: &[Signature<'_>],
     all: Vec<Remark>,
     at: &Position,
-    draft: MatrixDraft,
+    mut draft: MatrixDraft,
     text: &[u8],
 ) -> Result<(Vec<Remark>, MatrixDraft, Option<MatrixFaultKind>), AllocError>
     requires { CanRead signatures.now draft }
     ensures { ReadsDraft result all signatures.now at.now draft text.now }
 {
-    let (read, fault) = read_line(alloc, signatures, draft, text)?;
-    let next = Next { draft: &read, text };
-    let all = with_line(alloc, wording, signatures, all, at, next, fault)?;
-    let draft = left_by(alloc, read, fault, text)?;
-    Ok((all, draft, fault))
-}
-
-/// The lines with words so far, with one more line, of this text.
-fn seen_with(
-    alloc: Global,
-    seen: Vec<usize>,
-    line: usize,
-    text: &[u8],
-) -> Result<Vec<usize>, AllocError>
-    ensures { HasItems result (lint.with_words seen.items line text.now) }
-{
-    let words = words_of(alloc, text)?;
-    // For the proof: what this returns is looked at before it is returned.
-    let seen = with_words(seen, line, &words)?;
-    Ok(seen)
+    let Some(kind) = draft.line(alloc, signatures, text)? else {
+        return Ok((all, draft, None));
+    };
+    let words = wording.matrix_fault(alloc, signatures, &draft, kind, text)?;
+    let all = with_remark(all, said(at.above, kind, at.line), words)?;
+    let draft = mended(alloc, draft, text)?;
+    Ok((all, draft, Some(kind)))
 }
 
 /// The remarks with that on the end of the text, where it has a fault.
@@ -161,16 +75,6 @@ fn with_end<W: Wording>(
             let words = wording.matrix_end(alloc)?;
             with_remark(all, said(at.above, kind, at.line), words)
         }
-    }
-}
-
-/// The calls of the setup: none where there is no line of it.
-fn setup_calls(alloc: Global, setup: Option<Calls>) -> Calls
-    ensures { result ≡ unwrap_or setup [] }
-{
-    match setup {
-        None => Calls::new(Vec::new(alloc)),
-        Some(setup) => setup,
     }
 }
 
@@ -194,7 +98,9 @@ fn matrix_of(alloc: Global, component: &Component, left: LeftLines) -> Option<Ma
         return None;
     }
     let MatrixDraft { setup, threads } = draft;
-    Matrix::new(component, setup_calls(alloc, setup), threads)
+    // Where there is no line of it, the setup has no calls.
+    let setup = setup.unwrap_or_else(|| Calls::new(Vec::new(alloc)));
+    Matrix::new(component, setup, threads)
 }
 
 /// The remarks with those on these lines of a matrix, whose calls are judged by these signatures,
@@ -211,7 +117,10 @@ fn read_lines<W: Wording>(
     ensures said { LintsMatrixLines result all signatures.now above (texts lines.now) }
     ensures fits { IfOk result (λ (all, left). FitsBy signatures.now left.draft) }
 {
-    let mut draft = no_lines(alloc);
+    let mut draft = MatrixDraft {
+        setup: None,
+        threads: Vec::new(alloc),
+    };
     let mut sound = true;
     let mut seen = Vec::new(alloc);
     for (before, text) in lines.iter().enumerate() {
@@ -224,7 +133,8 @@ fn read_lines<W: Wording>(
         all = next;
         draft = left;
         sound &= fault.is_none();
-        seen = seen_with(alloc, at.seen, before + 1, text)?;
+        let words = words_of(alloc, text)?;
+        seen = with_words(at.seen, before + 1, &words)?;
     }
     let at = Position {
         above,
@@ -253,47 +163,10 @@ fn read_text<W: Wording>(
     read_lines(alloc, wording, signatures, all, above, &lines)
 }
 
-/// The remarks with those on the text of a matrix, by the signatures that a component with faults
-/// was to have, where these are no more than a component may have.
-fn with_matrix_by<W: Wording>(
-    alloc: Global,
-    wording: &W,
-    all: Vec<Remark>,
-    faulty: &FaultyDraft,
-    above: usize,
-    text: &[u8],
-) -> Result<Vec<Remark>, AllocError>
-    ensures { SaysAlso result all (said_after_faulty faulty.now above text.now) }
-{
-    let signatures = signatures_meant(alloc, faulty)?;
-    if signatures.len() > MOST_OPS {
-        return Ok(all);
-    }
-    let (all, _) = read_text(alloc, wording, &signatures, all, above, text)?;
-    Ok(all)
-}
-
-/// The remarks with those on the text of a matrix of this component, and the matrix, where it has
-/// no fault.
-fn with_matrix_of<W: Wording>(
-    alloc: Global,
-    wording: &W,
-    all: Vec<Remark>,
-    component: &Component,
-    above: usize,
-    text: &[u8],
-) -> Result<(Vec<Remark>, Option<Matrix>), AllocError>
-    ensures said { LintsText result all (lint_of component.now) above text.now }
-    ensures fits { IfOk result (λ (all, read). IfSome read (λ m. IsOf m component.now)) }
-{
-    let signatures = signatures_of(alloc, component.operations())?;
-    let (all, left) = read_text(alloc, wording, &signatures, all, above, text)?;
-    Ok((all, matrix_of(alloc, component, left)))
-}
-
 /// The remarks with those on the text of a matrix after a component, before which `above` lines of
 /// the bundle stand: one on every fault, in the order of their lines; and the matrix, where it and
-/// the component have none.
+/// the component have none. After a component with faults the calls are judged by the signatures
+/// that it was to have, where these are no more than a component may have.
 ///
 /// # Errors
 ///
@@ -311,12 +184,17 @@ pub(crate) fn with_matrix<W: Wording>(
 {
     match component {
         ReadComponent::Faulty(faulty) => {
-            let all = with_matrix_by(alloc, wording, all, faulty, above, text)?;
+            let signatures = signatures_meant(alloc, faulty)?;
+            if signatures.len() > MOST_OPS {
+                return Ok((all, None));
+            }
+            let (all, _) = read_text(alloc, wording, &signatures, all, above, text)?;
             Ok((all, None))
         }
         ReadComponent::Sound(component) => {
-            let (all, read) = with_matrix_of(alloc, wording, all, component, above, text)?;
-            Ok((all, read))
+            let signatures = signatures_of(alloc, component.operations())?;
+            let (all, left) = read_text(alloc, wording, &signatures, all, above, text)?;
+            Ok((all, matrix_of(alloc, component, left)))
         }
     }
 }

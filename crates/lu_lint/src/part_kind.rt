@@ -1,7 +1,6 @@
 //! Which part a part after the matrix is to be.
 
 ghost use Rattle.std.specs.Prelude.{◌≡◌, IfOk};
-ghost use Rattle.lu_text.specs.Lines.{texts};
 ghost use Rattle.lu_lint.specs.Parts as spec;
 
 use lu_text::{lines_of, words_of};
@@ -23,16 +22,6 @@ fn begins_step(word: &[u8]) -> bool
     word == b"call".as_slice() || word == b"return".as_slice() || word == b"stuck".as_slice()
 }
 
-/// Whether the first of these words is such a one.
-fn begin_history(words: &[&[u8]]) -> bool
-    ensures { result ≡ spec.begin_history (texts words.now) }
-{
-    match words.split_first() {
-        None => false,
-        Some((word, _)) => begins_step(word),
-    }
-}
-
 /// Whether a part is to be a recorded history: its first word begins a line of one.
 fn is_history(alloc: Global, text: &[u8]) -> Result<bool, AllocError>
     ensures { IfOk result (λ is. is ≡ spec.is_history text.now) }
@@ -40,8 +29,8 @@ fn is_history(alloc: Global, text: &[u8]) -> Result<bool, AllocError>
     let lines = lines_of(alloc, text)?;
     for line in &lines {
         let words = words_of(alloc, line)?;
-        if !words.is_empty() {
-            return Ok(begin_history(&words));
+        if let Some((word, _)) = words.split_first() {
+            return Ok(begins_step(word));
         }
     }
     Ok(false)

@@ -263,10 +263,7 @@ pub(crate) fn line_before(seen: &[usize], line: usize, back: usize) -> usize
     ensures { result ≡ spec.line_before seen.now line back }
 {
     let index = seen.len().saturating_sub(back);
-    match seen.get(index) {
-        None => line,
-        Some(found) => *found,
-    }
+    seen.get(index).copied().unwrap_or(line)
 }
 
 /// A line of these, from 1.

@@ -1,7 +1,7 @@
 //! The faults of a report's text.
 
-ghost use Rattle.std.specs.Prelude.{◌≡◌, map};
-ghost use Rattle.lu_lint.specs.Said.{SaysAlso, SaysSuch};
+ghost use Rattle.std.specs.Prelude.{◌≡◌};
+ghost use Rattle.lu_lint.specs.Said.{SaysSuch};
 ghost use Rattle.lu_lint.specs.Parts as spec;
 ghost use Rattle.lu_lint.specs.Parts.{ReportSaid};
 
@@ -21,29 +21,11 @@ fn report_said(above: usize, fault: &ReportLineFault) -> Said
     }
 }
 
-/// The remarks with those on these faults of a report of these lines.
-fn with_report_faults<W: Wording>(
-    alloc: Global,
-    wording: &W,
-    mut all: Vec<Remark>,
-    above: usize,
-    lines: &[&[u8]],
-    faults: &[ReportLineFault],
-) -> Result<Vec<Remark>, AllocError>
-    ensures { SaysAlso result all (map (spec.report_said above) faults.now) }
-{
-    for fault in faults {
-        let words = wording.report_fault(alloc, fault, line_of(lines, fault.line))?;
-        all = with_remark(all, report_said(above, fault), words)?;
-    }
-    Ok(all)
-}
-
 /// The remarks with those on a report.
 pub(crate) fn with_report<W: Wording>(
     alloc: Global,
     wording: &W,
-    all: Vec<Remark>,
+    mut all: Vec<Remark>,
     above: usize,
     text: &[u8],
 ) -> Result<Vec<Remark>, AllocError>
@@ -51,7 +33,9 @@ pub(crate) fn with_report<W: Wording>(
 {
     let lines = kept_lines(alloc, text)?;
     let faults = report_faults(alloc, &lines)?;
-    // For the proof: what this returns is looked at before it is returned.
-    let all = with_report_faults(alloc, wording, all, above, &lines, &faults)?;
+    for fault in &faults {
+        let words = wording.report_fault(alloc, fault, line_of(&lines, fault.line))?;
+        all = with_remark(all, report_said(above, fault), words)?;
+    }
     Ok(all)
 }

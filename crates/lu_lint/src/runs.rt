@@ -6,15 +6,14 @@ ghost use Rattle.lu_test.specs.Matrix.{IsOf};
 ghost use Rattle.lu_text.specs.Results.{HasItems};
 ghost use Rattle.lu_lint.specs.Items.{Extends};
 ghost use Rattle.lu_lint.specs.Runs as spec;
-ghost use Rattle.lu_lint.specs.Runs.{AreShownHints, AreTest, OfTest, RunsOfMatrix, RunsSaid, Show};
+ghost use Rattle.lu_lint.specs.Runs.{AreTest, RunsSaid, Show};
 ghost use Rattle.lu_lint.specs.declared.remark.RunHint.TheVariants.{Serial};
 ghost use Rattle.lu_lint.specs.Said.{SaysAlso, SaysSuch};
-ghost use Rattle.lu_text.specs.Lines.{texts};
 
 use crate::component::ReadComponent;
 use crate::remark::{Cause, Remark, RunHint, Said, SerialHint, line_below, with_remark};
 use crate::serial_runs::serial_hints;
-use crate::setup_run::{setup_hints, unsettled_hints};
+use crate::setup_run::setup_hints;
 use crate::words::Wording;
 use lu_component::Component;
 use lu_machine::{Test, settles};
@@ -32,20 +31,8 @@ fn all_hints(mut setup: Vec<RunHint>, serial: Vec<SerialHint>) -> Result<Vec<Run
     Ok(setup)
 }
 
-/// What runs of a test show.
-fn settled_hints(alloc: Global, test: Test<'_>, bound: u16) -> Result<Vec<RunHint>, AllocError>
-    requires some { 1 ≤ bound }
-    requires few { bound ≤ most_moves }
-    ensures { IfOk result (λ hints. OfTest AreShownHints test.entry bound hints.items) }
-{
-    let setup = setup_hints(alloc, test)?;
-    let serial = serial_hints(alloc, test, bound)?;
-    // For the proof: what this returns is looked at before it is returned.
-    let hints = all_hints(setup, serial)?;
-    Ok(hints)
-}
-
-/// What runs of a component and a matrix show.
+/// What runs of a component and a matrix show: that the setup does not settle; or else the setup's own
+/// run, and then the serial runs.
 fn hints_of(
     alloc: Global,
     component: &Component,
@@ -57,20 +44,13 @@ fn hints_of(
     requires few { bound ≤ most_moves }
     ensures { IfOk result (λ hints. Show component.now matrix.now bound hints.items) }
 {
-    match settles(alloc, component, matrix)? {
-        Some(call) => unsettled_hints(alloc, call),
-        None => settled_hints(alloc, Test { component, matrix }, bound),
+    if let Some(call) = settles(alloc, component, matrix)? {
+        return Ok(vec![in alloc; RunHint::SetupGoesOn(call)]?);
     }
-}
-
-/// Whether the words begin with this one.
-fn begin_with(word: &[u8], words: &[&[u8]]) -> bool
-    ensures { result ≡ spec.begin_with word.now (texts words.now) }
-{
-    match words.split_first() {
-        None => false,
-        Some((first, _)) => *first == word,
-    }
+    let test = Test { component, matrix };
+    let setup = setup_hints(alloc, test)?;
+    let serial = serial_hints(alloc, test, bound)?;
+    all_hints(setup, serial)
 }
 
 /// The numbers with that of this line, where it begins with the word.
@@ -84,18 +64,8 @@ fn with_line(
     ensures { Extends result found (spec.line_if word.now number line.now) }
 {
     let words = words_of(alloc, line)?;
-    if begin_with(word, &words) {
+    if words.first().is_some_and(|first| *first == word) {
         found.push(number)?;
-    }
-    Ok(found)
-}
-
-fn lines_from(alloc: Global, word: &[u8], lines: &[&[u8]]) -> Result<Vec<usize>, AllocError>
-    ensures { HasItems result (spec.lines_from word.now 1 (texts lines.now)) }
-{
-    let mut found = Vec::new(alloc);
-    for (before, line) in lines.iter().enumerate() {
-        found = with_line(alloc, found, word, before + 1, line)?;
     }
     Ok(found)
 }
@@ -105,27 +75,22 @@ fn lines_with(alloc: Global, word: &[u8], text: &[u8]) -> Result<Vec<usize>, All
     ensures { HasItems result (spec.lines_with word.now text.now) }
 {
     let lines = lines_of(alloc, text)?;
-    lines_from(alloc, word, &lines)
-}
-
-fn number_at(numbers: &[usize], index: usize) -> usize
-    ensures { result ≡ spec.number_at numbers.now index }
-{
-    match numbers.get(index) {
-        None => 0,
-        Some(number) => *number,
+    let mut found = Vec::new(alloc);
+    for (before, line) in lines.iter().enumerate() {
+        found = with_line(alloc, found, word, before + 1, line)?;
     }
+    Ok(found)
 }
 
 /// The line of a hint, where these are the lines of the setup and of the threads.
 fn hint_line(setup: &[usize], threads: &[usize], hint: &RunHint) -> usize
     ensures { result ≡ spec.hint_line setup.now threads.now hint.now }
 {
-    match hint {
-        RunHint::SetupGoesOn(_) => number_at(setup, 0),
-        RunHint::SetupTraps(_) => number_at(setup, 0),
-        RunHint::Serial(hint) => number_at(threads, usize::from(hint.thread)),
-    }
+    let line = match hint {
+        RunHint::SetupGoesOn(_) | RunHint::SetupTraps(_) => setup.first(),
+        RunHint::Serial(hint) => threads.get(usize::from(hint.thread)),
+    };
+    line.copied().unwrap_or(0)
 }
 
 /// What is said of a hint.
@@ -169,24 +134,6 @@ fn with_hints<W: Wording>(
     Ok(all)
 }
 
-/// The remarks with those that runs of the component and the matrix of this text show.
-fn with_runs_of<W: Wording>(
-    alloc: Global,
-    wording: &W,
-    all: Vec<Remark>,
-    runs: MatrixRuns<'_>,
-    above: usize,
-    text: &[u8],
-) -> Result<Vec<Remark>, AllocError>
-    requires of { IsOf runs.matrix.now runs.component.now }
-    requires some { 1 ≤ runs.bound }
-    requires few { runs.bound ≤ most_moves }
-    ensures { SaysSuch result all (RunsOfMatrix runs.entry above text.now) }
-{
-    let hints = hints_of(alloc, runs.component, runs.matrix, runs.bound)?;
-    with_hints(alloc, wording, all, runs, above, text, hints)
-}
-
 /// The remarks with those that runs show, where the component and the matrix of this text are read.
 /// `serial`, 1 to 256, is the bound of serial runs.
 pub(crate) fn with_runs<W: Wording>(
@@ -206,12 +153,13 @@ pub(crate) fn with_runs<W: Wording>(
 {
     match (component, matrix) {
         (ReadComponent::Sound(component), Some(matrix)) => {
+            let hints = hints_of(alloc, component, matrix, serial)?;
             let runs = MatrixRuns {
                 component,
                 matrix,
                 bound: serial,
             };
-            with_runs_of(alloc, wording, all, runs, above, text)
+            with_hints(alloc, wording, all, runs, above, text, hints)
         }
         _ => Ok(all),
     }

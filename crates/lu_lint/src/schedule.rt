@@ -2,7 +2,7 @@
 
 ghost use Rattle.std.specs.Prelude.{◌≡◌};
 ghost use Rattle.lu_lint.specs.Lint as lint;
-ghost use Rattle.lu_lint.specs.Said.{SaysAlso, said_told};
+ghost use Rattle.lu_lint.specs.Said.{SaysAlso, message_said};
 ghost use Rattle.lu_lint.specs.Schedule as spec;
 ghost use Rattle.lu_lint.specs.Schedule.{schedule_faults, schedule_said};
 ghost use Rattle.lu_lint.specs.declared.remark.FaultKind.TheVariants as part;
@@ -15,7 +15,7 @@ use std::alloc::{AllocError, Global};
 
 /// What is said of a fault of a schedule, on its first line.
 fn said(above: usize, kind: ScheduleFault) -> Said
-    ensures { result ≡ said_told part.Schedule above (lint.told_here 1 kind) }
+    ensures { result ≡ message_said part.Schedule above (lint.message_here 1 kind) }
 {
     Said {
         line: line_below(above, 1),
@@ -59,46 +59,22 @@ fn with_length<W: Wording>(
     with_remark(all, said(above, ScheduleFault::Limit), text)
 }
 
-/// The remarks with those on these words.
-fn with_each<W: Wording>(
+/// The remarks with those on the words of a schedule, up to one that is too many, and that there are
+/// too many.
+fn with_words<W: Wording>(
     alloc: Global,
     wording: &W,
     mut all: Vec<Remark>,
     above: usize,
     words: &[&[u8]],
 ) -> Result<Vec<Remark>, AllocError>
-    ensures { SaysAlso result all (schedule_said above (spec.faults_of_each (texts words.now))) }
-{
-    for word in words {
-        all = with_word(alloc, wording, all, above, word)?;
-    }
-    Ok(all)
-}
-
-/// The first of these words, up to one that is too many.
-fn first_words<'a, 'b>(words: &'b [&'a [u8]]) -> &'b [&'a [u8]]
-    ensures { texts result.now ≡ spec.up_to_too_many (texts words.now) }
-{
-    if words.len() <= MOST_LISTED_MOVES {
-        return words;
-    }
-    words.split_at(MOST_LISTED_MOVES + 1).0
-}
-
-/// The remarks with those on the words of a schedule.
-fn with_words<W: Wording>(
-    alloc: Global,
-    wording: &W,
-    all: Vec<Remark>,
-    above: usize,
-    words: &[&[u8]],
-) -> Result<Vec<Remark>, AllocError>
     ensures { SaysAlso result all (schedule_said above (spec.words_faults (texts words.now))) }
 {
-    let all = with_each(alloc, wording, all, above, first_words(words))?;
-    // For the proof: what this returns is looked at before it is returned.
-    let all = with_length(alloc, wording, all, above, words)?;
-    Ok(all)
+    let first = &words[..(MOST_LISTED_MOVES + 1).min(words.len())];
+    for word in first {
+        all = with_word(alloc, wording, all, above, word)?;
+    }
+    with_length(alloc, wording, all, above, words)
 }
 
 /// The remarks with those on a schedule, before which `above` lines of the bundle stand: that the

@@ -1,15 +1,13 @@
 //! What the serial runs of a test show.
 
-ghost use Rattle.std.specs.Prelude.{◌≡◌, ◌≤◌, [], IfOk};
+ghost use Rattle.std.specs.Prelude.{◌≡◌, ◌≤◌, IfOk};
 ghost use Rattle.std.specs.List.{list_any};
 ghost use Rattle.std.specs.List.Sorted.{IsStrictlySortedBy};
 ghost use Rattle.lu_report.specs.Limits.{most_moves};
-ghost use Rattle.lu_machine.specs.Runs as runs;
 ghost use Rattle.lu_machine.specs.Tests.{FromEachStartOf};
-ghost use Rattle.lu_trie.specs.Members.{empty_if, history_cmp};
+ghost use Rattle.lu_trie.specs.Members.{history_cmp};
 ghost use Rattle.lu_serial.specs.Serial as serial;
 ghost use Rattle.lu_text.specs.Results.{HasItems};
-ghost use Rattle.lu_lint.specs.Items.{Extends};
 ghost use Rattle.lu_lint.specs.Runs as spec;
 ghost use Rattle.lu_lint.specs.Runs.{CanPlay, HintsOfCut, ShownSerially, ShowsFromEachStart, ShowsHistory, history_hints, set_hints, with_firsts, with_set};
 
@@ -39,28 +37,17 @@ fn ending_of(outcome: SerialOutcome) -> Option<Ending>
     }
 }
 
-fn same_ending(a: Ending, b: Ending) -> bool
-    ensures { result ≡ spec.same_ending a b }
-{
-    match (a, b) {
-        (Ending::Trap, Ending::Trap) => true,
-        (Ending::Stuck, Ending::Stuck) => true,
-        (Ending::Cut, Ending::Cut) => true,
-        _ => false,
-    }
-}
-
 /// Whether two hints are of the same call, with the same ending.
 fn are_alike(a: &SerialHint, b: &SerialHint) -> bool
     ensures { result ≡ spec.are_alike a.now b.now }
 {
-    a.thread == b.thread && a.call == b.call && same_ending(a.ending, b.ending)
+    a.thread == b.thread && a.call == b.call && a.ending == b.ending
 }
 
-fn have_like(told: &[SerialHint], hint: &SerialHint) -> bool
-    ensures { result ≡ list_any (spec.are_alike hint.now) told.now }
+fn have_like(found: &[SerialHint], hint: &SerialHint) -> bool
+    ensures { result ≡ list_any (spec.are_alike hint.now) found.now }
 {
-    told.iter().any(|other| are_alike(hint, other))
+    found.iter().any(|other| are_alike(hint, other))
 }
 
 /// That the next operation of the thread after these ends so.
@@ -81,82 +68,56 @@ fn hint_of(
 }
 
 /// The hints with this one, unless there is one of its call and its ending.
-fn with_hint(mut told: Vec<SerialHint>, hint: SerialHint) -> Result<Vec<SerialHint>, AllocError>
-    ensures { HasItems result (spec.with_hint told.items hint) }
+fn with_hint(mut found: Vec<SerialHint>, hint: SerialHint) -> Result<Vec<SerialHint>, AllocError>
+    ensures { HasItems result (spec.with_hint found.items hint) }
 {
-    if have_like(&told, &hint) {
-        return Ok(told);
+    if have_like(&found, &hint) {
+        return Ok(found);
     }
-    told.push(hint)?;
-    Ok(told)
-}
-
-/// The hints with that of an operation after these, where it is reported.
-fn with_op(
-    alloc: Global,
-    told: Vec<SerialHint>,
-    before: &[SerialOp],
-    op: SerialOp,
-) -> Result<Vec<SerialHint>, AllocError>
-    ensures { HasItems result (with_firsts told.items (spec.op_hints before.now op)) }
-{
-    match ending_of(op.outcome) {
-        None => Ok(told),
-        Some(ending) => with_hint(told, hint_of(alloc, before, op.thread, ending)?),
-    }
+    found.push(hint)?;
+    Ok(found)
 }
 
 /// The hints with those of the operations of a history.
 fn with_history(
     alloc: Global,
-    mut told: Vec<SerialHint>,
+    mut found: Vec<SerialHint>,
     history: &[SerialOp],
 ) -> Result<Vec<SerialHint>, AllocError>
-    ensures { HasItems result (with_firsts told.items (history_hints history.now)) }
+    ensures { HasItems result (with_firsts found.items (history_hints history.now)) }
 {
     for (position, op) in history.iter().enumerate() {
+        let Some(ending) = ending_of(op.outcome) else {
+            continue;
+        };
         let (before, _) = history.split_at(position);
-        told = with_op(alloc, told, before, *op)?;
+        found = with_hint(found, hint_of(alloc, before, op.thread, ending)?)?;
     }
-    Ok(told)
-}
-
-/// The hints with those of the path, where it is a history.
-fn with_end(
-    alloc: Global,
-    told: Vec<SerialHint>,
-    ends: bool,
-    path: &[SerialOp],
-) -> Result<Vec<SerialHint>, AllocError>
-    ensures { HasItems result (with_set told.items path.now (empty_if ends)) }
-{
-    if ends {
-        with_history(alloc, told, path)
-    } else {
-        Ok(told)
-    }
+    Ok(found)
 }
 
 /// The hints with those of all histories that begin with the path, which leads to this place.
 fn with_below<T: SerialTree>(
     alloc: Global,
-    mut told: Vec<SerialHint>,
+    mut found: Vec<SerialHint>,
     tree: &T,
     place: T::Place,
     path: &mut Vec<SerialOp>,
 ) -> Result<Vec<SerialHint>, AllocError>
     requires { T.is_place tree.now place }
-    ensures hints { HasItems result (with_set told.items path.old.items (T.below tree.now place)) }
+    ensures hints { HasItems result (with_set found.items path.old.items (T.below tree.now place)) }
     ensures path { IfOk result (λ next. path.new.items ≡ path.old.items) }
 {
-    told = with_end(alloc, told, tree.ends(place), path)?;
+    if tree.ends(place) {
+        found = with_history(alloc, found, path)?;
+    }
     for i in 0..tree.kid_count(place) {
         let (op, below) = tree.kid(place, i);
         path.push(op)?;
-        told = with_below(alloc, told, tree, below, path)?;
+        found = with_below(alloc, found, tree, below, path)?;
         path.pop();
     }
-    Ok(told)
+    Ok(found)
 }
 
 /// What the histories of a set show.
@@ -168,19 +129,7 @@ fn set_hints(alloc: Global, set: &Trie<Global>) -> Result<Vec<SerialHint>, Alloc
     let _members = set.len();
     let tree = &set;
     let root = tree.root();
-    // For the proof: what this returns is looked at before it is returned.
-    let hints = with_below(alloc, Vec::new(alloc), tree, root, &mut Vec::new(alloc))?;
-    Ok(hints)
-}
-
-/// The history with this event, or none.
-fn with_event(mut history: Vec<Event>, event: Option<Event>) -> Result<Vec<Event>, AllocError>
-    ensures { Extends result history (runs.with_event event []) }
-{
-    if let Some(event) = event {
-        history.push(event)?;
-    }
-    Ok(history)
+    with_below(alloc, Vec::new(alloc), tree, root, &mut Vec::new(alloc))
 }
 
 /// The history of a schedule, whose moves are asked to be feasible.
@@ -191,23 +140,11 @@ fn played(alloc: Global, test: Test<'_>, schedule: &Schedule) -> Result<Vec<Even
     let mut machine = Machine::start(alloc, test.component, test.matrix)?;
     let mut history = Vec::new(alloc);
     for next in schedule.moves() {
-        let event = machine.step(*next);
-        history = with_event(history, event)?;
+        if let Some(event) = machine.step(*next) {
+            history.push(event)?;
+        }
     }
     Ok(history)
-}
-
-/// The serial operations with that which an event ends, if it is a return.
-fn with_entry(mut entries: Vec<SerialOp>, event: Event) -> Result<Vec<SerialOp>, AllocError>
-    ensures { Extends result entries (serial.entry_of event) }
-{
-    if let Event::Return { t, outcome, k: _ } = event {
-        entries.push(SerialOp {
-            thread: t,
-            outcome: SerialOutcome::from(outcome),
-        })?;
-    }
-    Ok(entries)
 }
 
 /// The serial operations of a history.
@@ -216,32 +153,28 @@ fn entries_of(alloc: Global, history: &[Event]) -> Result<Vec<SerialOp>, AllocEr
 {
     let mut entries = Vec::new(alloc);
     for event in history {
-        entries = with_entry(entries, *event)?;
+        match *event {
+            Event::Call { .. } => {}
+            Event::Return { t, outcome, .. } => entries.push(SerialOp {
+                thread: t,
+                outcome: SerialOutcome::from(outcome),
+            })?,
+        }
     }
     Ok(entries)
 }
 
-/// That the last event of a history is a call that is cut, after these operations.
-fn last_hints(
-    alloc: Global,
-    before: &[SerialOp],
-    last: Option<Event>,
-) -> Result<Vec<SerialHint>, AllocError>
-    ensures { HasItems result (spec.last_hints before.now last) }
-{
-    let mut hints = Vec::new(alloc);
-    if let Some(Event::Call { t, .. }) = last {
-        hints.push(hint_of(alloc, before, t, Ending::Cut)?)?;
-    }
-    Ok(hints)
-}
-
-/// What a schedule that is cut shows, by its history.
+/// What a schedule that is cut shows, by its history: the call that stands last in it.
 fn cut_hints(alloc: Global, history: &[Event]) -> Result<Vec<SerialHint>, AllocError>
     ensures { HasItems result (spec.cut_hints history.now) }
 {
     let before = entries_of(alloc, history)?;
-    last_hints(alloc, &before, history.last().copied())
+    match history.last() {
+        Some(Event::Call { t, .. }) => {
+            Ok(vec![in alloc; hint_of(alloc, &before, *t, Ending::Cut)?]?)
+        }
+        _ => Ok(Vec::new(alloc)),
+    }
 }
 
 /// What the serial runs show where one is cut.
@@ -254,9 +187,7 @@ fn hints_of_cut(
     ensures { ShowsFromEachStart result test.entry (HintsOfCut schedule.now) }
 {
     let history = played(alloc, test, schedule)?;
-    // For the proof: what this returns is looked at before it is returned.
-    let hints = cut_hints(alloc, &history)?;
-    Ok(hints)
+    cut_hints(alloc, &history)
 }
 
 /// What the serial runs show.

@@ -1,13 +1,11 @@
 //! What the setup's own run shows.
 
-ghost use Rattle.std.specs.Prelude.{◌∷◌, [], IfOk};
+ghost use Rattle.std.specs.Prelude.{[], IfOk};
 ghost use Rattle.std.specs.List.{flat_map};
 ghost use Rattle.lu_machine.specs.Runs as runs;
-ghost use Rattle.lu_text.specs.Results.{HasItems};
 ghost use Rattle.lu_lint.specs.Items.{Extends};
 ghost use Rattle.lu_lint.specs.Runs as spec;
 ghost use Rattle.lu_lint.specs.Runs.{OfTest, ShownByRun, ShownBySetup};
-ghost use Rattle.lu_lint.specs.declared.remark.RunHint.TheVariants.{SetupGoesOn};
 
 use crate::remark::RunHint;
 use lu_machine::{Event, Machine, Outcome, Test};
@@ -62,13 +60,4 @@ pub(crate) fn setup_hints(alloc: Global, test: Test<'_>) -> Result<Vec<RunHint>,
     let alone = setup_alone(alloc, test.matrix)?;
     let machine = Machine::start(alloc, test.component, &alone)?;
     run_hints(alloc, machine)
-}
-
-/// That this call of the setup does not end.
-pub(crate) fn unsettled_hints(alloc: Global, call: u8) -> Result<Vec<RunHint>, AllocError>
-    ensures { HasItems result (SetupGoesOn call ∷ []) }
-{
-    let mut hints = Vec::new(alloc);
-    hints.push(RunHint::SetupGoesOn(call))?;
-    Ok(hints)
 }

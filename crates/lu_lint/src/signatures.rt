@@ -1,6 +1,6 @@
 //! What the calls of a matrix are judged by where its component has faults.
 
-ghost use Rattle.std.specs.Prelude.{◌≡◌, take};
+ghost use Rattle.std.specs.Prelude.{◌≡◌};
 ghost use Rattle.lu_component.specs.declared.component.TheConstants.{MOST_OPS};
 ghost use Rattle.lu_text.specs.Results.{HasItems};
 ghost use Rattle.lu_lint.specs.Items.{Extends};
@@ -17,10 +17,11 @@ use std::alloc::{AllocError, Global};
 fn is_open(faulty: &FaultyDraft, name: &[u8]) -> bool
     ensures { result ≡ spec.is_open faulty.now name.now }
 {
-    match &faulty.draft.begun {
-        None => false,
-        Some(op) => op.name.is(name),
-    }
+    faulty
+        .draft
+        .begun
+        .as_ref()
+        .is_some_and(|op| op.name.is(name))
 }
 
 /// The signature of an operation. How many arguments it takes is not known where a line that begins
@@ -34,22 +35,6 @@ fn signature_in<'a>(faulty: &FaultyDraft, name: &'a Name, args: u8) -> Signature
         Some(args)
     };
     Signature { name, arity }
-}
-
-/// The signatures with that of the open operation.
-fn with_open<'a>(
-    mut signatures: Vec<Signature<'a>>,
-    faulty: &'a FaultyDraft,
-) -> Result<Vec<Signature<'a>>, AllocError>
-    ensures { Extends result signatures.entry (spec.open_signature faulty.entry.now) }
-{
-    match &faulty.draft.begun {
-        None => Ok(signatures),
-        Some(op) => {
-            signatures.push(signature_in(faulty, &op.name, op.args))?;
-            Ok(signatures)
-        }
-    }
 }
 
 /// The signatures with that of this operation, unless it is named again after.
@@ -82,20 +67,12 @@ fn signatures_from<'a>(
         let (_, after) = ops.split_at(before + 1);
         signatures = with_once(signatures, faulty, op, after)?;
     }
-    // For the proof: what this returns is looked at before it is returned.
-    let signatures = with_open(signatures, faulty)?;
-    Ok(signatures)
-}
-
-/// No more operations than a component may have: the first of these.
-#[tactic(auto, using(crate::proofs::Signed::few_taken))]
-fn first_of(ops: &[Op]) -> &[Op]
-    ensures { result.now ≡ take MOST_OPS ops.now }
-{
-    if ops.len() > MOST_OPS {
-        &ops[..MOST_OPS]
-    } else {
-        ops
+    match &faulty.draft.begun {
+        None => Ok(signatures),
+        Some(op) => {
+            signatures.push(signature_in(faulty, &op.name, op.args))?;
+            Ok(signatures)
+        }
     }
 }
 
@@ -111,6 +88,6 @@ pub(crate) fn signatures_meant<'a>(
 ) -> Result<Vec<Signature<'a>>, AllocError>
     ensures { HasItems result (spec.signatures_meant faulty.entry.now) }
 {
-    let ops = first_of(&faulty.draft.operations);
-    signatures_from(alloc, faulty, ops)
+    let ops = &faulty.draft.operations;
+    signatures_from(alloc, faulty, &ops[..MOST_OPS.min(ops.len())])
 }

@@ -107,47 +107,34 @@ fn is_lock_named(component: &Component, lock: usize) -> bool
 fn place_named(labels: &[Label], name: &[u8]) -> Option<usize>
     ensures { result ≡ spec.place_named labels.now name.now }
 {
-    match labels.iter().find(|label| label.name.is(name)) {
-        None => None,
-        Some(label) => Some(usize::from(label.place)),
-    }
+    labels
+        .iter()
+        .find(|label| label.name.is(name))
+        .map(|label| usize::from(label.place))
 }
 
 /// Whether it is so at this place.
 fn holds_at(row: &[bool], place: usize) -> bool
     ensures { result ≡ spec.holds_at row.now place }
 {
-    match row.get(place) {
-        None => false,
-        Some(holds) => *holds,
-    }
+    row.get(place).copied().unwrap_or(false)
 }
 
 /// Whether it is so at the place of this label.
 fn holds_named(row: &[bool], op: &OpenOp, name: &[u8]) -> bool
     ensures { result ≡ spec.holds_where row.now (spec.place_named op.now.labels name.now) }
 {
-    match place_named(&op.labels, name) {
-        None => false,
-        Some(place) => holds_at(row, place),
-    }
-}
-
-/// What a row says from its second place on.
-fn after_first(row: &[bool]) -> &[bool]
-    ensures { result.now ≡ drop 1 row.now }
-{
-    match row {
-        [] => row,
-        [_, rest @ ..] => rest,
-    }
+    place_named(&op.labels, name).is_some_and(|place| holds_at(row, place))
 }
 
 /// Whether it is so at the place after this one.
 fn holds_after(row: &[bool], place: usize) -> bool
     ensures { result ≡ spec.holds_after row.now place }
 {
-    holds_at(after_first(row), place)
+    match row {
+        [] => false,
+        [_, rest @ ..] => holds_at(rest, place),
+    }
 }
 
 /// Whether a return is reached from the statement at this place, where this row says from which
@@ -175,17 +162,11 @@ fn next_returns(alloc: Global, op: &OpenOp, row: &[bool]) -> Result<Vec<bool>, A
         .collect(alloc)
 }
 
-fn no_row(alloc: Global, op: &OpenOp) -> Result<Vec<bool>, AllocError>
-    ensures { HasItems result (map (λ s. false) op.now.statements) }
-{
-    op.statements.iter().map(|_| false).collect(alloc)
-}
-
 /// From which places a return is reached.
 fn returns_from(alloc: Global, op: &OpenOp) -> Result<Vec<bool>, AllocError>
     ensures { HasItems result (spec.returns_within op.now (length op.now.statements)) }
 {
-    let mut row = no_row(alloc, op)?;
+    let mut row = vec![in alloc; false; op.statements.len()]?;
     for _round in 0..op.statements.len() {
         row = next_returns(alloc, op, &row)?;
     }
@@ -213,8 +194,7 @@ fn jumps_to_label(name: &[u8], statement: &Statement) -> bool
 {
     match statement {
         Statement::Plain(_) => false,
-        Statement::Jump(label) => label.is(name),
-        Statement::JumpIfZero(_, label) => label.is(name),
+        Statement::Jump(label) | Statement::JumpIfZero(_, label) => label.is(name),
     }
 }
 
@@ -310,23 +290,19 @@ fn spins_to(statements: &[Statement], place: usize, target: usize) -> bool
     only_look(again) || only_try(again)
 }
 
-fn spins_by(op: &OpenOp, place: usize, name: &[u8]) -> bool
-    ensures { result ≡ spec.spins_at op.now place (Some name.now) }
-{
-    match place_named(&op.labels, name) {
-        None => false,
-        Some(target) => spins_to(&op.statements, place, target),
-    }
-}
-
 /// Whether the statement at this place jumps back without waiting.
 fn spins_at(op: &OpenOp, place: usize, statement: &Statement) -> bool
     ensures { result ≡ spec.spins_at op.now place (label_used statement.now) }
 {
     match statement {
         Statement::Plain(_) => false,
-        Statement::Jump(label) => spins_by(op, place, label.as_bytes()),
-        Statement::JumpIfZero(_, label) => spins_by(op, place, label.as_bytes()),
+        Statement::Jump(label) | Statement::JumpIfZero(_, label) => {
+            place_named(&op.labels, label.as_bytes()).is_some_and(|target| spins_to(
+                &op.statements,
+                place,
+                target,
+            ))
+        }
     }
 }
 
@@ -367,32 +343,12 @@ fn declared_hint(
 ) -> Result<Vec<FoundHint>, AllocError>
     ensures { HasItems result (spec.declared_hint hint declared ∷ []) }
 {
-    let mut hints = Vec::new(alloc);
-    hints.push(FoundHint {
+    let found = FoundHint {
         back: 0,
         hint,
         unless_named: Some(declared),
-    })?;
-    Ok(hints)
-}
-
-/// The hints at a declaration.
-fn outside_hints(
-    alloc: Global,
-    draft: &ComponentDraft,
-    word: &[u8],
-) -> Result<Vec<FoundHint>, AllocError>
-    ensures { HasItems result (spec.state_hints draft.now None word.now) }
-{
-    if word == b"word".as_slice() {
-        let array = Declared::Array(draft.arrays.len());
-        declared_hint(alloc, Hint::UnnamedArray, array)
-    } else if word == b"lock".as_slice() {
-        let lock = Declared::Lock(draft.locks.len());
-        declared_hint(alloc, Hint::UnnamedLock, lock)
-    } else {
-        Ok(Vec::new(alloc))
-    }
+    };
+    Ok(vec![in alloc; found]?)
 }
 
 /// The hints at a line that begins with this word.
@@ -404,14 +360,18 @@ fn state_hints(
     ensures { HasItems result (spec.state_hints draft.now draft.now.begun word.now) }
 {
     match &draft.begun {
-        None => outside_hints(alloc, draft, word),
-        Some(op) => {
-            if word == b"end".as_slice() {
-                end_hints(alloc, op)
-            } else {
-                Ok(Vec::new(alloc))
-            }
+        None if word == b"word".as_slice() => {
+            declared_hint(
+                alloc,
+                Hint::UnnamedArray,
+                Declared::Array(draft.arrays.len()),
+            )
         }
+        None if word == b"lock".as_slice() => {
+            declared_hint(alloc, Hint::UnnamedLock, Declared::Lock(draft.locks.len()))
+        }
+        Some(op) if word == b"end".as_slice() => end_hints(alloc, op),
+        _ => Ok(Vec::new(alloc)),
     }
 }
 
@@ -428,18 +388,6 @@ pub(crate) fn hints_while(
         Some((word, _)) if sound => state_hints(alloc, draft, word),
         _ => Ok(Vec::new(alloc)),
     }
-}
-
-/// The warnings with one more.
-#[tactic(auto, using(crate::proofs::Warned::one_more))]
-fn with_warning(
-    mut warnings: Vec<PossibleWarning>,
-    warning: PossibleWarning,
-) -> Result<Vec<PossibleWarning>, AllocError>
-    ensures { FindsAlso result warnings (spec.without_words warning ∷ []) }
-{
-    warnings.push(warning)?;
-    Ok(warnings)
 }
 
 /// The warnings with these, found at a line after this draft.
@@ -460,13 +408,12 @@ pub(crate) fn with_found<W: Wording>(
 {
     for found in hints {
         let words = wording.warning(alloc, draft, text, found.hint, found.back)?;
-        let warning = PossibleWarning {
+        warnings.push(PossibleWarning {
             line: line_before(&at.seen, at.line, found.back),
             hint: found.hint,
             unless_named: found.unless_named,
             words,
-        };
-        warnings = with_warning(warnings, warning)?;
+        })?;
     }
     Ok(warnings)
 }

@@ -5,7 +5,7 @@ ghost use Rattle.lu_text.specs.Writing.{Writes};
 ghost use Rattle.lu_lint.specs.Messages as spec;
 ghost use Rattle.lu_lint.specs.Messages.{remarks_text};
 
-use crate::remark::{Cause, FaultKind, Remark};
+use crate::remark::{Cause, Remark};
 use std::alloc::AllocError;
 
 /// What stands before the words.
@@ -15,26 +15,7 @@ fn remark_word(cause: &Cause) -> &'static str
     if cause.is_fault() { "" } else { "warning: " }
 }
 
-/// Adds the code of a fault and its line in the part.
-fn write_fault_tail(text: &mut String, kind: FaultKind, line: usize) -> Result<(), AllocError>
-    ensures { Writes result text.old text.new (spec.fault_tail kind line) }
-{
-    let (code, part) = (kind.code(), kind.part());
-    write!(text, " ({code}, line {line} of the {part})\n")
-}
-
-/// Adds what stands after the words.
-fn write_tail(text: &mut String, cause: &Cause) -> Result<(), AllocError>
-    ensures { Writes result text.old text.new (spec.remark_tail cause.now) }
-{
-    match cause {
-        Cause::Fault(kind, line) => write_fault_tail(text, *kind, *line),
-        Cause::FifthPart => text.push_str(" (B1)\n"),
-        Cause::Separator | Cause::Warning(_) | Cause::Run(_) => text.push_str("\n"),
-    }
-}
-
-/// Adds the line of one remark.
+/// Adds the line of one remark: of a fault with its code and its line in the part.
 fn write_remark(text: &mut String, remark: &Remark) -> Result<(), AllocError>
     ensures { Writes result text.old text.new (spec.remark_text remark.now) }
 {
@@ -46,7 +27,14 @@ fn write_remark(text: &mut String, remark: &Remark) -> Result<(), AllocError>
         remark_word(cause),
         remark.words.as_str()
     )?;
-    write_tail(text, cause)
+    match cause {
+        Cause::Fault(kind, line) => {
+            let (code, part) = (kind.code(), kind.part());
+            write!(text, " ({code}, line {line} of the {part})\n")
+        }
+        Cause::FifthPart => text.push_str(" (B1)\n"),
+        Cause::Separator | Cause::Warning(_) | Cause::Run(_) => text.push_str("\n"),
+    }
 }
 
 /// Adds a line for each remark.

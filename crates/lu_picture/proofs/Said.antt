@@ -48,7 +48,7 @@ use Rattle.lu_trace.specs.declared.wording.Wording.{Wording}
 use Rattle.lu_trace.specs.declared.wording.Wording.TheVariants.{Component}
 use Rattle.lu_trace.specs.Wordings.{goes_on_at, is_indexed, register_becomes}
 use Rattle.lu_trace.specs.Deeds.{awaited, cell_becomes, cell_is, cell_is_not, cell_word, deed, index_word, jump_deed, looked, named_cell, or_trap, owned_by, present, register_after, loaded, seen, swap_of, swapped}
-use Rattle.lu_trace.specs.Lines.{call_words as call_said, code_of_operation, told_by, next_call, next_instr, next_move_words}
+use Rattle.lu_trace.specs.Lines.{call_words as call_said, code_of_operation, head_of, next_call, next_instr, next_move_words}
 use Rattle.lu_picture.specs.declared.mark.End.{End}
 use Rattle.lu_picture.specs.Reasons.{outcome_of, why_words}
 use Rattle.lu_picture.specs.Shapes.{activity_waits, call_words, heading, instr_wait, status_words, step_words, wait_words}
@@ -143,7 +143,7 @@ label_text_plain : (code : List Instr) (place : ℕ) → IsPlain (label_text cod
 label_text_plain code place =
     plain_if (list_any (leads_to place) code) (label_word place ++ codes ": ") [] (plain_append (label_word place) (codes ": ") (label_plain place) refl) refl
 
-instr_plain : (c : AComponent) (f : Frame) (instr : Instr) → IsComponent c → IsPlain (told_by Component c f instr)
+instr_plain : (c : AComponent) (f : Frame) (instr : Instr) → IsComponent c → IsPlain (head_of Component c f instr)
 instr_plain c f instr limits =
     plain_three (label_text (code_of_operation c f.op) f.place) (join_with_byte 32 (instr_words c instr)) (codes "  # ") (label_text_plain (code_of_operation c f.op) f.place) (plain_joined (instr_words c instr) (words_plain c instr limits)) refl
 
@@ -228,10 +228,10 @@ next_call_plain s t done limits = by_call (slice_get (calls_of s.matrix t) done)
 next_instr_plain : (s : State) (m : Move) (f : Frame) → IsComponent s.component → IsPlain (next_instr Component s m f)
 next_instr_plain s m f limits = by_instr (instr_at s.component f.op f.place)
   where
-    by_instr : (o : Option Instr) → IsPlain (option_map_or (λ instr. told_by Component s.component f instr ++ deed Component s m f instr) o [])
+    by_instr : (o : Option Instr) → IsPlain (option_map_or (λ instr. head_of Component s.component f instr ++ deed Component s m f instr) o [])
     by_instr None = refl
     by_instr (Some instr) =
-        plain_append (told_by Component s.component f instr) (deed Component s m f instr) (instr_plain s.component f instr limits) (deed_plain s m f instr limits)
+        plain_append (head_of Component s.component f instr) (deed Component s m f instr) (instr_plain s.component f instr limits) (deed_plain s m f instr limits)
 
 next_plain : (s : State) (m : Move) (done : ℕ) (activity : Activity) → IsComponent s.component → IsPlain (next_move_words Component s m done activity)
 next_plain s m done Idle limits = next_call_plain s m.thread done limits

@@ -76,8 +76,8 @@ IsFromOutside test serial members answer =
 
 -- whether u is ended, and not good for the set
 abbrev pub TellsRefutation : Test → List (List SerialOp) → List Move → Bool → Type 0
-TellsRefutation test members u told =
-    (s : State) → IsStartOf test s → IsTrue told ↔ Refutes (IsMember members) s u
+TellsRefutation test members u answer =
+    (s : State) → IsStartOf test s → IsTrue answer ↔ Refutes (IsMember members) s u
 
 -- the finding is a failure by this schedule, which is ended and not good for the set
 abbrev pub IsOfFailure : State → List (List SerialOp) → Finding → List Move → Type 0

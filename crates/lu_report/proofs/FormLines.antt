@@ -22,7 +22,7 @@ use Rattle.lu_report.specs.Parts.{IsThreadOf}
 use Rattle.lu_report.specs.Text.{fail_line, finding_lines, number_line, version_line, version_of}
 use Rattle.lu_report.specs.Forms.{AreReport, DiffersAt, IsFaultLine, IsVersionLine, Spells}
 use Rattle.lu_report.specs.EveryLine.{AreFaultsFrom, AreReportFaults, IsFindingLine, IsJudgedAs, IsJudgementLine, IsLineOf, after_finding, fault_on, missing, next_form, next_wanted, version_by}
-use Rattle.lu_report.specs.Laws.{IsToldAsRead}
+use Rattle.lu_report.specs.Laws.{IsListedAsRead}
 use Rattle.lu_report.proofs.PartLines.{AreBeforeLines, AreBounded, AreConflict, AreCountLines, AreCut, AreEarlier, AreFinding, AreJudgement, AreLocal, AreNone, AreRun, AreStuck, IsLineThen, a_before, a_cut, a_finding, a_judgement, a_local, a_stuck, an_earlier, bounded_back, bounded_into, conflict_found, conflict_only, counts_found, cut_only, fail_only, no_schedule, nothing, pass_only, run_found, some_after}
 use Rattle.lu_report.proofs.OneText.{report_again}
 
@@ -340,10 +340,10 @@ pub no_first_fault : (lines : List (List ℕ)) (faults : List ReportLineFault) (
 no_first_fault lines [] line are is none = absurd (none (told_lines lines [] are))
 no_first_fault lines (fault ∷ others) line are is none = absurd cc
 
-pub told_as_read : (text : List ℕ) (faults : List ReportLineFault) → AreReportFaults (kept_lines text) faults → IsToldAsRead text faults
-told_as_read text faults are = by_faults faults (told_lines (kept_lines text) faults are)
+pub listed_as_read : (text : List ℕ) (faults : List ReportLineFault) → AreReportFaults (kept_lines text) faults → IsListedAsRead text faults
+listed_as_read text faults are = by_faults faults (told_lines (kept_lines text) faults are)
   where
-    by_faults : (faults : List ReportLineFault) → Told AreReport 1 (kept_lines text) faults → IsToldAsRead text faults
+    by_faults : (faults : List ReportLineFault) → Told AreReport 1 (kept_lines text) faults → IsListedAsRead text faults
     by_faults [] (r, (limits, sound, is)) = (r, (limits, sound, sym (joined_lines text) ∙ ap concat is))
     by_faults (first ∷ others) told = told
 
@@ -351,7 +351,7 @@ told_as_read text faults are = by_faults faults (told_lines (kept_lines text) fa
 pub none_told : (text : List ℕ) (r : Report) (faults : List ReportLineFault) → Spells text r → AreReportFaults (kept_lines text) faults → faults ≡ []
 none_told text r [] spells are = refl
 none_told text r (first ∷ others) spells are =
-    let fault = told_as_read text (first ∷ others) are in
+    let fault = listed_as_read text (first ∷ others) are in
     let report : AreReport (kept_lines text) = (r, (spells.0, spells.1, ap kept_lines spells.2 ∙ report_again r spells.0 spells.1)) in
     absurd (fault.2.there (kept_lines text) report refl)
 

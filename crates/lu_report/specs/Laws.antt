@@ -10,18 +10,18 @@ use Rattle.lu_report.specs.EveryLine.{AreReportFaults}
 
 -- Where nothing is reported of a text it spells a report; else the first fault that is reported is
 -- on the reader's line.
-abbrev pub IsToldAsRead : List ℕ → List ReportLineFault → Type 0
-IsToldAsRead text [] = (r : Report) × Spells text r
-IsToldAsRead text (first ∷ others) = IsFault text (At Form first.line)
+abbrev pub IsListedAsRead : List ℕ → List ReportLineFault → Type 0
+IsListedAsRead text [] = (r : Report) × Spells text r
+IsListedAsRead text (first ∷ others) = IsFault text (At Form first.line)
 
 -- What is reported of a text agrees with its reader.
-abbrev pub ToldAsRead : Type 0
-ToldAsRead =
+abbrev pub ListedAsRead : Type 0
+ListedAsRead =
     (text : List ℕ) (faults : List ReportLineFault) →
-    AreReportFaults (kept_lines text) faults → IsToldAsRead text faults
+    AreReportFaults (kept_lines text) faults → IsListedAsRead text faults
 
 -- Nothing is reported of a text that is read.
-abbrev pub NoneTold : Type 0
-NoneTold =
+abbrev pub NoneListed : Type 0
+NoneListed =
     (text : List ℕ) (r : Report) (faults : List ReportLineFault) →
     Spells text r → AreReportFaults (kept_lines text) faults → faults ≡ []

@@ -1,11 +1,11 @@
 //! Laws of the texts of reports, for the crates above.
 
-ghost use Rattle.lu_report.specs.Laws.{NoneTold, ToldAsRead};
+ghost use Rattle.lu_report.specs.Laws.{NoneListed, ListedAsRead};
 
 /// [`crate::report_faults`] agrees with [`crate::read_report`]: it tells no fault exactly of a text
 /// that spells a report, and of any other first one on the reader's line. The function does
 /// nothing.
-pub fn told_as_read()
-    ensures first { ToldAsRead }
-    ensures none { NoneTold }
+pub fn listed_as_read()
+    ensures first { ListedAsRead }
+    ensures none { NoneListed }
 {}

@@ -1,2 +1,2 @@
-pub mod Telling
+pub mod Reported
 pub mod Found

@@ -1,7 +1,7 @@
 -- Every fault of a source's text: the first one, and then those that are left where the faulty line
 -- is read as it may have been meant.
-use Rattle.std.specs.Prelude.{◌≡◌, ℕ, zero, suc, ◌+◌, ◌-◌, ◌==◌, nat_lt, min, Bool, true, false, not, ◌||◌, List, [], ◌∷◌, ◌++◌, length, map, set, take, Option, Some, None, Result, Ok, Err, IfOk, Vec, codes, if◌then◌else◌}
-use Rattle.std.specs.List.{slice_get}
+use Rattle.std.specs.Prelude.{◌≡◌, ℕ, zero, suc, ◌-◌, ◌==◌, nat_lt, min, Bool, true, false, not, ◌&&◌, ◌||◌, List, [], ◌∷◌, ◌++◌, length, map, set, take, Option, Some, None, Result, Ok, Err, Vec, codes, if◌then◌else◌}
+use Rattle.std.specs.List.{position, slice_get}
 use Rattle.std.specs.Option.{unwrap_or}
 use Rattle.lu_text.specs.declared.fault.Fault.{Fault}
 use Rattle.lu_text.specs.declared.fault.Fault.TheVariants.{At, Memory}
@@ -35,13 +35,10 @@ ends_arguments word = is_word word (codes ")") || is_word word (codes "{")
 
 -- where the arguments of a line end that begins an operation
 abbrev pub arguments_end : List Word → ℕ
-arguments_end [] = 0
-arguments_end (word ∷ words) = if ends_arguments word then 0 else 1 + arguments_end words
+arguments_end words = unwrap_or (position ends_arguments words) (length words)
 
--- How many words of a faulty line stay, and what stands after them in place of the others: a name
--- that the line declares is declared, and a block that it opens is open. First of a line that
--- begins with `}`, then of one that begins with `op`, of which the first 4 arguments stay, then of
--- one that begins with `word`, and then of any.
+-- How many words of a faulty line stay, and what stands after them in place of the others: of a line
+-- that begins with `}`, and of one that begins with `op`, of which the first 4 arguments stay.
 abbrev pub meant_end : List Word → ℕ × List ℕ
 meant_end words =
     if not (opens words) then (1, [])
@@ -52,28 +49,20 @@ meant_op words =
     if nat_lt (arguments_end words) 3 then (2, codes "() {")
     else (min (arguments_end words) 10, codes ") {")
 
-abbrev pub meant_word : List Word → ℕ × List ℕ
-meant_word words = if word_is words 2 (codes "[") then (2, codes "[1]") else (2, [])
-
-abbrev pub meant : List Word → ℕ × List ℕ
-meant words =
-    if word_is words 0 (codes "let") then (2, codes "= 0")
-    else (if word_is words 0 (codes "const") then (2, codes "= 0")
-    else (if word_is words 0 (codes "word") then meant_word words
-    else (if word_is words 0 (codes "lock") then (2, [])
+-- The same of any line, by its fault and its first word: a name that the line declares is declared,
+-- a block that it opens is open, and one that should have named the object names it.
+abbrev pub meant : Kind → List Word → ℕ × List ℕ
+meant kind words =
+    if is_missing kind || word_is words 0 (codes "object") then (0, codes "object a")
+    else (if word_is words 0 (codes "let") || word_is words 0 (codes "const") then (2, codes "= 0")
+    else (if word_is words 0 (codes "word") && word_is words 2 (codes "[") then (2, codes "[1]")
+    else (if word_is words 0 (codes "word") || word_is words 0 (codes "lock") then (2, [])
     else (if word_is words 0 (codes "op") then meant_op words
-    else (if word_is words 0 (codes "if") then (1, codes "1 {")
-    else (if word_is words 0 (codes "while") then (1, codes "1 {")
+    else (if word_is words 0 (codes "if") || word_is words 0 (codes "while") then (1, codes "1 {")
     else (if word_is words 0 (codes "loop") then (1, codes "{")
     else (if word_is words 0 (codes "}") then meant_end words
     else (if opens words then (0, codes "if 1 {")
-    else (0, []))))))))))
-
--- the same of a line with this fault: one that should have named the object names it
-abbrev pub meant_by : Kind → List Word → ℕ × List ℕ
-meant_by kind words =
-    if is_missing kind || word_is words 0 (codes "object") then (0, codes "object a")
-    else meant words
+    else (0, [])))))))))
 
 -- each word, and a blank after it
 abbrev pub spelled : List Word → List ℕ
@@ -82,10 +71,10 @@ spelled (word ∷ words) = word ++ 32 ∷ spelled words
 
 -- this many words, and what stands after them
 abbrev pub line_with : List Word → ℕ × List ℕ → List ℕ
-line_with words (count, behind) = spelled (take count words) ++ behind
+line_with words (count, after) = spelled (take count words) ++ after
 
 abbrev pub meant_line : Kind → List ℕ → List ℕ
-meant_line kind line = line_with (source_words line) (meant_by kind (source_words line))
+meant_line kind line = line_with (source_words line) (meant kind (source_words line))
 
 -- ---- one fault after the other
 
@@ -149,38 +138,24 @@ is_last lines fault =
 abbrev pub message : LineFault → SourceMessage
 message fault = record { line = fault.line; what = AFault fault.kind }
 
--- this fault of the lines, and then those that are left, as `rest` tells them
-abbrev pub faults_from : (List (List ℕ) → List SourceMessage) → List (List ℕ) → LineFault
-    → List SourceMessage
-faults_from rest lines fault =
-    message fault ∷ (if is_last lines fault then [] else rest (mended lines fault))
-
 -- the faults of these lines, at most this many: the first one, and then those that are left
-unfoldable pub faults_by : ℕ → List (List ℕ) → List SourceMessage
-faults_by zero lines = []
-faults_by (suc most) lines =
-    where_some (first_fault lines) [] (faults_from (faults_by most) lines)
-
--- this fault, and then at most this many more
-abbrev pub faults_then : ℕ → List (List ℕ) → LineFault → List SourceMessage
-faults_then more lines fault = faults_from (faults_by more) lines fault
+unfoldable pub faults_of_lines : ℕ → List (List ℕ) → List SourceMessage
+faults_of_lines zero lines = []
+faults_of_lines (suc most) lines = where_some (first_fault lines) [] (λ fault.
+    message fault ∷ (if is_last lines fault then [] else faults_of_lines most (mended lines fault)))
 
 -- the faults of a text, at most 20
 abbrev pub faults_in : List ℕ → List SourceMessage
-faults_in text = faults_by 20 (lines_of text)
+faults_in text = faults_of_lines 20 (lines_of text)
 
 -- No fault is reported of what is read; else the first that is reported is the first there is.
 abbrev pub AgreeOn : Result Program (Fault Kind) → List SourceMessage → Type 0
-AgreeOn (Ok p) told = told ≡ []
-AgreeOn (Err (At kind n)) told =
-    (others : List SourceMessage) × (told ≡ message (record { line = n; kind = kind }) ∷ others)
-AgreeOn (Err Memory) told = told ≡ []
+AgreeOn (Ok p) faults = faults ≡ []
+AgreeOn (Err (At kind n)) faults =
+    (others : List SourceMessage) × (faults ≡ message (record { line = n; kind = kind }) ∷ others)
+AgreeOn (Err Memory) faults = faults ≡ []
 
 -- ---- lines in memory
 
 abbrev pub bytes_of : {Z : Type 0} → List (Vec ℕ Z) → List (List ℕ)
 bytes_of lines = map (λ line. line.items) lines
-
--- these lines, unless memory ran out
-abbrev pub HasLines : {Y Z E : Type 0} → Result (Vec (Vec ℕ Y) Z) E → List (List ℕ) → Type 0
-HasLines result lines = IfOk result (λ built. bytes_of built.items ≡ lines)

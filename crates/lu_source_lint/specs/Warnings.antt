@@ -1,9 +1,10 @@
 -- What is odd in a source without faults, by the words of its lines.
-use Rattle.std.specs.Prelude.{◌≡◌, ℕ, ◌+◌, ◌-◌, ◌==◌, nat_lt, Bool, false, not, ◌&&◌, ◌||◌, List, [], ◌∷◌, ◌++◌, length, map, drop, Option, Some, None, Vec, codes, if◌then◌else◌}
-use Rattle.std.specs.List.{slice_get}
+use Rattle.std.specs.Prelude.{ℕ, ◌+◌, ◌-◌, ◌==◌, nat_lt, Bool, false, not, ◌&&◌, ◌||◌, List, [], ◌∷◌, ◌++◌, filter, length, map, drop, Option, Some, None, Vec, codes, if◌then◌else◌}
+use Rattle.std.specs.Int.{from_bool}
+use Rattle.std.specs.List.{list_any, slice_get, take_while}
 use Rattle.std.specs.Option.{unwrap_or}
 use denote.Ref.{Bor}
-use Rattle.lu_text.specs.Lines.{lines_of, text_if, texts}
+use Rattle.lu_text.specs.Lines.{lines_of, texts}
 use Rattle.lu_text.specs.Words.{Word}
 use Rattle.lu_source_text.specs.Grammar.{is_among, source_words}
 use Rattle.lu_source_lint.specs.declared.message.SourceMessage.{SourceMessage}
@@ -28,28 +29,18 @@ reads name words = is_among (drop 1 words) name
 
 -- whether one of these lines, up to the next operation, reads it
 abbrev pub is_read : Word → List Line → Bool
-is_read name [] = false
-is_read name (words ∷ lines) =
-    not (word_is words 0 (codes "op")) && (reads name words || is_read name lines)
+is_read name lines =
+    list_any (reads name) (take_while (λ words. not (word_is words 0 (codes "op"))) lines)
 
--- whether one of these lines reads it
-abbrev pub are_reading : Word → List Line → Bool
-are_reading name [] = false
-are_reading name (words ∷ lines) = reads name words || are_reading name lines
+-- whether no line above or below reads it
+abbrev pub is_unused : Word → List Line → List Line → Bool
+is_unused name above below = not (list_any (reads name) (above ++ below))
 
 -- ---- loops
 
--- the shared word that a line declares
-abbrev pub declared : Line → Option Word
-declared words = if word_is words 0 (codes "word") then slice_get words 1 else None
-
-abbrev pub where_there : Option Word → List Word
-where_there None = []
-where_there (Some name) = name ∷ []
-
+-- the names of the shared words that these lines declare
 abbrev pub shared_names : List Line → List Word
-shared_names [] = []
-shared_names (words ∷ lines) = where_there (declared words) ++ shared_names lines
+shared_names lines = map name_of (filter (λ words. word_is words 0 (codes "word")) lines)
 
 -- what leaves a loop, or is seen by others
 abbrev pub acting : List Word
@@ -60,20 +51,12 @@ abbrev pub word_acts : List Word → Word → Bool
 word_acts shared word = is_among acting word || is_among shared word
 
 abbrev pub acts : List Word → Line → Bool
-acts shared [] = false
-acts shared (word ∷ words) = word_acts shared word || acts shared words
-
--- whether a line closes a block
-abbrev pub closes : Line → Bool
-closes words = word_is words 0 (codes "}")
-
-abbrev pub one_if : Bool → ℕ
-one_if so = if so then 1 else 0
+acts shared words = list_any (word_acts shared) words
 
 -- how many blocks are open after a line
 abbrev pub depth_after : ℕ → Line → ℕ
 depth_after depth words =
-    (depth - one_if (closes words)) + one_if (opens words)
+    (depth - from_bool (word_is words 0 (codes "}"))) + from_bool (opens words)
 
 -- whether a line acts, or stands in more blocks than there may be
 abbrev pub stops : List Word → ℕ → Line → Bool
@@ -89,22 +72,14 @@ is_endless shared depth (words ∷ lines) =
 
 -- ---- warnings
 
--- whether no line above or below reads it
-abbrev pub is_unused : Word → List Line → List Line → Bool
-is_unused name above below = not (are_reading name above || are_reading name below)
-
-abbrev pub where_so : Bool → Warning → Option Warning
-where_so so warning = if so then Some warning else None
-
 -- what is odd about a line, between those above it and those below it
 abbrev pub warning_of : List Word → List Line → Line → List Line → Option Warning
 warning_of shared above words below =
-    if word_is words 0 (codes "let") then
-    where_so (not (is_read (name_of words) below)) UnusedLocal
-    else (if word_is words 0 (codes "word") then
-    where_so (is_unused (name_of words) above below) UnusedWord
-    else (if word_is words 0 (codes "loop") then
-    where_so (is_endless shared 1 below) EndlessLoop
+    if word_is words 0 (codes "let") && not (is_read (name_of words) below)
+    then Some UnusedLocal
+    else (if word_is words 0 (codes "word") && is_unused (name_of words) above below
+    then Some UnusedWord
+    else (if word_is words 0 (codes "loop") && is_endless shared 1 below then Some EndlessLoop
     else None))
 
 -- what is said of line n
@@ -119,21 +94,15 @@ warnings_from shared above (words ∷ below) =
     said_of (length above + 1) (warning_of shared above words below)
     ++ warnings_from shared (above ++ words ∷ []) below
 
-abbrev pub warnings_by : List Line → List SourceMessage
-warnings_by lines = warnings_from (shared_names lines) [] lines
-
 -- what is said of a text
 abbrev pub warnings_in : List ℕ → List SourceMessage
-warnings_in text = warnings_by (map source_words (lines_of text))
+warnings_in text =
+    let lines = map source_words (lines_of text) in warnings_from (shared_names lines) [] lines
 
 -- ---- lines in memory
 
 abbrev pub lines_in : {Z : Type 0} → List (Vec (Bor Word) Z) → List Line
 lines_in lines = map (λ line. texts line.items) lines
-
--- these names have this one more, where it is there
-abbrev pub HasAlso : List (Bor Word) → Option (Bor Word) → List (Bor Word) → Type 0
-HasAlso old name new = texts new ≡ texts old ++ where_there (text_if name)
 
 abbrev pub warning_at : {Y Z : Type 0} → List (Bor Word) → List (Vec (Bor Word) Y) → List (Bor Word)
     → List (Vec (Bor Word) Z) → Option Warning

@@ -1,6 +1,6 @@
 //! What a faulty line may have meant.
 
-ghost use Rattle.std.specs.Prelude.{◌≡◌, take, IfOk};
+ghost use Rattle.std.specs.Prelude.{◌≡◌, IfOk};
 ghost use Rattle.lu_text.specs.Lines.{texts};
 ghost use Rattle.lu_text.specs.Results.{HasItems};
 ghost use Rattle.lu_source_lint.specs.Faults as spec;
@@ -14,37 +14,34 @@ struct Mending {
     /// How many of its words stay.
     kept: usize,
 
-    /// What stands after them in position of the others.
-    behind: &'static [u8],
+    /// What stands after them in place of the others.
+    after: &'static [u8],
 }
 
 /// Whether this word of a line, counted from 0, is that one.
 pub(crate) fn word_is(words: &[&[u8]], position: usize, text: &[u8]) -> bool
     ensures { result ≡ spec.word_is (texts words.now) position text.now }
 {
-    match words.get(position) {
-        None => false,
-        Some(word) => *word == text,
-    }
+    words.get(position).is_some_and(|word| *word == text)
 }
 
-fn keep(kept: usize, behind: &'static [u8]) -> Mending
+fn keep(kept: usize, after: &'static [u8]) -> Mending
     ensures kept { result.kept ≡ kept }
-    ensures behind { result.behind.now ≡ behind.now }
+    ensures after { result.after.now ≡ after.now }
 {
-    Mending { kept, behind }
+    Mending { kept, after }
 }
 
 /// Whether the last word of a line opens a block.
 pub(crate) fn opens(words: &[&[u8]]) -> bool
     ensures { result ≡ spec.opens (texts words.now) }
 {
-    word_is(words, words.len().saturating_sub(1), b"{")
+    words.last().is_some_and(|word| *word == b"{".as_slice())
 }
 
 /// A line that begins with `}`.
 fn meant_end(words: &[&[u8]]) -> Mending
-    ensures { (result.kept, result.behind.now) ≡ spec.meant_end (texts words.now) }
+    ensures { (result.kept, result.after.now) ≡ spec.meant_end (texts words.now) }
 {
     if !opens(words) {
         keep(1, b"")
@@ -55,27 +52,19 @@ fn meant_end(words: &[&[u8]]) -> Mending
     }
 }
 
-fn ends_arguments(word: &[u8]) -> bool
-    ensures { result ≡ spec.ends_arguments word.now }
-{
-    word == b")".as_slice() || word == b"{".as_slice()
-}
-
 /// Where the arguments of an operation end.
 fn arguments_end(words: &[&[u8]]) -> usize
     ensures { result ≡ spec.arguments_end (texts words.now) }
 {
-    for (position, word) in words.iter().enumerate() {
-        if ends_arguments(word) {
-            return position;
-        }
-    }
-    words.len()
+    words
+        .iter()
+        .position(|word| *word == b")".as_slice() || *word == b"{".as_slice())
+        .unwrap_or(words.len())
 }
 
 /// A line that begins with `op`, of which the first 4 arguments stay.
 fn meant_op(words: &[&[u8]]) -> Mending
-    ensures { (result.kept, result.behind.now) ≡ spec.meant_op (texts words.now) }
+    ensures { (result.kept, result.after.now) ≡ spec.meant_op (texts words.now) }
 {
     let end = arguments_end(words);
     if end < 3 {
@@ -85,34 +74,21 @@ fn meant_op(words: &[&[u8]]) -> Mending
     }
 }
 
-/// A line that begins with `word`.
-fn meant_word(words: &[&[u8]]) -> Mending
-    ensures { (result.kept, result.behind.now) ≡ spec.meant_word (texts words.now) }
+/// A line with this fault, by its first word.
+fn meant(kind: SourceFaultKind, words: &[&[u8]]) -> Mending
+    ensures { (result.kept, result.after.now) ≡ spec.meant kind (texts words.now) }
 {
-    if word_is(words, 2, b"[") {
+    if matches!(kind, SourceFaultKind::Missing) || word_is(words, 0, b"object") {
+        keep(0, b"object a")
+    } else if word_is(words, 0, b"let") || word_is(words, 0, b"const") {
+        keep(2, b"= 0")
+    } else if word_is(words, 0, b"word") && word_is(words, 2, b"[") {
         keep(2, b"[1]")
-    } else {
-        keep(2, b"")
-    }
-}
-
-/// A line by its first word.
-fn meant(words: &[&[u8]]) -> Mending
-    ensures { (result.kept, result.behind.now) ≡ spec.meant (texts words.now) }
-{
-    if word_is(words, 0, b"let") {
-        keep(2, b"= 0")
-    } else if word_is(words, 0, b"const") {
-        keep(2, b"= 0")
-    } else if word_is(words, 0, b"word") {
-        meant_word(words)
-    } else if word_is(words, 0, b"lock") {
+    } else if word_is(words, 0, b"word") || word_is(words, 0, b"lock") {
         keep(2, b"")
     } else if word_is(words, 0, b"op") {
         meant_op(words)
-    } else if word_is(words, 0, b"if") {
-        keep(1, b"1 {")
-    } else if word_is(words, 0, b"while") {
+    } else if word_is(words, 0, b"if") || word_is(words, 0, b"while") {
         keep(1, b"1 {")
     } else if word_is(words, 0, b"loop") {
         keep(1, b"{")
@@ -123,25 +99,6 @@ fn meant(words: &[&[u8]]) -> Mending
     } else {
         keep(0, b"")
     }
-}
-
-/// A line with this fault.
-fn meant_by(kind: SourceFaultKind, words: &[&[u8]]) -> Mending
-    ensures { (result.kept, result.behind.now) ≡ spec.meant_by kind (texts words.now) }
-{
-    if matches!(kind, SourceFaultKind::Missing) || word_is(words, 0, b"object") {
-        keep(0, b"object a")
-    } else {
-        meant(words)
-    }
-}
-
-/// The first words, this many or as many as there are.
-fn first_words<'a, 'b>(words: &'a [&'b [u8]], count: usize) -> &'a [&'b [u8]]
-    ensures { texts result.now ≡ take count (texts words.now) }
-{
-    let (first, _) = words.split_at(count.min(words.len()));
-    first
 }
 
 /// Each word, and a blank after it.
@@ -156,15 +113,6 @@ fn spelled(alloc: Global, words: &[&[u8]]) -> Result<Vec<u8>, AllocError>
     Ok(text)
 }
 
-fn line_with(alloc: Global, words: &[&[u8]], meant: Mending) -> Result<Vec<u8>, AllocError>
-    ensures { HasItems result
-        (spec.line_with (texts words.now) (meant.kept, meant.behind.now)) }
-{
-    let mut text = spelled(alloc, first_words(words, meant.kept))?;
-    text.extend_from_slice(meant.behind)?;
-    Ok(text)
-}
-
 /// The line that one with this fault may have meant.
 pub(crate) fn meant_line(
     alloc: Global,
@@ -174,7 +122,11 @@ pub(crate) fn meant_line(
     ensures { HasItems result (spec.meant_line kind line.now) }
 {
     let words = source_words(alloc, line)?;
-    line_with(alloc, &words, meant_by(kind, &words))
+    let mending = meant(kind, &words);
+    let (kept, _) = words.split_at(mending.kept.min(words.len()));
+    let mut text = spelled(alloc, kept)?;
+    text.extend_from_slice(mending.after)?;
+    Ok(text)
 }
 
 /// What a line that opens a block may have meant outside of operations.

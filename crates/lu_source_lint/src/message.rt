@@ -11,7 +11,7 @@ pub enum Warning {
     /// A shared word that nothing reads.
     UnusedWord,
 
-    /// A loop that ends never, and that others see nothing of.
+    /// A loop that never ends, and that others see nothing of.
     EndlessLoop,
 }
 

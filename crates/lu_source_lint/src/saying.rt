@@ -9,14 +9,7 @@ use std::str;
 
 /// A word as text; what is no ASCII is no word of a source.
 fn shown(word: &[u8]) -> &str {
-    match str::from_utf8(word) {
-        Ok(text) => text,
-        Err(_) => "?",
-    }
-}
-
-fn text_of(alloc: Global, text: &str) -> Result<String, AllocError> {
-    String::from_str(alloc, text)
+    str::from_utf8(word).unwrap_or("?")
 }
 
 /// Whether the line begins with a word that declares a name, which is its second word.
@@ -29,20 +22,16 @@ fn declares(words: &[&[u8]]) -> bool {
         || word_is(words, 0, b"object")
 }
 
-fn stands_in(words: &[&[u8]], word: &[u8]) -> bool {
-    words.iter().any(|other| *other == word)
-}
-
 /// Whether one of the lines declares the name.
 fn are_declaring(alloc: Global, lines: &[&[u8]], name: &[u8]) -> Result<bool, AllocError> {
     for line in lines {
         let words = source_words(alloc, line)?;
-        let told = if word_is(&words, 0, b"op") {
-            stands_in(&words, name)
+        let declared = if word_is(&words, 0, b"op") {
+            words.contains(&name)
         } else {
             declares(&words) && word_is(&words, 1, name)
         };
-        if told {
+        if declared {
             return Ok(true);
         }
     }
@@ -72,23 +61,18 @@ fn name_words(alloc: Global, above: &[&[u8]], words: &[&[u8]]) -> Result<String,
         0
     };
     let (_, rest) = words.split_at(read.min(words.len()));
-    match unknown_among(alloc, above, rest)? {
-        Some(name) => {
-            let name = shown(name);
-            format!(in alloc; "{name} is not declared above: declare it, or write a name that is")
-        }
-        None => taken_words(alloc, words),
+    if let Some(name) = unknown_among(alloc, above, rest)? {
+        let name = shown(name);
+        return format!(in alloc;
+            "{name} is not declared above: declare it, or write a name that is"
+        );
     }
-}
-
-/// A name that means something already.
-fn taken_words(alloc: Global, words: &[&[u8]]) -> Result<String, AllocError> {
     match words.get(1) {
         Some(name) if declares(words) => {
             let name = shown(name);
             format!(in alloc; "{name} means something already here: choose another name")
         }
-        _ => text_of(
+        _ => String::from_str(
             alloc,
             "a name here means nothing, or something else: declare it above, or write another one",
         ),
@@ -96,96 +80,41 @@ fn taken_words(alloc: Global, words: &[&[u8]]) -> Result<String, AllocError> {
 }
 
 /// A word that begins a line, and how such a line looks.
-struct Form {
-    word: &'static str,
-    looks: &'static str,
-}
-
-const FORMS: [Form; 17] = [
-    Form {
-        word: "let",
-        looks: "`let NAME = EXPR`",
-    },
-    Form {
-        word: "const",
-        looks: "`const NAME = N`, outside of operations",
-    },
-    Form {
-        word: "word",
-        looks: "`word NAME`, `word NAME = N`, `word NAME[LEN]` or `word NAME[LEN] = N`, outside of operations",
-    },
-    Form {
-        word: "lock",
-        looks: "`lock NAME`",
-    },
-    Form {
-        word: "unlock",
-        looks: "`unlock NAME`, in an operation",
-    },
-    Form {
-        word: "local",
-        looks: "`local N`, once, before the first operation",
-    },
-    Form {
-        word: "object",
-        looks: "`object NAME`, once, as the first line",
-    },
-    Form {
-        word: "op",
-        looks: "`op NAME(A, B) {`, where no operation is open",
-    },
-    Form {
-        word: "if",
-        looks: "`if EXPR {`",
-    },
-    Form {
-        word: "while",
-        looks: "`while EXPR {`",
-    },
-    Form {
-        word: "loop",
-        looks: "`loop {`",
-    },
-    Form {
-        word: "}",
-        looks: "`}`, or behind an `if` `} else {` or `} else if EXPR {`, where a block is open",
-    },
-    Form {
-        word: "return",
-        looks: "`return` or `return EXPR`, in an operation",
-    },
-    Form {
-        word: "await",
-        looks: "`await CELL == EXPR` or `await CELL != EXPR`",
-    },
-    Form {
-        word: "cas",
-        looks: "`cas(CELL, OLD, NEW)`",
-    },
-    Form {
-        word: "break",
-        looks: "`break`, by itself",
-    },
-    Form {
-        word: "continue",
-        looks: "`continue`, by itself",
-    },
+const FORMS: [(&str, &str); 17] = [
+    ("let", "`let NAME = EXPR`"),
+    ("const", "`const NAME = N`, outside of operations"),
+    (
+        "word",
+        "`word NAME`, `word NAME = N`, `word NAME[LEN]` or `word NAME[LEN] = N`, outside of operations",
+    ),
+    ("lock", "`lock NAME`"),
+    ("unlock", "`unlock NAME`, in an operation"),
+    ("local", "`local N`, once, before the first operation"),
+    ("object", "`object NAME`, once, as the first line"),
+    ("op", "`op NAME(A, B) {`, where no operation is open"),
+    ("if", "`if EXPR {`"),
+    ("while", "`while EXPR {`"),
+    ("loop", "`loop {`"),
+    (
+        "}",
+        "`}`, or behind an `if` `} else {` or `} else if EXPR {`, where a block is open",
+    ),
+    ("return", "`return` or `return EXPR`, in an operation"),
+    ("await", "`await CELL == EXPR` or `await CELL != EXPR`"),
+    ("cas", "`cas(CELL, OLD, NEW)`"),
+    ("break", "`break`, by itself"),
+    ("continue", "`continue`, by itself"),
 ];
 
 /// How a line looks that begins with this word.
-fn form_of(words: &[&[u8]]) -> &'static str {
-    match FORMS
-        .iter()
-        .find(|form| word_is(words, 0, form.word.as_bytes()))
-    {
-        Some(form) => form.looks,
-        None =>
-            "`NAME = EXPR` or `NAME[EXPR] = EXPR` in an operation, and outside of them a declaration",
-    }
-}
-
 fn form_words(alloc: Global, words: &[&[u8]]) -> Result<String, AllocError> {
-    let form = form_of(words);
+    let form = FORMS
+        .iter()
+        .find(|(word, _)| word_is(words, 0, word.as_bytes()))
+        .map_or(
+            "`NAME = EXPR` or `NAME[EXPR] = EXPR` in an operation, and outside of them a declaration",
+            |(_, looks)| *looks,
+        );
     format!(in alloc;
         "a word or a sign stands here that does not belong here, or one is left out: write {form}"
     )
@@ -196,7 +125,7 @@ fn number_words(alloc: Global, words: &[&[u8]]) -> Result<String, AllocError> {
     let large = words.iter().find(|word| matches!(**word, [b'0'..=b'9', ..])
         && value_in(word).is_none());
     match large {
-        None => text_of(
+        None => String::from_str(
             alloc,
             "a value is wanted where another word stands: a number up to 4294967295, or a name",
         ),
@@ -228,6 +157,7 @@ fn limit_words(words: &[&[u8]]) -> &'static str {
     }
 }
 
+/// Why a line can't stand where it stands, by its first word.
 fn flow_words(words: &[&[u8]]) -> &'static str {
     if word_is(words, 0, b"break") || word_is(words, 0, b"continue") {
         "no loop stands around this line, or nothing comes to it: put it into one, or leave it out"
@@ -245,33 +175,25 @@ fn fault_words(
     above: &[&[u8]],
     words: &[&[u8]],
 ) -> Result<String, AllocError> {
-    match kind {
-        SourceFaultKind::Byte => text_of(
-            alloc,
+    let text = match kind {
+        SourceFaultKind::Byte =>
             "a byte stands here that no source has: only printed ASCII, tab and CR may, in comments too",
-        ),
-        SourceFaultKind::Missing => text_of(
-            alloc,
+        SourceFaultKind::Missing =>
             "a source begins with `object NAME`: write that line before this one",
-        ),
-        SourceFaultKind::Form => form_words(alloc, words),
-        SourceFaultKind::Number => number_words(alloc, words),
-        SourceFaultKind::Limit => text_of(alloc, limit_words(words)),
-        SourceFaultKind::Registers => text_of(
-            alloc,
+        SourceFaultKind::Form => return form_words(alloc, words),
+        SourceFaultKind::Number => return number_words(alloc, words),
+        SourceFaultKind::Limit => limit_words(words),
+        SourceFaultKind::Registers =>
             "the locals in scope and what is needed in between are more than 8 registers: end a block before, or write two lines",
-        ),
-        SourceFaultKind::Flow => text_of(alloc, flow_words(words)),
-        SourceFaultKind::Name => name_words(alloc, above, words),
-    }
+        SourceFaultKind::Flow => flow_words(words),
+        SourceFaultKind::Name => return name_words(alloc, above, words),
+    };
+    String::from_str(alloc, text)
 }
 
 /// What is odd about a line with these words.
 fn warning_words(alloc: Global, warning: Warning, words: &[&[u8]]) -> Result<String, AllocError> {
-    let name = match words.get(1) {
-        None => "it",
-        Some(name) => shown(name),
-    };
+    let name = words.get(1).map_or("it", |name| shown(name));
     match warning {
         Warning::UnusedLocal => {
             format!(in alloc; "nothing reads the local {name}: leave it out, or read it")
@@ -279,7 +201,7 @@ fn warning_words(alloc: Global, warning: Warning, words: &[&[u8]]) -> Result<Str
         Warning::UnusedWord => {
             format!(in alloc; "nothing reads the shared word {name}: leave it out, or read it")
         }
-        Warning::EndlessLoop => text_of(
+        Warning::EndlessLoop => String::from_str(
             alloc,
             "this loop does not end, and others see nothing of it: it has no `break`, `return`, lock or shared word",
         ),
@@ -298,7 +220,7 @@ pub fn wording(
 ) -> Result<String, AllocError> {
     let index = message.line.saturating_sub(1);
     let Some(line) = lines.get(index) else {
-        return text_of(
+        return String::from_str(
             alloc,
             "the text ends here: no `object NAME` begins it, or its last operation is open; close that with `}`",
         );

@@ -1,7 +1,7 @@
 //! What is odd in a source without faults.
 
-ghost use Rattle.std.specs.Prelude.{false, ◌≡◌, ◌≤◌, ◌++◌, ◌+◌, [], map, IfOk, OnOk};
-ghost use Rattle.lu_text.specs.Lines.{lines_of, text_if, texts};
+ghost use Rattle.std.specs.Prelude.{false, ◌≡◌, ◌≤◌, ◌++◌, ◌+◌, [], map, IfOk};
+ghost use Rattle.lu_text.specs.Lines.{lines_of, texts};
 ghost use Rattle.lu_text.specs.Results.{HasItems};
 ghost use Rattle.lu_source_text.specs.Grammar.{is_among, source_words};
 ghost use Rattle.lu_source_lint.specs.declared.warnings.TheConstants.{MOST_BLOCKS};
@@ -21,128 +21,69 @@ const MOST_BLOCKS: usize = 16;
 fn is_among(words: &[&[u8]], word: &[u8]) -> bool
     ensures { result ≡ is_among (texts words.now) word.now }
 {
-    for other in words {
-        if word == *other {
-            return true;
-        }
-    }
-    false
+    words.iter().any(|other| word == *other)
 }
 
 /// The name that a line declares.
 fn name_of<'a>(words: &[&'a [u8]]) -> &'a [u8]
     ensures { result.now ≡ spec.name_of (texts words.now) }
 {
-    match words.get(1) {
-        None => &[],
-        Some(name) => name,
-    }
+    words.get(1).copied().unwrap_or(&[])
 }
 
 /// Whether the line names it after its first word.
 fn reads(name: &[u8], words: &[&[u8]]) -> bool
     ensures { result ≡ spec.reads name.now (texts words.now) }
 {
-    match words.split_first() {
-        None => false,
-        Some((_, rest)) => is_among(rest, name),
-    }
+    words
+        .split_first()
+        .is_some_and(|(_, rest)| is_among(rest, name))
 }
 
 /// Whether one of the lines, up to the next operation, reads it.
 fn is_read(name: &[u8], lines: &[Vec<&[u8]>]) -> bool
     ensures { result ≡ spec.is_read name.now (lines_in lines.now) }
 {
-    for line in lines {
-        let words = line.as_slice();
-        if word_is(words, 0, b"op") {
-            return false;
-        }
-        if reads(name, words) {
-            return true;
-        }
-    }
-    false
+    lines
+        .iter()
+        .take_while(|words| !word_is(words, 0, b"op"))
+        .any(|words| reads(name, words))
 }
 
-/// Whether one of the lines reads it.
-fn are_reading(name: &[u8], lines: &[Vec<&[u8]>]) -> bool
-    ensures { result ≡ spec.are_reading name.now (lines_in lines.now) }
+/// Whether no line above or below reads it.
+fn is_unused(name: &[u8], above: &[Vec<&[u8]>], below: &[Vec<&[u8]>]) -> bool
+    ensures { result ≡ spec.is_unused name.now (lines_in above.now) (lines_in below.now) }
 {
-    for line in lines {
-        if reads(name, line) {
-            return true;
-        }
-    }
-    false
-}
-
-/// The shared word that a line declares.
-fn declared<'a>(words: &[&'a [u8]]) -> Option<&'a [u8]>
-    ensures { text_if result ≡ spec.declared (texts words.now) }
-{
-    if word_is(words, 0, b"word") {
-        words.get(1).copied()
-    } else {
-        None
-    }
-}
-
-fn add_name<'a>(names: &mut Vec<&'a [u8]>, name: Option<&'a [u8]>) -> Result<(), AllocError>
-    ensures { OnOk result (spec.HasAlso names.old.items name.entry names.new.items) }
-{
-    match name {
-        None => Ok(()),
-        Some(name) => {
-            names.push(name)?;
-            Ok(())
-        }
-    }
+    !above.iter().chain(below).any(|words| reads(name, words))
 }
 
 /// The names of the shared words that the lines declare.
 fn shared_names<'a>(alloc: Global, lines: &[Vec<&'a [u8]>]) -> Result<Vec<&'a [u8]>, AllocError>
     ensures { IfOk result (λ names. texts names.items ≡ spec.shared_names (lines_in lines.now)) }
 {
-    let mut names = Vec::new(alloc);
-    for line in lines {
-        add_name(&mut names, declared(line))?;
-    }
-    Ok(names)
+    lines
+        .iter()
+        .filter(|words| word_is(words, 0, b"word"))
+        .map(|words| name_of(words))
+        .collect(alloc)
 }
 
-/// Whether it leaves a loop, or others see it.
-fn is_acting(word: &[u8]) -> bool
-    ensures { result ≡ is_among spec.acting word.now }
+/// Whether a word leaves a loop, or others see it.
+fn word_acts(shared: &[&[u8]], word: &[u8]) -> bool
+    ensures { result ≡ spec.word_acts (texts shared.now) word.now }
 {
     word == b"lock".as_slice()
         || word == b"unlock".as_slice()
         || word == b"break".as_slice()
         || word == b"return".as_slice()
-}
-
-fn word_acts(shared: &[&[u8]], word: &[u8]) -> bool
-    ensures { result ≡ spec.word_acts (texts shared.now) word.now }
-{
-    is_acting(word) || is_among(shared, word)
+        || is_among(shared, word)
 }
 
 /// Whether one of the words leaves a loop, or others see it.
 fn acts(shared: &[&[u8]], words: &[&[u8]]) -> bool
     ensures { result ≡ spec.acts (texts shared.now) (texts words.now) }
 {
-    for word in words {
-        if word_acts(shared, word) {
-            return true;
-        }
-    }
-    false
-}
-
-fn one_if(so: bool) -> usize
-    ensures { result ≡ spec.one_if so }
-{
-    if so { 1 } else { 0 }
+    words.iter().any(|word| word_acts(shared, word))
 }
 
 /// How many blocks are open after a line, where this many are before it.
@@ -150,11 +91,12 @@ fn depth_after(depth: usize, words: &[&[u8]]) -> usize
     requires { depth ≤ MOST_BLOCKS }
     ensures { result ≡ spec.depth_after depth (texts words.now) }
 {
-    let closed = one_if(word_is(words, 0, b"}"));
-    let opened = one_if(opens(words));
+    let closed = usize::from(word_is(words, 0, b"}"));
+    let opened = usize::from(opens(words));
     depth.saturating_sub(closed) + opened
 }
 
+/// Whether a line acts, or stands in more blocks than there may be.
 fn stops(shared: &[&[u8]], depth: usize, words: &[&[u8]]) -> bool
     ensures stops { result ≡ spec.stops (texts shared.now) depth (texts words.now) }
     ensures few { result ≡ false → depth ≤ MOST_BLOCKS }
@@ -180,19 +122,6 @@ fn is_endless(shared: &[&[u8]], lines: &[Vec<&[u8]>]) -> bool
     false
 }
 
-/// Whether no line above or below reads it.
-fn is_unused(name: &[u8], above: &[Vec<&[u8]>], below: &[Vec<&[u8]>]) -> bool
-    ensures { result ≡ spec.is_unused name.now (lines_in above.now) (lines_in below.now) }
-{
-    !(are_reading(name, above) || are_reading(name, below))
-}
-
-fn where_so(so: bool, warning: Warning) -> Option<Warning>
-    ensures { result ≡ spec.where_so so warning }
-{
-    if so { Some(warning) } else { None }
-}
-
 /// What is odd about a line, between those above it and those below it.
 fn warning_of(
     shared: &[&[u8]],
@@ -202,47 +131,15 @@ fn warning_of(
 ) -> Option<Warning>
     ensures { result ≡ spec.warning_at shared.now above.now words.now below.now }
 {
-    if word_is(words, 0, b"let") {
-        where_so(!is_read(name_of(words), below), Warning::UnusedLocal)
-    } else if word_is(words, 0, b"word") {
-        where_so(is_unused(name_of(words), above, below), Warning::UnusedWord)
-    } else if word_is(words, 0, b"loop") {
-        where_so(is_endless(shared, below), Warning::EndlessLoop)
+    if word_is(words, 0, b"let") && !is_read(name_of(words), below) {
+        Some(Warning::UnusedLocal)
+    } else if word_is(words, 0, b"word") && is_unused(name_of(words), above, below) {
+        Some(Warning::UnusedWord)
+    } else if word_is(words, 0, b"loop") && is_endless(shared, below) {
+        Some(Warning::EndlessLoop)
     } else {
         None
     }
-}
-
-/// The messages with one on this line, where there is a warning.
-fn add_warning(
-    told: &mut Vec<SourceMessage>,
-    line: usize,
-    warning: Option<Warning>,
-) -> Result<(), AllocError>
-    ensures { OnOk result (told.new.items ≡ told.old.items ++ spec.said_of line warning) }
-{
-    match warning {
-        None => Ok(()),
-        Some(warning) => {
-            let what = What::Warning(warning);
-            told.push(SourceMessage { line, what })?;
-            Ok(())
-        }
-    }
-}
-
-fn warnings_by(alloc: Global, lines: &[Vec<&[u8]>]) -> Result<Vec<SourceMessage>, AllocError>
-    ensures { HasItems result (spec.warnings_by (lines_in lines.now)) }
-{
-    let shared = shared_names(alloc, lines)?;
-    let mut told = Vec::new(alloc);
-    for (before, words) in lines.iter().enumerate() {
-        let (above, _) = lines.split_at(before);
-        let (_, below) = lines.split_at(before + 1);
-        let warning = warning_of(&shared, above, words, below);
-        add_warning(&mut told, before + 1, warning)?;
-    }
-    Ok(told)
 }
 
 /// The words of each line.
@@ -265,7 +162,18 @@ fn worded<'a>(alloc: Global, lines: &[&'a [u8]]) -> Result<Vec<Vec<&'a [u8]>>, A
 pub fn warnings_of(alloc: Global, text: &[u8]) -> Result<Vec<SourceMessage>, AllocError>
     ensures { HasItems result (spec.warnings_in text.now) }
 {
-    let lines = lines_of(alloc, text)?;
-    let lines = worded(alloc, &lines)?;
-    warnings_by(alloc, &lines)
+    let lines = worded(alloc, &lines_of(alloc, text)?)?;
+    let shared = shared_names(alloc, &lines)?;
+    let mut warnings = Vec::new(alloc);
+    for (before, words) in lines.iter().enumerate() {
+        let (above, _) = lines.split_at(before);
+        let (_, below) = lines.split_at(before + 1);
+        if let Some(warning) = warning_of(&shared, above, words, below) {
+            warnings.push(SourceMessage {
+                line: before + 1,
+                what: What::Warning(warning),
+            })?;
+        }
+    }
+    Ok(warnings)
 }

@@ -10,7 +10,7 @@ use Rattle.lu_text.specs.declared.fault.Fault.{Fault}
 use Rattle.lu_source.specs.Code.{operation_code}
 use Rattle.lu_source.specs.Trees.{Operation, Program}
 use Rattle.lu_source_text.specs.Grammar.{Begun, Drafted, Kind, either, line_of, nothing, program_of, source_grammar}
-use Rattle.lu_source_text.specs.Origins.{Entry, HasEach, Standing, behind, after_lines, closed_standing, code_of, entries_at, if_there, open_standing, origin_from, standing_at}
+use Rattle.lu_source_text.specs.Origins.{Entry, HasEach, Standing, after_line, after_lines, closed_standing, code_of, entries_at, if_there, open_standing, origin_from, standing_at}
 use Rattle.lu_source.specs.declared.origin.Origins.{Origins}
 use Rattle.lu_source_text.proofs.Drafts.{IsDone, IsDraft, line_kept, nothing_is}
 use Rattle.lu_source_text.proofs.Entries.{get_past}
@@ -19,16 +19,16 @@ use Rattle.lu_source_text.proofs.Kept.{Holds}
 -- an instruction that is there in the end comes from some line
 comes_from : (n : ℕ) (d : Drafted) (line : List ℕ) (lines : List (List ℕ)) (o q : ℕ) → q < (standing_at (after_lines d (line ∷ lines)) o).0 → is_some (origin_from n d (line ∷ lines) o q) ≡ true
 comes_from n d line [] o q lt =
-    let yes : nat_lt q (standing_at (behind d line) o).0 ≡ true = grind (arith, nat_tests) in
-    ap (λ t. is_some {T = Entry} (either (if t then Some (n, (standing_at (behind d line) o).1) else None) None)) yes
-comes_from n d line (next ∷ lines) o q lt = by_first (if_there n (standing_at (behind d line) o) q) (comes_from (n + 1) (behind d line) next lines o q lt)
+    let yes : nat_lt q (standing_at (after_line d line) o).0 ≡ true = grind (arith, nat_tests) in
+    ap (λ t. is_some {T = Entry} (either (if t then Some (n, (standing_at (after_line d line) o).1) else None) None)) yes
+comes_from n d line (next ∷ lines) o q lt = by_first (if_there n (standing_at (after_line d line) o) q) (comes_from (n + 1) (after_line d line) next lines o q lt)
   where
-    by_first : (a : Option Entry) → is_some (origin_from (n + 1) (behind d line) (next ∷ lines) o q) ≡ true → is_some (either a (origin_from (n + 1) (behind d line) (next ∷ lines) o q)) ≡ true
+    by_first : (a : Option Entry) → is_some (origin_from (n + 1) (after_line d line) (next ∷ lines) o q) ≡ true → is_some (either a (origin_from (n + 1) (after_line d line) (next ∷ lines) o q)) ≡ true
     by_first None h = h
     by_first (Some e) h = refl
 
-draft_behind : (d : Drafted) (line : List ℕ) → IsDraft d → IsDraft (behind d line)
-draft_behind d line h = by_line (line_of d line) (line_kept d h line)
+draft_after : (d : Drafted) (line : List ℕ) → IsDraft d → IsDraft (after_line d line)
+draft_after d line h = by_line (line_of d line) (line_kept d h line)
   where
     by_line : (r : Result Drafted Kind) → Holds IsDraft r → IsDraft (going_on d r).0
     by_line (Ok next) k = k
@@ -51,13 +51,13 @@ lines_end n d [] p h is = record { operations = by_parts d.name d.begun is; soun
         operations_in : Result Program (Fault Kind) → List Operation
         operations_in (Ok p) = p.operations
         operations_in (Err e) = d.operations
-lines_end n d (line ∷ lines) p h is = by_line (line_of d line) refl is (draft_behind d line h) (λ next. lines_end (n + 1) next lines p)
+lines_end n d (line ∷ lines) p h is = by_line (line_of d line) refl is (draft_after d line h) (λ next. lines_end (n + 1) next lines p)
   where
-    by_line : (r : Result Drafted Kind) → line_of d line ≡ r → then_lines (on_line n r) (λ next. lines_after source_grammar (n + 1) next lines) ≡ Ok p → IsDraft (behind d line)
-        → ((next : Drafted) → IsDraft next → lines_after source_grammar (n + 1) next lines ≡ Ok p → Ends p (after_lines next lines)) → Ends p (after_lines (behind d line) lines)
+    by_line : (r : Result Drafted Kind) → line_of d line ≡ r → then_lines (on_line n r) (λ next. lines_after source_grammar (n + 1) next lines) ≡ Ok p → IsDraft (after_line d line)
+        → ((next : Drafted) → IsDraft next → lines_after source_grammar (n + 1) next lines ≡ Ok p → Ends p (after_lines next lines)) → Ends p (after_lines (after_line d line) lines)
     by_line (Ok next) at e k rest =
-        let same : behind d line ≡ next = ap (λ r. (going_on d r).0) at in
-        rest (behind d line) k (ap (λ x. lines_after source_grammar (n + 1) x lines) same ∙ e)
+        let same : after_line d line ≡ next = ap (λ r. (going_on d r).0) at in
+        rest (after_line d line) k (ap (λ x. lines_after source_grammar (n + 1) x lines) same ∙ e)
     by_line (Err kind) at e k rest = absurd cc
 
 -- the code of a closed operation is all counted

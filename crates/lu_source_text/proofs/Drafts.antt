@@ -11,8 +11,8 @@ use Rattle.lu_text.specs.Faults.{lines_after, on_line, then_lines}
 use Rattle.lu_text.specs.declared.fault.Fault.{Fault}
 use Rattle.lu_text.proofs.Reading.{line_ok}
 use Rattle.lu_text.specs.Lines.{is_allowed, lines_of}
-use Rattle.lu_text.specs.Names.{IsName, has_name_form, is_long}
-use Rattle.lu_text.specs.Words.{Word}
+use Rattle.lu_text.specs.Names.{IsName, is_long}
+use Rattle.lu_text.specs.Words.{Word, exactly_one}
 use Rattle.lu_text.proofs.NameText.{name_from}
 use Rattle.lu_component.specs.declared.component.Array.{Array}
 use Rattle.lu_component.specs.declared.component.Op.{Op}
@@ -20,14 +20,14 @@ use Rattle.lu_component.specs.Component.{AreDistinct, IsArray, IsComponent, IsIn
 use Rattle.lu_source.specs.declared.tree.Action.{Action}
 use Rattle.lu_source.specs.declared.tree.Action.TheVariants.{Set, Compute, Load, Store, Cas, Lock, Unlock, Await, AwaitNot, Pick, Return}
 use Rattle.lu_source.specs.Code.{instr_of, op_of, operation_code}
-use Rattle.lu_source_text.specs.Grammar.{Begun, Block, Drafted, Kind, all_read, aside, begun_as, last_number, op_fault, where_some, after_word, by_state, by_words, close_blocks, closes, end_block, whole_of, constant_in, const_line, declaration, else_line, end_line, first_number, init_in, inside, is_free_name, is_operation, is_taken, is_whole, is_word, keeps_going, len_in, line_of, local_in, local_line, lock_in, lock_line, names_from, names_in, new_name, nothing, object_line, on_first, on_ok, op_line, other_side, position_from, program_of, shared_from, shared_in, source_grammar, source_words, statement, whole_line, word_line}
+use Rattle.lu_source_text.specs.Grammar.{Begun, Block, Drafted, Kind, all_read, aside, last_number, last_word, after_word, by_state, by_words, close_blocks, closes, end_block, constant_from, const_line, declaration, else_line, end_line, first_number, init_in, inside, is_free_name, is_operation, is_taken, is_whole, is_word, keeps_going, len_in, line_of, local_line, lock_line, names_from, names_in, name_of, new_name, nothing, nothing_left, object_line, on_first, on_ok, or_fault, op_line, other_side, position_from, program_of, shared_from, source_grammar, source_words, statement, whole_line, word_line}
 use Rattle.lu_source.specs.Programs.{operation_of}
 use Rattle.lu_source_text.specs.Drafts.{begun_of, drafted_of}
 use Rattle.lu_source_text.specs.declared.draft.Begun.{Begun as HeldBegun}
 use Rattle.lu_source_text.specs.declared.draft.Constant.{Constant}
 use Rattle.lu_source_text.specs.declared.draft.Draft.{Draft as HeldDraft}
 use Rattle.lu_source_text.specs.declared.draft.Shared.{Shared}
-use Rattle.lu_source_text.specs.declared.fault.SourceFaultKind.TheVariants.{Form, Limit, Name}
+use Rattle.lu_source_text.specs.declared.fault.SourceFaultKind.TheVariants.{Byte, Form, Limit, Name}
 use Rattle.lu_source.specs.Runs.{compiled}
 use Rattle.lu_source_text.specs.Readers.{SourceSound}
 use Rattle.lu_source.specs.Sound.{IsTree}
@@ -35,7 +35,7 @@ use Rattle.lu_source.specs.Trees.{Operation, Program, Tree}
 use Rattle.lu_source.specs.Trees.Tree.{Nothing, Plain, Then, If, IfElse, Loop, Break, BreakUnless, Continue}
 use Rattle.lu_source.proofs.Bounded.{code_sound}
 use Rattle.lu_source_text.proofs.Kept.{AreValues, Holds, any_holds, first_fine, if_holds, then_holds, unless_holds}
-use Rattle.lu_source_text.proofs.Lines.{Goes, GoesOn, IsBlock, IsGoing, each_last, else_fine, end_fine, free_name, new_named, statement_fine}
+use Rattle.lu_source_text.proofs.Lines.{Goes, GoesOn, IsBlock, IsGoing, each_last, else_fine, end_fine, free_name, name_fine, new_named, statement_fine}
 
 -- ---- lists
 
@@ -87,16 +87,15 @@ operation_absent (o ∷ os) w h = let parts = or_parts (bytes_eq o.name w) (is_o
 
 -- what a new name is
 
-new_fine : (d : Drafted) (locals : List Word) (w : Word) → Holds (λ name. IsName name × (is_some (shared_in d name) ≡ false) × (is_some (lock_in d name) ≡ false)) (new_name d locals w)
+new_fine : (d : Drafted) (locals : List Word) (w : Word) → Holds (λ name. IsName name × (is_some (shared_from 0 d.words name) ≡ false) × (is_some (position_from 0 d.locks name) ≡ false)) (new_name d locals w)
 new_fine d locals w =
-    let P : Word → Type 0 = λ name. IsName name × (is_some (shared_in d name) ≡ false) × (is_some (lock_in d name) ≡ false) in
-    unless_holds P (not (is_free_name w)) Form _ (λ free.
-    unless_holds P (is_long w) Limit _ (λ short.
-    unless_holds P (is_taken d locals w) Name (Ok w) (λ fresh.
-    let parts = or_parts (is_some (constant_in d w)) (is_some (shared_in d w) || (is_some (lock_in d w) || is_some (local_in locals w))) fresh in
-    let more = or_parts (is_some (shared_in d w)) (is_some (lock_in d w) || is_some (local_in locals w)) parts.1 in
-    let last = or_parts (is_some (lock_in d w)) (is_some (local_in locals w)) more.1 in
-    (name_from w (free_name w free) short, more.0, last.0))))
+    let P : Word → Type 0 = λ name. IsName name × (is_some (shared_from 0 d.words name) ≡ false) × (is_some (position_from 0 d.locks name) ≡ false) in
+    then_holds (λ name. IsName name × (name ≡ w)) P (name_of w) _ (name_fine w) (λ name is.
+    unless_holds P (is_taken d locals w) Name (Ok name) (λ fresh.
+    let parts = or_parts (is_some (constant_from d.constants w)) (is_some (shared_from 0 d.words w) || (is_some (position_from 0 d.locks w) || is_some (position_from 0 locals w))) fresh in
+    let more = or_parts (is_some (shared_from 0 d.words w)) (is_some (position_from 0 d.locks w) || is_some (position_from 0 locals w)) parts.1 in
+    let last = or_parts (is_some (position_from 0 d.locks w)) (is_some (position_from 0 locals w)) more.1 in
+    (is.0, rw is.1 more.0, rw is.1 last.0)))
 
 -- names that are read are names
 abbrev AreNamed : List Word × List Word → Type 0
@@ -208,9 +207,9 @@ module _ (d : Drafted) (h : IsDraft d) where
 
   object_kept : (ws : List Word) → Holds IsDraft (object_line d ws)
   object_kept ws =
-      on_word IsDraft ws _ (λ w rest. any_hold IsDraft (all_read (w, rest)) _ (λ name.
-      unless_holds IsDraft (not (is_free_name name)) Form _ (λ free. unless_holds IsDraft (is_long name) Limit _ (λ short.
-      record { name = name_from name (free_name name free) short; local = h.local; values = h.values; words_few = h.words_few; words = h.words; words_apart = h.words_apart; locks_few = h.locks_few; locks = h.locks; locks_apart = h.locks_apart; operations_few = h.operations_few; operations = h.operations; operations_apart = h.operations_apart; begun = h.begun }))))
+      any_hold IsDraft (or_fault Form (exactly_one ws)) _ (λ name.
+      then_holds (λ n. IsName n × (n ≡ name)) IsDraft (name_of name) _ (name_fine name) (λ n is.
+      record { name = is.0; local = h.local; values = h.values; words_few = h.words_few; words = h.words; words_apart = h.words_apart; locks_few = h.locks_few; locks = h.locks; locks_apart = h.locks_apart; operations_few = h.operations_few; operations = h.operations; operations_apart = h.operations_apart; begun = h.begun }))
 
   local_kept : (ws : List Word) → Holds IsDraft (local_line d ws)
   local_kept ws =
@@ -234,7 +233,7 @@ module _ (d : Drafted) (h : IsDraft d) where
   word_kept : d.begun ≡ None → (ws : List Word) → Holds IsDraft (word_line d ws)
   word_kept none ws =
       on_word IsDraft ws _ (λ w rest.
-      then_holds (λ name. IsName name × (is_some (shared_in d name) ≡ false) × (is_some (lock_in d name) ≡ false)) IsDraft (new_name d [] w) _ (new_fine d [] w) (λ name new.
+      then_holds (λ name. IsName name × (is_some (shared_from 0 d.words name) ≡ false) × (is_some (position_from 0 d.locks name) ≡ false)) IsDraft (new_name d [] w) _ (new_fine d [] w) (λ name new.
       any_hold IsDraft (len_in d rest) _ (λ sized.
       then_holds (λ n. n < 2 ^ 32) IsDraft (init_in d sized.1) _ (init_fine sized.1) (λ init small.
       unless_holds IsDraft (nat_le 16 (length d.words) || (nat_lt sized.0.0 1 || nat_lt 64 sized.0.0)) Limit _ (λ few.
@@ -271,8 +270,8 @@ module _ (d : Drafted) (h : IsDraft d) where
   lock_kept : d.begun ≡ None → (ws : List Word) → Holds IsDraft (lock_line d ws)
   lock_kept none ws =
       on_word IsDraft ws _ (λ w rest.
-      then_holds (λ name. IsName name × (is_some (shared_in d name) ≡ false) × (is_some (lock_in d name) ≡ false)) IsDraft (new_name d [] w) _ (new_fine d [] w) (λ name new.
-      any_hold IsDraft (all_read (name, rest)) _ (λ same.
+      then_holds (λ name. IsName name × (is_some (shared_from 0 d.words name) ≡ false) × (is_some (position_from 0 d.locks name) ≡ false)) IsDraft (new_name d [] w) _ (new_fine d [] w) (λ name new.
+      any_hold IsDraft (nothing_left rest) _ (λ u.
       unless_holds IsDraft (nat_le 8 (length d.locks)) Limit _ (λ few.
       let room : length d.locks < 8 = omega (arith, leb-false 8 (length d.locks) few) in
       let l : length (d.locks ++ name ∷ []) ≡ length d.locks + 1 = length_last d.locks name in
@@ -296,25 +295,15 @@ module _ (d : Drafted) (h : IsDraft d) where
   op_kept ws =
       on_word IsDraft ws _ (λ name rest. unless_holds IsDraft (not (is_free_name name)) Form _ (λ free.
       any_hold IsDraft (after_word (codes "(") rest) _ (λ inner. then_holds AreNamed IsDraft (names_in d inner) _ (names_named d inner) (λ read are.
-      any_hold IsDraft (after_word (codes "{") read.1) _ (λ end. then_holds (AllByRecursion IsName) IsDraft (all_read (read.0, end)) _ (read_all (AllByRecursion IsName) read.0 end are) (λ args named.
-      op_holds name args (free_name name free) named))))))
-    where
-      op_holds : (name : Word) (args : List Word) → not (has_name_form name) ≡ false → AllByRecursion IsName args → Holds IsDraft (where_some (op_fault d name args) (Ok (record d { begun = Some (begun_as name args) })) Err)
-      op_holds name args form named = by_limits (is_long name || (nat_le 16 (length d.operations) || nat_lt 4 (length args))) refl
-        where
-          by_name : (t : Bool) → is_operation d.operations name ≡ t → (is_long name || (nat_le 16 (length d.operations) || nat_lt 4 (length args))) ≡ false → Holds IsDraft (where_some (if t then Some Name else None) (Ok (record d { begun = Some (begun_as name args) })) Err)
-          by_name true fresh few = tt
-          by_name false fresh few =
-              let parts = or_parts (is_long name) (nat_le 16 (length d.operations) || nat_lt 4 (length args)) few in
-              let more = or_parts (nat_le 16 (length d.operations)) (nat_lt 4 (length args)) parts.1 in
-              let room : length d.operations < 16 = omega (arith, leb-false 16 (length d.operations) more.0) in
-              let four : length args ≤ 4 = ltb-false 4 (length args) more.1 in
-              let eight : length args ≤ 8 = omega arith in
-              record { name = h.name; local = h.local; values = h.values; words_few = h.words_few; words = h.words; words_apart = h.words_apart; locks_few = h.locks_few; locks = h.locks; locks_apart = h.locks_apart; operations_few = h.operations_few; operations = h.operations; operations_apart = h.operations_apart; begun = (record { name = name_from name form parts.0; args = four; locals = eight; named = named; blocks = ((tt, tt), tt) }, room, fresh) }
-
-          by_limits : (t : Bool) → (is_long name || (nat_le 16 (length d.operations) || nat_lt 4 (length args))) ≡ t → Holds IsDraft (where_some (if t then Some Limit else (if is_operation d.operations name then Some Name else None)) (Ok (record d { begun = Some (begun_as name args) })) Err)
-          by_limits true few = tt
-          by_limits false few = by_name (is_operation d.operations name) refl few
+      any_hold IsDraft (last_word (codes "{") read.1) _ (λ u.
+      unless_holds IsDraft (is_long name || (nat_le 16 (length d.operations) || nat_lt 4 (length read.0))) Limit _ (λ few.
+      unless_holds IsDraft (is_operation d.operations name) Name _ (λ fresh.
+      let parts = or_parts (is_long name) (nat_le 16 (length d.operations) || nat_lt 4 (length read.0)) few in
+      let more = or_parts (nat_le 16 (length d.operations)) (nat_lt 4 (length read.0)) parts.1 in
+      let room : length d.operations < 16 = omega (arith, leb-false 16 (length d.operations) more.0) in
+      let four : length read.0 ≤ 4 = ltb-false 4 (length read.0) more.1 in
+      let eight : length read.0 ≤ 8 = omega arith in
+      record { name = h.name; local = h.local; values = h.values; words_few = h.words_few; words = h.words; words_apart = h.words_apart; locks_few = h.locks_few; locks = h.locks; locks_apart = h.locks_apart; operations_few = h.operations_few; operations = h.operations; operations_apart = h.operations_apart; begun = (record { name = name_from name (free_name name free) parts.0; args = four; locals = eight; named = are; blocks = ((tt, tt), tt) }, room, fresh) })))))))
 
   declaration_kept : d.begun ≡ None → (w : Word) (ws : List Word) → Holds IsDraft (declaration d w ws)
   declaration_kept none w ws =
@@ -334,10 +323,7 @@ module _ (d : Drafted) (h : IsDraft d) where
 
   whole_kept : (b : Begun) (t : Tree) → IsOpenIn (length d.words) (length d.locks) d.operations b → IsTree (length d.words) (length d.locks) t → Holds IsDraft (whole_line d b t)
   whole_kept b t open_now fine =
-      then_holds (λ (o : Operation). (o ≡ record { name = b.name; args = b.args; body = t }) × (length (operation_code t) ≤ 64)) IsDraft (whole_of b t) _
-      (unless_holds (λ (o : Operation). (o ≡ record { name = b.name; args = b.args; body = t }) × (length (operation_code t) ≤ 64)) (nat_lt 64 (length (operation_code t))) Limit _ (λ few. (refl, ltb-false 64 (length (operation_code t)) few))) (λ o made.
-      subst (λ (x : Operation). IsDraft (record d { operations = d.operations ++ x ∷ []; begun = None })) (sym made.0)
-      (with_one made.1))
+      unless_holds IsDraft (nat_lt 64 (length (operation_code t))) Limit _ (λ few. with_one (ltb-false 64 (length (operation_code t)) few))
     where
       one : Operation
       one = record { name = b.name; args = b.args; body = t }
@@ -414,8 +400,8 @@ module _ (d : Drafted) (h : IsDraft d) where
   pub line_kept : (line : List ℕ) → Holds IsDraft (line_of d line)
   unfolding line_of
   line_kept line =
-      if_holds IsDraft (list_all is_allowed line) _ _
-      (unless_holds IsDraft (nat_lt 256 (length (source_words line))) Limit _ (λ few. words_kept (source_words line))) tt
+      unless_holds IsDraft (not (list_all is_allowed line)) Byte _ (λ allowed.
+      unless_holds IsDraft (nat_lt 256 (length (source_words line))) Limit _ (λ few. words_kept (source_words line)))
 
 -- ---- texts
 

@@ -1,5 +1,5 @@
 -- Entries of instructions, after one line after the other.
-use Rattle.std.proofs.Common.{◌≡◌, ◌≢◌, ℕ, zero, suc, add-one, ◌+◌, ◌-◌, ◌<◌, ◌≤◌, Bool, true, false, if◌then◌else◌, List, [], ◌∷◌, ◌++◌, length, get_or, map, take, drop, set, replicate, Option, Some, None, Result, Ok, Err, refl, sym, ap, subst, ◌∙◌, arith, length-append, append_assoc, ne_eqb, eq-eqb, inl, inr}
+use Rattle.std.proofs.Common.{◌≡◌, ◌≢◌, ℕ, zero, suc, add-one, ◌+◌, ◌-◌, ◌<◌, ◌≤◌, true, false, if◌then◌else◌, List, [], ◌∷◌, ◌++◌, length, get_or, map, take, drop, set, replicate, Option, Some, None, Result, Ok, Err, refl, sym, ap, subst, ◌∙◌, arith, length-append, append_assoc, ne_eqb, eq-eqb, inl, inr}
 use Rattle.std.specs.Prelude.{min, reverse, nat_lt, IfOk, OnOk, Vec}
 use Rattle.std.specs.Option.{option_map}
 use Rattle.std.specs.List.{slice_get}
@@ -13,9 +13,8 @@ use Rattle.lu_text.proofs.Reading.{line_ok}
 use Rattle.lu_text.specs.Words.{Word}
 use Rattle.lu_text.specs.declared.fault.Fault.{Fault}
 use Rattle.lu_text.specs.declared.fault.Fault.TheVariants.{At}
-use Rattle.lu_source.specs.Code.{comes_out, operation_code, size, where_so}
-use Rattle.lu_source.specs.Trees.{Program, Tree}
-use Rattle.lu_source.proofs.Emitted.{length-operation}
+use Rattle.lu_source.specs.Code.{operation_code, size}
+use Rattle.lu_source.specs.Trees.{Program}
 use Rattle.lu_source.specs.Programs.{operation_of}
 use Rattle.lu_source.specs.Shapes.{tree_of}
 use Rattle.lu_source.specs.declared.origin.Origin.{Origin}
@@ -26,7 +25,7 @@ use Rattle.lu_source_text.specs.declared.draft.Draft.{Draft as HeldDraft}
 use Rattle.lu_source_text.specs.declared.draft.Block.{Block as HeldBlock}
 use Rattle.lu_source_text.specs.Drafts.{begun_of, block_of, blocks_of, drafted_of}
 use Rattle.lu_source_text.specs.Grammar.{Block, Drafted, Kind, either, line_of, nothing, source_grammar}
-use Rattle.lu_source_text.specs.Origins.{AreFilled, AreOrigins, Entry, FailsAs, Standing, are_indexed, entries, entries_at, entry_of, standings, behind, after_lines, block_size, filled, if_there, origin_from, size_so_far, standing_at, alone_at, closed_at, closed_standing, open_standing}
+use Rattle.lu_source_text.specs.Origins.{AreFilled, AreOrigins, Entry, FailsAs, Standing, are_indexed, entries, entries_at, entry_of, standings, after_line, after_lines, block_size, filled, if_there, origin_from, size_so_far, standing_at, alone_at, closed_at, closed_standing, open_standing}
 use Rattle.lu_source_text.proofs.Drafts.{map_last}
 use Rattle.lu_source_text.proofs.Innermost.{map_both}
 
@@ -52,13 +51,6 @@ size_first (x ∷ bs) b h is =
     let rest : take (length (x ∷ bs) - 1) (drop 1 (x ∷ bs)) ≡ bs = subst (λ n. take n bs ≡ bs) len (take-length bs) in
     size_more x bs ∙ ap (λ x. block_size (block_of x) + size_so_far (blocks_of bs)) (sym is)
     ∙ ap (λ l. block_size (block_of b) + size_so_far (blocks_of l)) (sym rest)
-
--- one `return` more, where it may come to its end
-pub len_more : (b : Tree) (t : Bool) → t ≡ comes_out b → t ≡ true → length (operation_code b) ≡ size b + 1
-len_more b t is so = length-operation b ∙ ap (λ t. size b + where_so t 1) (sym is ∙ so)
-
-pub len_same : (b : Tree) (t : Bool) → t ≡ comes_out b → t ≡ false → length (operation_code b) ≡ size b + 0
-len_same b t is so = length-operation b ∙ ap (λ t. size b + where_so t 1) (sym is ∙ so)
 
 -- ---- the entries of one operation
 
@@ -207,12 +199,12 @@ pub either_none : {X : Type 0} (a : Option X) → either a None ≡ a
 either_none None = refl
 either_none (Some x) = refl
 
-pub after_is : (n : ℕ) (d next : Drafted) (line : List ℕ) → on_line n (line_of d line) ≡ Ok next → behind d line ≡ next
+pub after_is : (n : ℕ) (d next : Drafted) (line : List ℕ) → on_line n (line_of d line) ≡ Ok next → after_line d line ≡ next
 after_is n d next line e = ap (λ r. (going_on d r).0) (line_ok n (line_of d line) next e)
 
 -- a line more: what is missing comes from it, and then from the others
 pub origins_go_on : (n : ℕ) (d next : Drafted) (line : List ℕ) (rest : List (List ℕ)) (xs ys : List (List Entry)) (total : ℕ → ℕ → Option Entry)
-    → behind d line ≡ next → ((o : ℕ) → get_or ys o [] ≡ filled n (standing_at next o) (get_or xs o []))
+    → after_line d line ≡ next → ((o : ℕ) → get_or ys o [] ≡ filled n (standing_at next o) (get_or xs o []))
     → ((o p : ℕ) → either (slice_get (get_or xs o []) p) (origin_from n d (line ∷ rest) o p) ≡ total o p)
     → (o p : ℕ) → either (slice_get (get_or ys o []) p) (origin_from (n + 1) next rest o p) ≡ total o p
 origins_go_on n d next line rest xs ys total is more so o p =
@@ -222,14 +214,14 @@ origins_go_on n d next line rest xs ys total is more so o p =
     ∙ sym (ap (λ d. either (slice_get (get_or xs o []) p) (either (if_there n (standing_at d o) p) (origin_from (n + 1) d rest o p))) is)
     ∙ so o p
 
-pub drafts_go_on : (d next : Drafted) (line : List ℕ) (rest : List (List ℕ)) (total : Drafted) → behind d line ≡ next → after_lines d (line ∷ rest) ≡ total → after_lines next rest ≡ total
+pub drafts_go_on : (d next : Drafted) (line : List ℕ) (rest : List (List ℕ)) (total : Drafted) → after_line d line ≡ next → after_lines d (line ∷ rest) ≡ total → after_lines next rest ≡ total
 drafts_go_on d next line rest total is so = sym (ap (λ d. after_lines d rest) is) ∙ so
 
 -- ---- faults
 
 -- a fault that is answered is the one that is meant
-pub fault_told : {A : Type 0} (r : Result A (Fault Kind)) (meant : Result Program (Fault Kind)) (kind : Kind) (n : ℕ) → r ≡ Err (At kind n) → FailsAs r meant → meant ≡ Err (At kind n)
-fault_told {A = A} r meant kind n e h = subst (λ (r : Result A (Fault Kind)). FailsAs r meant) e h
+pub fault_meant : {A : Type 0} (r : Result A (Fault Kind)) (meant : Result Program (Fault Kind)) (kind : Kind) (n : ℕ) → r ≡ Err (At kind n) → FailsAs r meant → meant ≡ Err (At kind n)
+fault_meant {A = A} r meant kind n e h = subst (λ (r : Result A (Fault Kind)). FailsAs r meant) e h
 
 -- the text may end here, or the fault is there
 pub fails_done : {A : Type 0} (n m : ℕ) (d : Drafted) (r : Result A (Fault Kind)) (total : Result Program (Fault Kind)) → n ≡ m → FailsAs r (on_line m (source_grammar.finish d)) → lines_after source_grammar n d [] ≡ total → FailsAs r total
@@ -237,9 +229,9 @@ unfolding lines_after
 fails_done n m d r total e h so = subst (FailsAs r) (ap (λ k. on_line k (source_grammar.finish d)) (sym e) ∙ so) h
 
 -- what follows from two clauses on a value
-pub told : {X E : Type 0} (r : Result X E) (P Q R : X → Type 0) → IfOk r P → IfOk r Q → ((x : X) → P x → Q x → R x) → IfOk r R
-told (Ok x) P Q R p q f = f x p q
-told (Err e) P Q R p q f = tt
+pub IfOk-both : {X E : Type 0} (r : Result X E) (P Q R : X → Type 0) → IfOk r P → IfOk r Q → ((x : X) → P x → Q x → R x) → IfOk r R
+IfOk-both (Ok x) P Q R p q f = f x p q
+IfOk-both (Err e) P Q R p q f = tt
 
 -- ---- in memory
 

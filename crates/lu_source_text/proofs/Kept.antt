@@ -9,10 +9,10 @@ use Rattle.lu_text.specs.Numbers.{value_in}
 use Rattle.lu_text.specs.Words.{Word}
 use Rattle.lu_text.proofs.NumberText.{value_small}
 use Rattle.lu_source.specs.Expressions.{Expr}
-use Rattle.lu_source.specs.Expressions.Expr.{Number, Local}
+use Rattle.lu_source.specs.Expressions.Expr.{Number, Local, Swap}
 use Rattle.lu_source_text.specs.declared.infix.Infix.{Infix}
 use Rattle.lu_source_text.specs.declared.infix.Infix.TheVariants.{Or as Or', And as And', Joins}
-use Rattle.lu_source_text.specs.Grammar.{Inner, Kind, Read', Scope, all_read, after_word, binding, cas_with, cell_with, closed_with, constant_from, either, exchange_with, expr_from, first_number, infix_from, infix_in, inner_by, is_free_name, is_word, joined, local_in, most_after, name_with, named_expr, number_of, on_first, on_ok, or_fault, pick_from, shared_from, steps_for, swapped_with, unary_with, unless, where_some}
+use Rattle.lu_source_text.specs.Grammar.{Inner, Kind, Read', Scope, all_read, after_word, binding, cas_with, cell_with, closed_with, constant_from, either, expr_from, first_number, infix_from, infix_in, inner_by, is_free_name, is_word, joined, local_in, most_after, name_with, named_expr, number_of, on_first, on_ok, or_fault, pick_from, shared_from, steps_for, unary_with, unless, where_some}
 use Rattle.lu_source_text.specs.declared.draft.Constant.{Constant}
 use Rattle.lu_source_text.specs.declared.draft.Shared.{Shared}
 use Rattle.lu_source_text.specs.declared.fault.SourceFaultKind.TheVariants.{Form, Number as Number', Limit, Name}
@@ -160,29 +160,19 @@ module _ (s : Scope) (values : AreValues s.constants) where
         some_holds (IsExpr (length s.words)) Fine (named_expr s w) _ (λ e. Ok (e, ws)) (named_fine w)
         (then_holds FineCell Fine (cell_with w inner ws) _ (cell_fine w ws) (λ r h. h)) (λ e h. h)
 
-    abbrev FinePair : (Expr × Expr) × List Word → Type 0
-    FinePair r = IsExpr (length s.words) r.0.0 × IsExpr (length s.words) r.0.1
-
-    swapped_fine : (ws : List Word) → Holds FineCell (swapped_with inner ws)
-    swapped_fine ws = after_holds FineCell (codes "(") ws _ (λ inside. of_first inside)
-      where
-        of_first : (inside : List Word) → Holds FineCell (on_first inside (λ w rest.
-            on_ok (cell_with w inner rest) (λ (cell, second). on_ok (after_word (codes ",") second) (λ third.
-            Ok (cell, third)))))
-        of_first [] = tt
-        of_first (w ∷ rest) =
-            then_holds FineCell FineCell (cell_with w inner rest) _ (cell_fine w rest) (λ cell h.
-            after_holds FineCell (codes ",") cell.1 _ (λ third. h))
-
-    exchange_fine : (ws : List Word) → Holds FinePair (exchange_with inner ws)
-    exchange_fine ws =
-        then_holds Fine FinePair (closed_with (codes ",") inner ws) _ (closed_fine (codes ",") ws) (λ old k.
-        then_holds Fine FinePair (closed_with (codes ")") inner old.1) _ (closed_fine (codes ")") old.1) (λ new l. (k, l)))
-
     pub swap_fine : (ws : List Word) → Holds Fine (cas_with inner ws)
-    swap_fine ws =
-        then_holds FineCell Fine (swapped_with inner ws) _ (swapped_fine ws) (λ cell h.
-        then_holds FinePair Fine (exchange_with inner cell.1) _ (exchange_fine cell.1) (λ both k. (h.0, h.1, k.0, k.1)))
+    swap_fine ws = after_holds Fine (codes "(") ws _ (λ inside. of_first inside)
+      where
+        of_first : (inside : List Word) → Holds Fine (on_first inside (λ w first.
+            on_ok (cell_with w inner first) (λ (cell, second). on_ok (after_word (codes ",") second) (λ third.
+            on_ok (closed_with (codes ",") inner third) (λ (old, fourth).
+            on_ok (closed_with (codes ")") inner fourth) (λ (new, more). Ok (Swap cell.0 cell.1 old new, more)))))))
+        of_first [] = tt
+        of_first (w ∷ first) =
+            then_holds FineCell Fine (cell_with w inner first) _ (cell_fine w first) (λ cell h.
+            after_holds Fine (codes ",") cell.1 _ (λ third.
+            then_holds Fine Fine (closed_with (codes ",") inner third) _ (closed_fine (codes ",") third) (λ old k.
+            then_holds Fine Fine (closed_with (codes ")") inner old.1) _ (closed_fine (codes ")") old.1) (λ new l. (h.0, h.1, k, l)))))
 
     pick_fine : (ws : List Word) → Holds Fine (pick_from s.constants ws)
     pick_fine ws =

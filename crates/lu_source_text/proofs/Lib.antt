@@ -10,4 +10,3 @@ pub mod Steps
 pub mod Worded
 pub mod Entries
 pub mod Complete
-pub mod Parts

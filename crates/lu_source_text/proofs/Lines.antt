@@ -1,5 +1,5 @@
 -- Lines of a source: what they leave makes a component.
-use Rattle.std.proofs.Common.{◌≡◌, ℕ, zero, suc, ◌+◌, ◌<◌, ◌≤◌, nat_lt, Bool, true, false, not, ◌&&◌, if◌then◌else◌, List, [], ◌∷◌, ◌++◌, length, Option, Some, None, MatchOption, refl, ap, ◌∙◌, lit<, arith, length-append}
+use Rattle.std.proofs.Common.{◌≡◌, ℕ, zero, suc, ◌+◌, ◌<◌, ◌≤◌, nat_lt, Bool, true, false, not, ◌&&◌, ◌||◌, if◌then◌else◌, List, [], ◌∷◌, ◌++◌, length, Option, Some, None, MatchOption, refl, ap, ◌∙◌, lit<, arith, length-append}
 use Rattle.std.specs.Prelude.{Result, Ok, Err, codes, nat_le, take}
 use Rattle.std.specs.List.{AllByRecursion}
 use Rattle.std.specs.Str.{bytes_eq}
@@ -7,7 +7,7 @@ use Rattle.std.proofs.lemmas.Bool.{leb-false, ltb-false, not-false, not_from_tru
 use Rattle.std.proofs.lemmas.List.{length-take}
 use Rattle.lu_text.specs.Names.{IsName, has_name_form, is_long}
 use Rattle.lu_text.proofs.NameText.{name_from}
-use Rattle.lu_text.specs.Words.{Word}
+use Rattle.lu_text.specs.Words.{Word, exactly_one}
 use Rattle.lu_component.specs.declared.instr.Operand.{Operand}
 use Rattle.lu_component.specs.Component.{IsInstr, IsOperand}
 use Rattle.lu_source.specs.declared.expr.Operator.TheVariants.{Plus, Minus, Times, Equals, Differs, Below, Above, AtMost, AtLeast}
@@ -16,7 +16,7 @@ use Rattle.lu_source.specs.declared.tree.Action.TheVariants as action
 use Rattle.lu_source.specs.Code.{falls, instr_of}
 use Rattle.lu_source.specs.Expressions.{Coded, Expr, as_test, coded, needed, past, put}
 use Rattle.lu_source.specs.Expressions.Expr.{Number, Local, Read, Swap, Pick, Binary, Not, And, Or}
-use Rattle.lu_source_text.specs.Grammar.{Begun, Block, Drafted, Kind, Opening, added, added_to, all_read, assign, await_tree, awaited, awaiting, awaits_equal, after_word, both_of, cas_in, cas_tree, cas_with, cell_in, closed_by, closing, code_for, compared, deeper, does_too, else_line, end_block, let_in, expr_before_brace, expr_from, expr_in, if_line, in_loop, inner_of, is_free_name, is_still, is_word, leave, let_line, local_in, lock_in, lock_number, loop_line, new_name, on_first, on_ok, or_fault, other_by, other_side, owner_tree, position_from, return_tree, scope_of, set_tree, simple, statement, steps_for, store_tree, tested, where_some, while_line, with_blocks, is_keyword, is_taken}
+use Rattle.lu_source_text.specs.Grammar.{Begun, Block, Drafted, Kind, Opening, added, added_to, assign, assigned_in, await_cell, await_tree, awaiting, after_word, both_of, cas_tree, cas_with, cell_in, closed_by, closing, code_for, compared, deeper, does_too, else_line, end_block, expr_before_brace, expr_from, first_value, expr_in, if_line, in_loop, inner_of, is_free_name, is_still, is_word, last_word, leave, let_line, local_in, lock_number, loop_line, name_of, new_name, nothing_left, on_first, on_ok, or_fault, other_by, other_side, owner_tree, position_from, return_tree, scope_of, set_cell, set_local, simple, statement, steps_for, tested, where_some, while_line, with_blocks, is_keyword, is_taken}
 use Rattle.lu_source_text.specs.declared.fault.SourceFaultKind.TheVariants.{Form, Limit, Registers, Flow, Name}
 use Rattle.lu_source_text.specs.Grammar.Opening.{Whole, Test, Other, Turns}
 use Rattle.lu_source.specs.Sound.{IsExpr, IsTree}
@@ -56,12 +56,17 @@ each_taken P (suc n) (x ∷ xs) all = (all.0, each_taken P n xs all.1)
 pub free_name : (w : Word) → not (is_free_name w) ≡ false → not (has_name_form w) ≡ false
 free_name w h = let parts = and_parts (has_name_form w) (not (is_keyword w)) (not-false (is_free_name w) h) in not_from_true (has_name_form w) parts.0
 
+-- a word that is a name
+pub name_fine : (w : Word) → Holds (λ name. IsName name × (name ≡ w)) (name_of w)
+name_fine w =
+    unless_holds (λ name. IsName name × (name ≡ w)) (not (is_free_name w)) Form _ (λ free.
+    unless_holds (λ name. IsName name × (name ≡ w)) (is_long w) Limit (Ok w) (λ short. (name_from w (free_name w free) short, refl)))
+
 -- a new name is one
 pub new_named : (d : Drafted) (locals : List Word) (w : Word) → Holds IsName (new_name d locals w)
 new_named d locals w =
-    unless_holds IsName (not (is_free_name w)) Form _ (λ free.
-    unless_holds IsName (is_long w) Limit _ (λ short.
-    unless_holds IsName (is_taken d locals w) Name (Ok w) (λ fresh. name_from w (free_name w free) short)))
+    then_holds (λ name. IsName name × (name ≡ w)) IsName (name_of w) _ (name_fine w) (λ name is.
+    unless_holds IsName (is_taken d locals w) Name (Ok name) (λ fresh. is.0))
 
 -- an open operation that goes on, with the same name and locals
 abbrev pub GoesOn : ℕ → ℕ → Begun → Begun → Type 0
@@ -138,30 +143,33 @@ module _ (d : Drafted) (values : AreValues d.constants) where
   whatever : {A B : Type 0} (P : B → Type 0) (r : Result A Kind) (go : A → Result B Kind) → ((x : A) → Holds P (go x)) → Holds P (on_ok r go)
   whatever P r go next = then_holds (λ x. Unit {0}) P r go (any_holds r) (λ x t. next x)
 
+  -- an expression after `=`
+  assigned_holds : {A : Type 0} (P : A → Type 0) (b : Begun) (ws : List Word) (go : Expr → Result A Kind) → ((e : Expr) → IsExpr (length d.words) e → Holds P (go e)) → Holds P (on_ok (assigned_in d b ws) go)
+  assigned_holds P b ws go next =
+      then_holds (IsExpr (length d.words)) P (assigned_in d b ws) go
+      (words_hold (IsExpr (length d.words)) (codes "=") ws _ (λ more. whole_fine (scope_of d b) values more)) next
+
+  local_fine : (P : Tree → Type 0) (b : Begun) (r : ℕ) (e : Expr) → r ≤ length b.locals → r < 8 → IsExpr (length d.words) e → ((t : Tree) → Sound t → P t) → Holds P (set_local r b e)
+  local_fine P b r e le small fine next =
+      code_fine P e r (length b.locals) (λ x. Ok (Then x.code (put r x.at))) fine le (λ x is_x code at. next (Then x.code (put r x.at)) (code, put_sound _ _ r x.at small at))
+
+  value_fine : (b : Begun) (ws : List Word) → Holds (λ t. Sound t × (length b.locals < 8)) (first_value d b ws)
+  value_fine b ws =
+      let P : Tree → Type 0 = λ t. Sound t × (length b.locals < 8) in
+      assigned_holds P b ws _ (λ e fine. unless_holds P (nat_le 8 (length b.locals)) Registers _ (λ so.
+      let small : length b.locals < 8 = omega (arith, leb-false 8 (length b.locals) so) in
+      local_fine P b (length b.locals) e (omega arith) small fine (λ t sound. (sound, small))))
+
   let_fine : (b : Begun) (ws : List Word) → IsGoing (length d.words) (length d.locks) b → Holds (Goes (length d.words) (length d.locks) b) (let_line d b ws)
   let_fine b ws is =
-      then_holds (λ (r : Word × Tree). (length b.locals < 8) × Sound r.1 × IsName r.0) (Goes (length d.words) (length d.locks) b) (let_in d b ws) _ (in_fine ws) (λ r h.
-      then_holds (Fits b) (Goes (length d.words) (length d.locks) b) (added b r.1) _ (added_fine b r.1 is h.1) (λ now g.
-      let more_locals : length (now.locals ++ r.0 ∷ []) ≤ 8 = (let l = ap length g.1 in let few = h.0 in omega (arith, length-append now.locals (r.0 ∷ []), l)) in
-      let after : Begun = record now { locals = now.locals ++ r.0 ∷ [] } in
-      let out : Goes (length d.words) (length d.locks) b after = (record { name = g.0.name; args = g.0.args; locals = more_locals; named = each_last IsName now.locals r.0 g.0.named h.2; blocks = g.0.blocks }, g.2) in out))
-    where
-      in_fine : (ws : List Word) → Holds (λ (r : Word × Tree). (length b.locals < 8) × Sound r.1 × IsName r.0) (let_in d b ws)
-      in_fine ws =
-          let P : Word × Tree → Type 0 = λ r. (length b.locals < 8) × Sound r.1 × IsName r.0 in
-          first_holds P ws _ (λ w rest. then_holds IsName P (new_name d b.locals w) _ (new_named d b.locals w) (λ name named.
-          words_hold P (codes "=") rest _ (λ more. expr_holds P b more _ (λ e fine.
-          unless_holds P (nat_le 8 (length b.locals)) Registers _ (λ so.
-          let small : length b.locals < 8 = omega (arith, leb-false 8 (length b.locals) so) in
-          code_fine P e (length b.locals) (length b.locals) (λ x. Ok (name, Then x.code (put (length b.locals) x.at))) fine (omega arith) (λ x is_x code at.
-          (small, (code, put_sound _ _ (length b.locals) x.at small at), named)))))))
-
-  set_fine : (b : Begun) (r : ℕ) (ws : List Word) → length b.locals ≤ 8 → r < length b.locals → Holds Sound (set_tree r d b ws)
-  set_fine b r ws few within =
-      words_hold Sound (codes "=") ws _ (λ more. expr_holds Sound b more _ (λ e fine.
-      code_fine Sound e r (length b.locals) (λ x. Ok (Then x.code (put r x.at))) fine (omega arith) (λ x is_x code at.
-      let small : r < 8 = omega arith in
-      (code, put_sound _ _ r x.at small at))))
+      let P : Begun → Type 0 = Goes (length d.words) (length d.locks) b in
+      first_holds P ws _ (λ w rest. then_holds IsName P (new_name d b.locals w) _ (new_named d b.locals w) (λ name named.
+      then_holds (λ t. Sound t × (length b.locals < 8)) P (first_value d b rest) _ (value_fine b rest) (λ t new.
+      let small : length b.locals < 8 = new.1 in
+      then_holds (Fits b) P (added b t) _ (added_fine b t is new.0) (λ now g.
+      let more_locals : length (now.locals ++ name ∷ []) ≤ 8 = (let l = ap length g.1 in omega (arith, length-append now.locals (name ∷ []), l)) in
+      let after : Begun = record now { locals = now.locals ++ name ∷ [] } in
+      let out : Goes (length d.words) (length d.locks) b after = (record { name = g.0.name; args = g.0.args; locals = more_locals; named = each_last IsName now.locals name g.0.named named; blocks = g.0.blocks }, g.2) in out))))
 
   both_fine : {A : Type 0} (P : A → Type 0) (b : Begun) (i e : Expr) (go : Coded → Coded → Result A Kind) → IsExpr (length d.words) i → IsExpr (length d.words) e → ((x y : Coded) → Sound x.code → IsOperand x.at → Sound y.code → IsOperand y.at → Holds P (go x y)) → Holds P (on_ok (both_of b i e) (λ (x, y). go x y))
   both_fine P b i e go fi fe next =
@@ -174,34 +182,29 @@ module _ (d : Drafted) (values : AreValues d.constants) where
   cell_holds : {A : Type 0} (P : A → Type 0) (b : Begun) (w : Word) (ws : List Word) (go : (ℕ × Expr) × List Word → Result A Kind) → ((r : (ℕ × Expr) × List Word) → r.0.0 < length d.words → IsExpr (length d.words) r.0.1 → Holds P (go r)) → Holds P (on_ok (cell_in w d b ws) go)
   cell_holds P b w ws go next = then_holds (λ (r : (ℕ × Expr) × List Word). (r.0.0 < length d.words) × IsExpr (length d.words) r.0.1) P (cell_in w d b ws) go (cell_fine (scope_of d b) values (expr_from (steps_for ws) (scope_of d b)) (expr_fine (scope_of d b) values (steps_for ws)) w ws) (λ r h. next r h.0 h.1)
 
-  store_fine : (b : Begun) (w : Word) (ws : List Word) → Holds Sound (store_tree w d b ws)
-  store_fine b w ws =
-      cell_holds Sound b w ws _ (λ r within fi. words_hold Sound (codes "=") r.1 _ (λ more.
-      expr_holds Sound b more _ (λ e fe. both_fine Sound b r.0.1 e _ fi fe (λ x y cx ax cy ay.
-      (cx, (cy, (within, ax, ay)))))))
-
-  -- what is awaited names what is there
-  abbrev Named : (ℕ × Expr) × Bool × Expr → Type 0
-  Named r = (r.0.0 < length d.words) × IsExpr (length d.words) r.0.1 × IsExpr (length d.words) r.2
+  cell_line_fine : (b : Begun) (w : Word) (ws : List Word) → Holds Sound (on_ok (cell_in w d b ws) (λ (cell, rest). on_ok (assigned_in d b rest) (set_cell b cell)))
+  cell_line_fine b w ws =
+      cell_holds Sound b w ws _ (λ r within fi. assigned_holds Sound b r.1 _ (λ e fe.
+      both_fine Sound b r.0.1 e _ fi fe (λ x y cx ax cy ay. (cx, (cy, (within, ax, ay))))))
 
   compared_fine : (b : Begun) (ws : List Word) → Holds (λ (r : Bool × Expr). IsExpr (length d.words) r.1) (compared d b ws)
   compared_fine b ws =
       first_holds (λ (r : Bool × Expr). IsExpr (length d.words) r.1) ws _ (λ by rest.
-      whatever (λ (r : Bool × Expr). IsExpr (length d.words) r.1) (or_fault Form (awaits_equal by)) _ (λ equal.
+      unless_holds (λ (r : Bool × Expr). IsExpr (length d.words) r.1) (not (is_word by (codes "==")) && not (is_word by (codes "!="))) Form _ (λ so.
       expr_holds (λ (r : Bool × Expr). IsExpr (length d.words) r.1) b rest _ (λ e fe. fe)))
 
-  awaited_fine : (b : Begun) (ws : List Word) → Holds Named (awaited d b ws)
-  awaited_fine b ws =
-      first_holds Named ws _ (λ w rest. unless_holds Named (not (is_free_name w)) Form _ (λ so.
-      cell_holds Named b w rest _ (λ r within fi.
-      then_holds (λ (x : Bool × Expr). IsExpr (length d.words) x.1) Named (compared d b r.1) _ (compared_fine b r.1) (λ x fe.
-      unless_holds Named (not (is_still r.0.1 && is_still x.1)) Flow _ (λ still. (within, fi, fe))))))
+  await_holds : (b : Begun) (cell : ℕ × Expr) (equal : Bool) (e : Expr) → cell.0 < length d.words → IsExpr (length d.words) cell.1 → IsExpr (length d.words) e → Holds Sound (await_cell equal b cell e)
+  await_holds b cell equal e within fi fe =
+      unless_holds Sound (not (is_still cell.1) || not (is_still e)) Flow _ (λ still.
+      both_fine Sound b cell.1 e _ fi fe (λ x y cx ax cy ay.
+      (cx, (cy, awaiting_fine (length d.words) (length d.locks) equal cell.0 x.at y.at within ax ay))))
 
   await_fine : (b : Begun) (ws : List Word) → Holds Sound (await_tree d b ws)
   await_fine b ws =
-      then_holds Named Sound (awaited d b ws) _ (awaited_fine b ws) (λ r h.
-      both_fine Sound b r.0.1 r.2 _ h.1 h.2 (λ x y cx ax cy ay.
-      (cx, (cy, awaiting_fine (length d.words) (length d.locks) r.1 r.0.0 x.at y.at h.0 ax ay))))
+      first_holds Sound ws _ (λ w rest. unless_holds Sound (not (is_free_name w)) Form _ (λ so.
+      cell_holds Sound b w rest _ (λ r within fi.
+      then_holds (λ (x : Bool × Expr). IsExpr (length d.words) x.1) Sound (compared d b r.1) _ (compared_fine b r.1) (λ x fe.
+      await_holds b r.0 x.0 x.1 within fi fe))))
 
   test_fine : (e : Expr) → IsExpr (length d.words) e → IsExpr (length d.words) (as_test e)
   test_fine (Number n) h = h
@@ -249,32 +252,28 @@ module _ (d : Drafted) (values : AreValues d.constants) where
   brace_holds P b ws go next =
       then_holds (IsExpr (length d.words)) P (expr_before_brace d b ws) go
       (then_holds (λ (r : Expr × List Word). IsExpr (length d.words) r.0) (IsExpr (length d.words)) (expr_from (steps_for ws) (scope_of d b) 1 ws) _ (expr_fine (scope_of d b) values (steps_for ws) 1 ws) (λ r h.
-      words_hold (IsExpr (length d.words)) (codes "{") r.1 _ (λ more. read_fine r.0 more h)))
+      whatever (IsExpr (length d.words)) (last_word (codes "{") r.1) _ (λ t. h)))
       next
-    where
-      read_fine : (e : Expr) (ws : List Word) → IsExpr (length d.words) e → Holds (IsExpr (length d.words)) (all_read (e, ws))
-      read_fine e [] h = h
-      read_fine e (w ∷ ws) h = tt
 
   if_fine : (b : Begun) (chained : Bool) (ws : List Word) → IsGoing (length d.words) (length d.locks) b → Holds (Fits b) (if_line chained d b ws)
   if_fine b chained ws is = brace_holds (Fits b) b ws _ (λ e fine. tested_fine b e _ is fine (λ now v going_now at. deeper_fine now (Test v) chained going_now at))
 
   while_fine : (b : Begun) (ws : List Word) → IsGoing (length d.words) (length d.locks) b → Holds (Fits b) (while_line d b ws)
   while_fine b ws is =
-      brace_holds (Fits b) b ws _ (λ e fine. then_holds (Fits b) (Fits b) (deeper b Turns false) _ (deeper_fine b Turns false is tt) (λ inner h.
-      fits_weaker b inner (on_ok (tested inner e) (λ (now, v). added now (BreakUnless v))) h (tested_fine inner e _ h.0 fine (λ now v going_now at. added_fine now (BreakUnless v) going_now at))))
+      then_holds (Fits b) (Fits b) (added b Nothing) _ (added_fine b Nothing is tt) (λ here g. fits_weaker b here _ g
+      (brace_holds (Fits here) here ws _ (λ e fine. then_holds (Fits here) (Fits here) (deeper here Turns false) _ (deeper_fine here Turns false g.0 tt) (λ inner h.
+      fits_weaker here inner (on_ok (tested inner e) (λ (now, v). added now (BreakUnless v))) h (tested_fine inner e _ h.0 fine (λ now v going_now at. added_fine now (BreakUnless v) going_now at))))))
 
   leave_fine : (b : Begun) (t : Tree) (ws : List Word) → Sound t → Holds Sound (leave b t ws)
-  leave_fine b t [] fine = unless_holds Sound (not (in_loop b.blocks)) Flow (Ok t) (λ so. fine)
-  leave_fine b t (w ∷ ws) fine = tt
+  leave_fine b t ws fine = whatever Sound (nothing_left ws) _ (λ u. unless_holds Sound (not (in_loop b.blocks)) Flow (Ok t) (λ so. fine))
 
   return_fine : (b : Begun) (ws : List Word) → Holds Sound (return_tree d b ws)
   return_fine b [] = lit< tt
   return_fine b (w ∷ ws) =
       expr_holds Sound b (w ∷ ws) _ (λ e fine. code_fine Sound e (length b.locals) (length b.locals) (λ x. Ok (Then x.code (Plain (action.Return x.at)))) fine (omega arith) (λ x is_x code at. (code, at)))
 
-  lock_there : (w : Word) → MatchOption (lock_in d w) (Unit {0}) (λ l. l < 0 + length d.locks)
-  lock_there w = by_place (lock_in d w) refl
+  lock_there : (w : Word) → MatchOption (position_from 0 d.locks w) (Unit {0}) (λ l. l < 0 + length d.locks)
+  lock_there w = by_place (position_from 0 d.locks w) refl
     where
       by_place : (o : Option ℕ) → position_from 0 d.locks w ≡ o → MatchOption o (Unit {0}) (λ l. l < 0 + length d.locks)
       by_place None at = tt
@@ -283,20 +282,16 @@ module _ (d : Drafted) (values : AreValues d.constants) where
   owner_fine : (act : ℕ → Action) (ws : List Word) → ((l : ℕ) → l < length d.locks → IsInstr (length d.words) (length d.locks) 0 (instr_of (act l))) → Holds Sound (owner_tree d act ws)
   owner_fine act ws fine =
       then_holds (λ l. l < 0 + length d.locks) Sound (lock_number d ws) _
-      (first_holds (λ l. l < 0 + length d.locks) ws _ (λ w rest. whatever (λ l. l < 0 + length d.locks) (all_read (w, rest)) _ (λ name.
-      or_holds (λ l. l < 0 + length d.locks) Name (lock_in d name) (lock_there name))))
+      (whatever (λ l. l < 0 + length d.locks) (or_fault Form (exactly_one ws)) _ (λ name.
+      or_holds (λ l. l < 0 + length d.locks) Name (position_from 0 d.locks name) (lock_there name)))
       (λ l within. fine l (omega arith))
 
   cas_line_fine : (b : Begun) (ws : List Word) → Holds Sound (cas_tree d b ws)
   cas_line_fine b ws =
-      then_holds (IsExpr (length d.words)) Sound (cas_in d b ws) _
-      (then_holds (λ (r : Expr × List Word). IsExpr (length d.words) r.0) (IsExpr (length d.words)) (cas_with (inner_of (scope_of d b) ws) ws) all_read
-      (swap_fine (scope_of d b) values (expr_from (steps_for ws) (scope_of d b)) (expr_fine (scope_of d b) values (steps_for ws)) ws) (λ r h. all_fine r.0 r.1 h))
-      (λ e fine. code_fine Sound e (length b.locals) (length b.locals) (λ x. Ok x.code) fine (omega arith) (λ x is_x code at. code))
-    where
-      all_fine : (e : Expr) (ws : List Word) → IsExpr (length d.words) e → Holds (IsExpr (length d.words)) (all_read (e, ws))
-      all_fine e [] h = h
-      all_fine e (w ∷ ws) h = tt
+      then_holds (λ (r : Expr × List Word). IsExpr (length d.words) r.0) Sound (cas_with (inner_of (scope_of d b) ws) ws) _
+      (swap_fine (scope_of d b) values (expr_from (steps_for ws) (scope_of d b)) (expr_fine (scope_of d b) values (steps_for ws)) ws) (λ r h.
+      whatever Sound (nothing_left r.1) _ (λ u.
+      code_fine Sound r.0 (length b.locals) (length b.locals) (λ x. Ok x.code) h (omega arith) (λ x is_x code at. code)))
 
   -- ---- `}`
 
@@ -328,12 +323,8 @@ module _ (d : Drafted) (values : AreValues d.constants) where
   else_fine b block ws is one =
       then_holds (Goes (length d.words) (length d.locks) b) (Goes (length d.words) (length d.locks) b) (other_side b block) _ (other_fine b block block.opening is one.0 one.1) (λ other h.
       first_holds (Goes (length d.words) (length d.locks) b) ws _ (λ w rest.
-      if_holds (Goes (length d.words) (length d.locks) b) (is_word w (codes "{")) _ _ (read_fine other rest h)
+      if_holds (Goes (length d.words) (length d.locks) b) (is_word w (codes "{")) _ _ (whatever (Goes (length d.words) (length d.locks) b) (nothing_left rest) _ (λ u. h))
       (if_holds (Goes (length d.words) (length d.locks) b) (is_word w (codes "if")) _ _ (goes_weaker b other (if_line true d other rest) h.1 (fits_goes other (if_line true d other rest) (if_fine other true rest h.0))) tt)))
-    where
-      read_fine : (other : Begun) (ws : List Word) → Goes (length d.words) (length d.locks) b other → Holds (Goes (length d.words) (length d.locks) b) (all_read (other, ws))
-      read_fine other [] h = h
-      read_fine other (w ∷ ws) h = tt
 
   pub end_fine : (b : Begun) (block : Block) → IsGoing (length d.words) (length d.locks) b → IsBlock (length d.words) (length d.locks) block → Holds (Goes (length d.words) (length d.locks) b) (end_block b block)
   end_fine b block is one =
@@ -348,9 +339,11 @@ module _ (d : Drafted) (values : AreValues d.constants) where
   assign_fine : (b : Begun) (w : Word) (ws : List Word) → length b.locals ≤ 8 → Holds Sound (assign w d b ws)
   assign_fine b w ws few = by_place (local_in b.locals w) refl
     where
-      by_place : (o : Option ℕ) → local_in b.locals w ≡ o → Holds Sound (where_some o (store_tree w d b ws) (λ r. set_tree r d b ws))
-      by_place None at = store_fine b w ws
-      by_place (Some r) at = set_fine b r ws few (let l = place_within 0 b.locals w r at in omega arith)
+      by_place : (o : Option ℕ) → local_in b.locals w ≡ o → Holds Sound (where_some o (on_ok (cell_in w d b ws) (λ (cell, rest). on_ok (assigned_in d b rest) (set_cell b cell))) (λ r. on_ok (assigned_in d b ws) (set_local r b)))
+      by_place None at = cell_line_fine b w ws
+      by_place (Some r) at =
+          let within : r < length b.locals = (let l = place_within 0 b.locals w r at in omega arith) in
+          assigned_holds Sound b ws _ (λ e fine. local_fine Sound b r e (omega arith) (omega arith) fine (λ t sound. sound))
 
   simple_fine : (b : Begun) (w : Word) (ws : List Word) → length b.locals ≤ 8 → Holds Sound (simple w d b ws)
   simple_fine b w ws few =
@@ -365,17 +358,15 @@ module _ (d : Drafted) (values : AreValues d.constants) where
       (assign_fine b w ws few))))))))
 
   loop_fine : (b : Begun) (ws : List Word) → IsGoing (length d.words) (length d.locks) b → Holds (Fits b) (loop_line b ws)
-  loop_fine b ws is = words_hold (Fits b) (codes "{") ws _ (λ rest. by_rest rest)
-    where
-      by_rest : (rest : List Word) → Holds (Fits b) (on_ok (all_read (b, rest)) (λ here. deeper here Turns false))
-      by_rest [] = deeper_fine b Turns false is tt
-      by_rest (w ∷ ws) = tt
+  loop_fine b ws is =
+      then_holds (Fits b) (Fits b) (added b Nothing) _ (added_fine b Nothing is tt) (λ here g. fits_weaker b here _ g
+      (whatever (Fits here) (last_word (codes "{") ws) _ (λ u. deeper_fine here Turns false g.0 tt)))
 
   pub statement_fine : (b : Begun) (w : Word) (ws : List Word) → IsGoing (length d.words) (length d.locks) b → Holds (Goes (length d.words) (length d.locks) b) (statement w d b ws)
   statement_fine b w ws is =
       let G = Goes (length d.words) (length d.locks) b in
       if_holds G (is_word w (codes "let")) _ _ (let_fine b ws is)
       (if_holds G (is_word w (codes "if")) _ _ (fits_goes b _ (if_fine b false ws is))
-      (if_holds G (is_word w (codes "while")) _ _ (fits_goes b _ (then_holds (Fits b) (Fits b) (added b Nothing) _ (added_fine b Nothing is tt) (λ now h. fits_weaker b now _ h (while_fine now ws h.0))))
-      (if_holds G (is_word w (codes "loop")) _ _ (fits_goes b _ (then_holds (Fits b) (Fits b) (added b Nothing) _ (added_fine b Nothing is tt) (λ now h. fits_weaker b now _ h (loop_fine now ws h.0))))
+      (if_holds G (is_word w (codes "while")) _ _ (fits_goes b _ (while_fine b ws is))
+      (if_holds G (is_word w (codes "loop")) _ _ (fits_goes b _ (loop_fine b ws is))
       (fits_goes b _ (tree_added b (simple w d b ws) is (simple_fine b w ws is.locals))))))

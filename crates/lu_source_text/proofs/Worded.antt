@@ -43,9 +43,9 @@ map_last f (y ∷ ys) x = ap (λ zs. f y ∷ zs) (map_last f ys x)
 
 -- one word more
 pub word_more : (words now : List (Bor (List ℕ))) (item : Bor (List ℕ)) (rest back all : List ℕ) (blank : Bool) → texts words ++ words_in rest ≡ words_in all → 0 < length rest → blank ≡ is_blank (get_or rest 0 0) → blank ≡ false → item.now ≡ take (item_len rest) rest → back ≡ drop (item_len rest) rest → now ≡ words ++ item ∷ [] → texts now ++ words_in back ≡ words_in all
-word_more words now item rest back all blank so some is no_blank front behind more =
+word_more words now item rest back all blank so some is no_blank front back_is more =
     let first : words_in rest ≡ item.now ∷ words_in back =
-    words_first rest some ∙ ap (λ t. (if t then [] else take (item_len rest) rest ∷ []) ++ words_in (drop (item_len rest) rest)) (sym is ∙ no_blank) ∙ ap (λ w. w ∷ words_in (drop (item_len rest) rest)) (sym front) ∙ ap (λ b. item.now ∷ words_in b) (sym behind) in
+    words_first rest some ∙ ap (λ t. (if t then [] else take (item_len rest) rest ∷ []) ++ words_in (drop (item_len rest) rest)) (sym is ∙ no_blank) ∙ ap (λ w. w ∷ words_in (drop (item_len rest) rest)) (sym front) ∙ ap (λ b. item.now ∷ words_in b) (sym back_is) in
     ap (λ l. texts l ++ words_in back) more
     ∙ ap (λ l. l ++ words_in back) (map_last (λ (w : Bor (List ℕ)). w.now) words item)
     ∙ append_assoc (texts words) (item.now ∷ []) (words_in back)

@@ -6,7 +6,7 @@ use Rattle.std.specs.Str.{bytes_eq}
 use Rattle.lu_text.specs.Names.{has_name_form, is_long, is_name_part}
 use Rattle.lu_text.specs.Numbers.{value_in}
 use Rattle.lu_text.specs.Lines.{before_comment, is_allowed, is_blank}
-use Rattle.lu_text.specs.Words.{Word}
+use Rattle.lu_text.specs.Words.{Word, exactly_one}
 use Rattle.lu_text.specs.Faults.{Grammar}
 use Rattle.lu_component.specs.declared.instr.Operand.{Operand}
 use Rattle.lu_component.specs.declared.instr.Operand.TheVariants.{Num}
@@ -157,21 +157,11 @@ abbrev pub constant_from : List Constant → Word → Option ℕ
 constant_from [] name = None
 constant_from (c ∷ cs) name = if bytes_eq c.name name then Some c.value else constant_from cs name
 
--- the value of a constant
-abbrev pub constant_in : Drafted → Word → Option ℕ
-constant_in d name = constant_from d.constants name
-
+-- the number of a shared word, from k on, and whether an index follows
 abbrev pub shared_from : ℕ → List Shared → Word → Option (ℕ × Bool)
 shared_from k [] name = None
 shared_from k (x ∷ xs) name =
     if bytes_eq x.array.name name then Some (k, x.indexed) else shared_from (k + 1) xs name
-
--- the number of a shared word, and whether an index follows
-abbrev pub shared_in : Drafted → Word → Option (ℕ × Bool)
-shared_in d name = shared_from 0 d.words name
-
-abbrev pub lock_in : Drafted → Word → Option ℕ
-lock_in d name = position_from 0 d.locks name
 
 -- the register of a local
 abbrev pub local_in : List Word → Word → Option ℕ
@@ -185,8 +175,8 @@ is_operation (o ∷ os) name = bytes_eq o.name name || is_operation os name
 -- whether the name means something already
 abbrev pub is_taken : Drafted → List Word → Word → Bool
 is_taken d locals name =
-    is_some (constant_in d name) || (is_some (shared_in d name) || (is_some (lock_in d name)
-    || is_some (local_in locals name)))
+    is_some (constant_from d.constants name) || (is_some (shared_from 0 d.words name)
+    || (is_some (position_from 0 d.locks name) || is_some (position_from 0 locals name)))
 
 -- ---- expressions
 
@@ -231,10 +221,18 @@ joined Or' a b = Or a b
 joined And' a b = And a b
 joined (Joins by) a b = Binary by a b
 
+-- the first word, and the words after it
+abbrev pub first_word : List Word → Read' Word
+first_word [] = Err Form
+first_word (w ∷ ws) = Ok (w, ws)
+
+-- the first word, and what comes of it and the others
+abbrev pub on_first : {A : Type 0} → List Word → (Word → List Word → Result A Kind) → Result A Kind
+on_first ws go = on_ok (first_word ws) (λ (w, rest). go w rest)
+
 -- the words after this one, which stands first
 abbrev pub after_word : List ℕ → List Word → Result (List Word) Kind
-after_word text [] = Err Form
-after_word text (w ∷ ws) = if is_word w text then Ok ws else Err Form
+after_word text ws = on_first ws (λ w rest. if is_word w text then Ok rest else Err Form)
 
 -- the first, or else the fault
 abbrev pub or_fault : {A : Type 0} → Kind → Option A → Result A Kind
@@ -262,13 +260,8 @@ named_expr s w =
 
 -- a number and the words after it
 abbrev pub first_number : List Constant → List Word → Read' ℕ
-first_number constants [] = Err Form
-first_number constants (w ∷ ws) = on_ok (number_of constants w) (λ k. Ok (k, ws))
-
--- the first word, and what comes of it and the others
-abbrev pub on_first : {A : Type 0} → List Word → (Word → List Word → Result A Kind) → Result A Kind
-on_first [] go = Err Form
-on_first (w ∷ ws) go = go w ws
+first_number constants ws =
+    on_first ws (λ w rest. on_ok (number_of constants w) (λ k. Ok (k, rest)))
 
 -- How an expression is read that stands inside of another: what names mean there, and what is read
 -- of words with operators in it that bind at least so tightly.
@@ -296,25 +289,15 @@ name_with w inner ws =
     (on_ok (cell_with w inner ws) (λ (cell, rest). Ok (Read cell.0 cell.1, rest)))
     (λ e. Ok (e, ws))
 
--- `(CELL,` after `cas`
-abbrev pub swapped_with : Inner → List Word → Read' (ℕ × Expr)
-swapped_with inner ws =
-    on_ok (after_word (codes "(") ws) (λ inside. on_first inside (λ w rest.
-    on_ok (cell_with w inner rest) (λ (cell, second).
-    on_ok (after_word (codes ",") second) (λ third. Ok (cell, third)))))
-
--- `OLD, NEW)` after it
-abbrev pub exchange_with : Inner → List Word → Read' (Expr × Expr)
-exchange_with inner ws =
-    on_ok (closed_with (codes ",") inner ws) (λ (old, rest).
-    on_ok (closed_with (codes ")") inner rest) (λ (new, more). Ok ((old, new), more)))
-
 -- `(CELL, OLD, NEW)` after `cas`
 abbrev pub cas_with : Inner → List Word → Read' Expr
 cas_with inner ws =
-    on_ok (swapped_with inner ws) (λ (cell, rest).
-    on_ok (exchange_with inner rest) (λ ((old, new), more).
-    Ok (Swap cell.0 cell.1 old new, more)))
+    on_ok (after_word (codes "(") ws) (λ inside. on_first inside (λ w first.
+    on_ok (cell_with w inner first) (λ (cell, second).
+    on_ok (after_word (codes ",") second) (λ third.
+    on_ok (closed_with (codes ",") inner third) (λ (old, fourth).
+    on_ok (closed_with (codes ")") inner fourth) (λ (new, more).
+    Ok (Swap cell.0 cell.1 old new, more)))))))
 
 -- `(K)` after `pick`
 abbrev pub pick_from : List Constant → List Word → Read' Expr
@@ -362,9 +345,13 @@ abbrev pub inner_by : ℕ → Scope → Inner
 inner_by n s = record { scope = s; read = expr_from n s }
 
 -- nothing is left of the words
+abbrev pub nothing_left : List Word → Result (Unit {0}) Kind
+nothing_left [] = Ok tt
+nothing_left (w ∷ ws) = Err Form
+
+-- what was read, where nothing is left of the words
 abbrev pub all_read : {A : Type 0} → A × List Word → Result A Kind
-all_read (x, []) = Ok x
-all_read (x, w ∷ ws) = Err Form
+all_read (x, ws) = on_ok (nothing_left ws) (λ _. Ok x)
 
 -- as many steps as words may take
 abbrev pub steps_for : List Word → ℕ
@@ -374,29 +361,29 @@ steps_for ws = length ws + 2
 abbrev pub inner_of : Scope → List Word → Inner
 inner_of s ws = inner_by (steps_for ws) s
 
--- what was read, and then this word, which is the last
-abbrev pub last_word : {A : Type 0} → List ℕ → A × List Word → Result A Kind
-last_word text (x, ws) = on_ok (after_word text ws) (λ more. all_read (x, more))
+-- this word stands first, and nothing after it
+abbrev pub last_word : List ℕ → List Word → Result (Unit {0}) Kind
+last_word text ws = on_ok (after_word text ws) nothing_left
 
 -- a number, after which no word is left
 abbrev pub last_number : List Constant → List Word → Result ℕ Kind
 last_number constants ws = on_ok (first_number constants ws) all_read
 
+-- the name that a word is
+abbrev pub name_of : Word → Result Word Kind
+name_of w = unless (not (is_free_name w)) Form (unless (is_long w) Limit (Ok w))
+
 -- a new name
 abbrev pub new_name : Drafted → List Word → Word → Result Word Kind
-new_name d locals w =
-    unless (not (is_free_name w)) Form
-    (unless (is_long w) Limit
-    (unless (is_taken d locals w) Name (Ok w)))
+new_name d locals w = on_ok (name_of w) (λ name. unless (is_taken d locals w) Name (Ok name))
 
 -- ---- declarations
 
 -- `object NAME`, the first line with words
 abbrev pub object_line : Drafted → List Word → Result Drafted Kind
 object_line d ws =
-    on_first ws (λ w rest. on_ok (all_read (w, rest)) (λ name.
-    unless (not (is_free_name name)) Form (unless (is_long name) Limit
-    (Ok (record d { name = Some name })))))
+    on_ok (or_fault Form (exactly_one ws)) (λ w. on_ok (name_of w) (λ name.
+    Ok (record d { name = Some name })))
 
 -- `local L`, once, and before the first operation
 abbrev pub local_line : Drafted → List Word → Result Drafted Kind
@@ -442,7 +429,7 @@ word_line d ws =
 -- `lock NAME`
 abbrev pub lock_line : Drafted → List Word → Result Drafted Kind
 lock_line d ws =
-    on_first ws (λ w rest. on_ok (new_name d [] w) (λ name. on_ok (all_read (name, rest)) (λ _.
+    on_first ws (λ w rest. on_ok (new_name d [] w) (λ name. on_ok (nothing_left rest) (λ _.
     unless (nat_le 8 (length d.locks)) Limit (Ok (record d { locks = d.locks ++ name ∷ [] })))))
 
 -- names separated by commas, and then `)`
@@ -475,20 +462,15 @@ begun_as name args = record {
   blocks = opened Whole 0 false ∷ [];
 }
 
--- what is wrong with one operation more, of this name and with these arguments
-abbrev pub op_fault : Drafted → Word → List Word → Option Kind
-op_fault d name args =
-    if is_long name || (nat_le 16 (length d.operations) || nat_lt 4 (length args)) then Some Limit
-    else (if is_operation d.operations name then Some Name else None)
-
 -- `op NAME(A, B) {`
 abbrev pub op_line : Drafted → List Word → Result Drafted Kind
 op_line d ws =
     on_first ws (λ name rest. unless (not (is_free_name name)) Form
     (on_ok (after_word (codes "(") rest) (λ inner. on_ok (names_in d inner) (λ (names, more).
-    on_ok (after_word (codes "{") more) (λ end. on_ok (all_read (names, end)) (λ args.
-    where_some (op_fault d name args) (Ok (record d { begun = Some (begun_as name args) }))
-    Err))))))
+    on_ok (last_word (codes "{") more) (λ _.
+    unless (is_long name || (nat_le 16 (length d.operations) || nat_lt 4 (length names))) Limit
+    (unless (is_operation d.operations name) Name
+    (Ok (record d { begun = Some (begun_as name names) }))))))))
 
 abbrev pub declaration : Drafted → Word → List Word → Result Drafted Kind
 declaration d w ws =
@@ -552,47 +534,43 @@ expr_in d b ws = on_ok (expr_from (steps_for ws) (scope_of d b) 1 ws) all_read
 -- an expression in front of `{`, which is the last word
 abbrev pub expr_before_brace : Drafted → Begun → List Word → Result Expr Kind
 expr_before_brace d b ws =
-    on_ok (expr_from (steps_for ws) (scope_of d b) 1 ws) (last_word (codes "{"))
-
--- `(CELL, OLD, NEW)` after `cas`, which all the words are
-abbrev pub cas_in : Drafted → Begun → List Word → Result Expr Kind
-cas_in d b ws = on_ok (cas_with (inner_of (scope_of d b) ws) ws) all_read
+    on_ok (expr_from (steps_for ws) (scope_of d b) 1 ws) (λ (e, rest).
+    on_ok (last_word (codes "{") rest) (λ _. Ok e))
 
 -- a cell, and the words after it
 abbrev pub cell_in : Word → Drafted → Begun → List Word → Read' (ℕ × Expr)
 cell_in w d b ws = cell_with w (inner_of (scope_of d b) ws) ws
 
--- the name of `let NAME = EXPR`, and what gives it its value
-abbrev pub let_in : Drafted → Begun → List Word → Result (Word × Tree) Kind
-let_in d b ws =
-    on_first ws (λ w rest. on_ok (new_name d b.locals w) (λ name.
-    on_ok (after_word (codes "=") rest) (λ more. on_ok (expr_in d b more) (λ e.
-    unless (nat_le 8 (length b.locals)) Registers
-    (on_ok (value_of b e) (λ x. Ok (name, put_at (length b.locals) x)))))))
+-- `= EXPR`, which all the words are
+abbrev pub assigned_in : Drafted → Begun → List Word → Result Expr Kind
+assigned_in d b ws = on_ok (after_word (codes "=") ws) (expr_in d b)
+
+-- the local becomes the value of the expression
+abbrev pub set_local : ℕ → Begun → Expr → Result Tree Kind
+set_local r b e = on_ok (code_for e r (length b.locals)) (λ x. Ok (put_at r x))
+
+-- a new local gets its value, by `= EXPR`, where there is a register for it
+abbrev pub first_value : Drafted → Begun → List Word → Result Tree Kind
+first_value d b ws =
+    on_ok (assigned_in d b ws) (λ e. unless (nat_le 8 (length b.locals)) Registers
+    (set_local (length b.locals) b e))
 
 -- `let NAME = EXPR`: a local more
 abbrev pub let_line : Drafted → Begun → List Word → Result Begun Kind
 let_line d b ws =
-    on_ok (let_in d b ws) (λ (name, t). on_ok (added b t) (λ now.
-    Ok (record now { locals = now.locals ++ name ∷ [] })))
-
--- `NAME = EXPR` of a local
-abbrev pub set_tree : ℕ → Drafted → Begun → List Word → Result Tree Kind
-set_tree r d b ws =
-    on_ok (after_word (codes "=") ws) (λ more. on_ok (expr_in d b more) (λ e.
-    on_ok (code_for e r (length b.locals)) (λ x. Ok (put_at r x))))
+    on_first ws (λ w rest. on_ok (new_name d b.locals w) (λ name.
+    on_ok (first_value d b rest) (λ t. on_ok (added b t) (λ now.
+    Ok (record now { locals = now.locals ++ name ∷ [] })))))
 
 -- the codes of two values, and then the action
 abbrev pub both_then : Tree → Tree → Action → Tree
 both_then first second last = Then first (Then second (Plain last))
 
--- `NAME = EXPR` and `NAME[EXPR] = EXPR` of a shared word
-abbrev pub store_tree : Word → Drafted → Begun → List Word → Result Tree Kind
-store_tree w d b ws =
-    on_ok (cell_in w d b ws) (λ (cell, rest).
-    on_ok (after_word (codes "=") rest) (λ more. on_ok (expr_in d b more) (λ e.
+-- the cell becomes the value of the expression
+abbrev pub set_cell : Begun → ℕ × Expr → Expr → Result Tree Kind
+set_cell b cell e =
     on_ok (both_of b cell.1 e) (λ (x, y).
-    Ok (both_then x.code y.code (action.Store cell.0 x.at y.at))))))
+    Ok (both_then x.code y.code (action.Store cell.0 x.at y.at)))
 
 -- neither reads what is shared nor changes it
 abbrev pub is_still : Expr → Bool
@@ -604,12 +582,6 @@ is_still (And a b) = is_still a && is_still b
 is_still (Or a b) = is_still a && is_still b
 is_still _ = false
 
--- whether a cell is awaited to be a value, or to be another
-abbrev pub awaits_equal : Word → Option Bool
-awaits_equal w =
-    if is_word w (codes "==") then Some true
-    else (if is_word w (codes "!=") then Some false else None)
-
 -- the action by which a cell is awaited
 abbrev pub awaiting : Bool → ℕ → Operand → Operand → Action
 awaiting equal w i v = if equal then action.Await w i v else action.AwaitNot w i v
@@ -617,22 +589,24 @@ awaiting equal w i v = if equal then action.Await w i v else action.AwaitNot w i
 -- `== EXPR` or `!= EXPR` after the cell: whether it is to be equal, and what to
 abbrev pub compared : Drafted → Begun → List Word → Result (Bool × Expr) Kind
 compared d b ws =
-    on_first ws (λ by rest. on_ok (or_fault Form (awaits_equal by)) (λ equal.
-    on_ok (expr_in d b rest) (λ e. Ok (equal, e))))
+    on_first ws (λ by rest.
+    unless (not (is_word by (codes "==")) && not (is_word by (codes "!="))) Form
+    (on_ok (expr_in d b rest) (λ e. Ok (is_word by (codes "=="), e))))
 
--- what is awaited of a cell
-abbrev pub awaited : Drafted → Begun → List Word → Result ((ℕ × Expr) × Bool × Expr) Kind
-awaited d b ws =
-    on_first ws (λ w rest. unless (not (is_free_name w)) Form
-    (on_ok (cell_in w d b rest) (λ (cell, more).
-    on_ok (compared d b more) (λ (equal, e).
-    unless (not (is_still cell.1 && is_still e)) Flow (Ok (cell, equal, e))))))
+-- A thread goes on where the cell is equal to the value, or where it is not. Neither the index nor the
+-- value may read or change what is shared.
+abbrev pub await_cell : Bool → Begun → ℕ × Expr → Expr → Result Tree Kind
+await_cell equal b cell e =
+    unless (not (is_still cell.1) || not (is_still e)) Flow
+    (on_ok (both_of b cell.1 e) (λ (x, y).
+    Ok (both_then x.code y.code (awaiting equal cell.0 x.at y.at))))
 
 -- `await CELL == EXPR` and `await CELL != EXPR`
 abbrev pub await_tree : Drafted → Begun → List Word → Result Tree Kind
 await_tree d b ws =
-    on_ok (awaited d b ws) (λ (cell, equal, e). on_ok (both_of b cell.1 e) (λ (x, y).
-    Ok (both_then x.code y.code (awaiting equal cell.0 x.at y.at))))
+    on_first ws (λ w rest. unless (not (is_free_name w)) Form
+    (on_ok (cell_in w d b rest) (λ (cell, more).
+    on_ok (compared d b more) (λ (equal, e). await_cell equal b cell e))))
 
 abbrev pub is_loop : Opening → Bool
 is_loop Turns = true
@@ -646,7 +620,7 @@ in_loop (block ∷ blocks) = is_loop block.opening || in_loop blocks
 -- `break` or `continue`
 abbrev pub leave : Begun → Tree → List Word → Result Tree Kind
 leave b t ws =
-    on_ok (all_read (t, ws)) (λ what. unless (not (in_loop b.blocks)) Flow (Ok what))
+    on_ok (nothing_left ws) (λ _. unless (not (in_loop b.blocks)) Flow (Ok t))
 
 -- `return` and `return EXPR`
 abbrev pub return_tree : Drafted → Begun → List Word → Result Tree Kind
@@ -658,7 +632,7 @@ return_tree d b (w ∷ ws) =
 -- the lock of `lock NAME` and `unlock NAME`
 abbrev pub lock_number : Drafted → List Word → Result ℕ Kind
 lock_number d ws =
-    on_first ws (λ w rest. on_ok (all_read (w, rest)) (λ name. or_fault Name (lock_in d name)))
+    on_ok (or_fault Form (exactly_one ws)) (λ name. or_fault Name (position_from 0 d.locks name))
 
 -- `lock NAME` and `unlock NAME`
 abbrev pub owner_tree : Drafted → (ℕ → Action) → List Word → Result Tree Kind
@@ -667,12 +641,15 @@ owner_tree d act ws = on_ok (lock_number d ws) (λ l. Ok (Plain (act l)))
 -- `cas(CELL, OLD, NEW)`, whose answer nobody asks for
 abbrev pub cas_tree : Drafted → Begun → List Word → Result Tree Kind
 cas_tree d b ws =
-    on_ok (cas_in d b ws) (λ e. on_ok (value_of b e) (λ x. Ok x.code))
+    on_ok (cas_with (inner_of (scope_of d b) ws) ws) (λ (e, rest).
+    on_ok (nothing_left rest) (λ _. on_ok (value_of b e) (λ x. Ok x.code)))
 
 -- `NAME = EXPR` and `NAME[EXPR] = EXPR`
 abbrev pub assign : Word → Drafted → Begun → List Word → Result Tree Kind
 assign w d b ws =
-    where_some (local_in b.locals w) (store_tree w d b ws) (λ r. set_tree r d b ws)
+    where_some (local_in b.locals w)
+    (on_ok (cell_in w d b ws) (λ (cell, rest). on_ok (assigned_in d b rest) (set_cell b cell)))
+    (λ r. on_ok (assigned_in d b ws) (set_local r b))
 
 -- what is tested by an expression of which only counts whether it is 0
 abbrev pub tested : Begun → Expr → Result (Begun × Operand) Kind
@@ -685,16 +662,17 @@ if_line chained d b ws =
     on_ok (expr_before_brace d b ws) (λ e.
     on_ok (tested b e) (λ (now, v). deeper now (Test v) chained))
 
--- `while EXPR {`
+-- `while EXPR {`, after what a jump back leads to
 abbrev pub while_line : Drafted → Begun → List Word → Result Begun Kind
 while_line d b ws =
-    on_ok (expr_before_brace d b ws) (λ e. on_ok (deeper b Turns false) (λ inside.
-    on_ok (tested inside e) (λ (now, v). added now (BreakUnless v))))
+    on_ok (added b Nothing) (λ here.
+    on_ok (expr_before_brace d here ws) (λ e. on_ok (deeper here Turns false) (λ inside.
+    on_ok (tested inside e) (λ (now, v). added now (BreakUnless v)))))
 
--- `loop {`
+-- `loop {`, after what a jump back leads to
 abbrev pub loop_line : Begun → List Word → Result Begun Kind
 loop_line b ws =
-    on_ok (after_word (codes "{") ws) (λ rest. on_ok (all_read (b, rest)) (λ here.
+    on_ok (added b Nothing) (λ here. on_ok (last_word (codes "{") ws) (λ _.
     deeper here Turns false))
 
 -- ---- `}`
@@ -715,17 +693,13 @@ closing t both (block ∷ blocks) =
     if both then closing (closed_by now.opening now.does) now.chained blocks
     else Ok (now ∷ blocks))
 
--- the operation, where it has at most 64 instructions
-abbrev pub whole_of : Begun → Tree → Result Operation Kind
-whole_of b t =
-    unless (nat_lt 64 (length (operation_code t))) Limit
-    (Ok (record { name = b.name; args = b.args; body = t }))
-
--- the operation is there
+-- the operation is there, where it has at most 64 instructions
 abbrev pub whole_line : Drafted → Begun → Tree → Result Drafted Kind
 whole_line d b t =
-    on_ok (whole_of b t) (λ o.
-    Ok (record d { operations = d.operations ++ o ∷ []; begun = None }))
+    unless (nat_lt 64 (length (operation_code t))) Limit (Ok (record d {
+      operations = d.operations ++ record { name = b.name; args = b.args; body = t } ∷ [];
+      begun = None;
+    }))
 
 -- the draft with this open operation
 abbrev pub going : Drafted → Begun → Drafted
@@ -770,7 +744,7 @@ other_side b block = other_by b block block.opening
 abbrev pub else_line : Drafted → Begun → List Word → Result Begun Kind
 else_line d b ws =
     on_first ws (λ w rest.
-    if is_word w (codes "{") then all_read (b, rest)
+    if is_word w (codes "{") then on_ok (nothing_left rest) (λ _. Ok b)
     else (if is_word w (codes "if") then if_line true d b rest else Err Form))
 
 -- a line that begins with `}`, where this is the innermost block, and these words come after
@@ -810,45 +784,43 @@ abbrev pub statement : Word → Drafted → Begun → List Word → Result Begun
 statement w d b ws =
     if is_word w (codes "let") then let_line d b ws
     else (if is_word w (codes "if") then if_line false d b ws
-    else (if is_word w (codes "while") then on_ok (added b Nothing) (λ now. while_line d now ws)
-    else (if is_word w (codes "loop") then on_ok (added b Nothing) (λ now. loop_line now ws)
+    else (if is_word w (codes "while") then while_line d b ws
+    else (if is_word w (codes "loop") then loop_line b ws
     else on_ok (simple w d b ws) (added b))))
-
-abbrev pub line_inside : Word → Drafted → Begun → List Word → Result Drafted Kind
-line_inside w d b ws =
-    if is_word w (codes "}") then close_line d b ws
-    else keeps_going d (statement w d b ws)
 
 -- a line of an operation, which has at most 256 of them
 abbrev pub inside : Word → Drafted → Begun → List Word → Result Drafted Kind
-inside w d b ws =
-    unless (nat_le 256 b.lines) Limit (line_inside w d (record b { lines = b.lines + 1 }) ws)
+inside w d b ws = unless (nat_le 256 b.lines) Limit (counted (record b { lines = b.lines + 1 }))
+  where
+    counted : Begun → Result Drafted Kind
+    counted now =
+        if is_word w (codes "}") then close_line d now ws
+        else keeps_going d (statement w d now ws)
 
 -- what is declared, without the open operation
 abbrev pub aside : Drafted → Drafted
 aside d = record d { begun = None }
 
--- the first line with words
-abbrev pub object_first : Drafted → Word → List Word → Result Drafted Kind
-object_first d w ws = if is_word w (codes "object") then object_line d ws else Err Missing
-
 -- The first line with words is the `object` line. Then come declarations, and in an open operation
 -- statements.
 abbrev pub by_state : Drafted → Option Word → Option Begun → Word → List Word → Result Drafted Kind
-by_state d None begun w ws = object_first d w ws
+by_state d None begun w ws = if is_word w (codes "object") then object_line d ws else Err Missing
 by_state d (Some name) None w ws = declaration d w ws
 by_state d (Some name) (Some b) w ws = inside w (aside d) b ws
 
+-- a line with words, by the first and the others
+abbrev pub worded_line : Drafted → Word → List Word → Result Drafted Kind
+worded_line d w ws = by_state d d.name d.begun w ws
+
 abbrev pub by_words : Drafted → List Word → Result Drafted Kind
 by_words d [] = Ok d
-by_words d (w ∷ ws) = by_state d d.name d.begun w ws
+by_words d (w ∷ ws) = worded_line d w ws
 
--- a line of words, of which there are at most 256
-abbrev pub short_line : Drafted → List Word → Result Drafted Kind
-short_line d ws = unless (nat_lt 256 (length ws)) Limit (by_words d ws)
-
+-- a line of bytes that are allowed, with at most 256 words
 unfoldable pub line_of : Drafted → List ℕ → Result Drafted Kind
-line_of d line = if list_all is_allowed line then short_line d (source_words line) else Err Byte
+line_of d line =
+    unless (not (list_all is_allowed line)) Byte
+    (unless (nat_lt 256 (length (source_words line))) Limit (by_words d (source_words line)))
 
 abbrev pub program_of : Drafted → Option Word → Option Begun → Result Program Kind
 program_of d None begun = Err Missing

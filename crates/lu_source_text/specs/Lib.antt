@@ -5,4 +5,3 @@ pub mod Drafts
 pub mod Reads
 pub mod Readers
 pub mod Origins
-pub mod Parts

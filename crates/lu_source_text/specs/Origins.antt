@@ -59,8 +59,8 @@ abbrev pub Entry : Type 0
 Entry = ℕ × List Word
 
 -- the draft after a line; a line with a fault changes nothing
-abbrev pub behind : Drafted → List ℕ → Drafted
-behind d line = (going_on d (line_of d line)).0
+abbrev pub after_line : Drafted → List ℕ → Drafted
+after_line d line = (going_on d (line_of d line)).0
 
 -- line n, where an operation that stands so after it has an instruction p
 abbrev pub if_there : ℕ → Standing → ℕ → Option Entry
@@ -71,13 +71,13 @@ if_there n s p = if nat_lt p s.0 then Some (n, s.1) else None
 abbrev pub origin_from : ℕ → Drafted → List (List ℕ) → ℕ → ℕ → Option Entry
 origin_from n d [] o p = None
 origin_from n d (line ∷ lines) o p =
-    either (if_there n (standing_at (behind d line) o) p)
-    (origin_from (n + 1) (behind d line) lines o p)
+    either (if_there n (standing_at (after_line d line) o) p)
+    (origin_from (n + 1) (after_line d line) lines o p)
 
 -- the draft after lines that follow on a draft
 abbrev pub after_lines : Drafted → List (List ℕ) → Drafted
 after_lines d [] = d
-after_lines d (line ∷ lines) = after_lines (behind d line) lines
+after_lines d (line ∷ lines) = after_lines (after_line d line) lines
 
 -- of each shared word, whether it is written with an index
 abbrev pub are_indexed : Drafted → List Bool

@@ -1,5 +1,5 @@
 -- What the reader's functions return: what the definitions say, unless memory ran out.
-use Rattle.std.specs.Prelude.{◌≡◌, ℕ, Bool, List, [], ◌∷◌, ◌++◌, Option, Some, MatchOption, Result, Ok, Err, Vec}
+use Rattle.std.specs.Prelude.{◌≡◌, ℕ, Bool, List, [], ◌∷◌, Option, MatchOption, Result, Ok, Err, Vec}
 use denote.Ref.{Bor}
 use Rattle.lu_text.specs.Lines.{texts}
 use Rattle.lu_text.specs.Words.{Word}
@@ -9,23 +9,17 @@ use Rattle.lu_source.specs.Evaluations.{coded_of, expr_of}
 use Rattle.lu_source.specs.declared.expr.Evaluation.{Evaluation}
 use Rattle.lu_source.specs.declared.tree.Stmt.{Stmt}
 use Rattle.lu_source.specs.Expressions.{Coded, Expr}
-use Rattle.lu_source.specs.Expressions.Expr.{Swap}
 use Rattle.lu_source.specs.Shapes.{tree_of}
-use Rattle.lu_source.specs.declared.tree.Operation.{Operation as HeldOperation}
-use Rattle.lu_source.specs.Programs.{operation_of}
-use Rattle.lu_source.specs.Trees.{Operation, Tree}
+use Rattle.lu_source.specs.Trees.{Tree}
 use Rattle.lu_source_text.specs.declared.fault.Refusal.{Refusal}
 use Rattle.lu_source_text.specs.declared.fault.Refusal.TheVariants.{Kind as OfKind, Memory}
-use Rattle.lu_source_text.specs.declared.scope.Awaited.{Awaited}
 use Rattle.lu_source_text.specs.declared.scope.Cell.{Cell}
 use Rattle.lu_source_text.specs.declared.scope.Scope.{Scope as Lent}
 use Rattle.lu_source_text.specs.Drafts.{begun_of, block_of, blocks_of, drafted_of}
 use Rattle.lu_source_text.specs.declared.draft.Block.{Block as HeldBlock}
 use Rattle.lu_source_text.specs.declared.draft.Begun.{Begun as HeldBegun}
 use Rattle.lu_source_text.specs.declared.draft.Draft.{Draft}
-use Rattle.lu_source_text.specs.declared.draft.Constant.{Constant}
-use Rattle.lu_source_text.specs.declared.draft.Shared.{Shared}
-use Rattle.lu_source_text.specs.Grammar.{Begun, Block, Drafted, Inner, Kind, Read', Scope, all_read, both_of, const_line, infix_from, inner_by, last_word, local_line, lock_line, object_line, op_line, tested, word_line}
+use Rattle.lu_source_text.specs.Grammar.{Begun, Block, Drafted, Inner, Kind, Read', Scope, both_of, infix_from, inner_by, tested}
 
 -- a refusal is the fault, unless memory ran out
 abbrev pub IsRefused : {B : Type 0} → Refusal → Result B Kind → Type 0
@@ -87,48 +81,18 @@ ReadsAlone returned meant = Reads (λ x. x) returned meant
 abbrev pub ReadsBegun : Result HeldBegun Refusal → Result Begun Kind → Type 0
 ReadsBegun returned meant = Reads begun_of returned meant
 
-abbrev pub ReadsValue : Result ℕ Refusal → Result ℕ Kind → Type 0
-ReadsValue returned meant = ReadsAlone returned meant
-
 -- a length, whether it is written, and the words after it
 abbrev pub ReadsSize : Result (ℕ × Bool × Left) Refusal → Result ((ℕ × Bool) × List Word) Kind
     → Type 0
 ReadsSize returned meant =
     Reads (λ (n, written, rest). ((n, written), texts rest.now)) returned meant
 
--- the length of a shared word, whether it is written, and what the cells hold at first
-abbrev pub ReadsCells : Result (ℕ × Bool × ℕ) Refusal → Result ((ℕ × Bool) × ℕ) Kind → Type 0
-ReadsCells returned meant =
-    Reads (λ (n, written, init). ((n, written), init)) returned meant
-
 abbrev pub ReadsNames : {Z : Type 0} → Result (Vec Word Z × Left) Refusal
     → Result (List Word × List Word) Kind → Type 0
 ReadsNames returned meant = Reads (with_rest (λ names. names.items)) returned meant
 
--- ---- what a line puts into the draft
-
-abbrev pub ReadsObject : Drafted → Result Word Refusal → List Word → Type 0
-ReadsObject d returned ws =
-    Reads (λ name. record d { name = Some name }) returned (object_line d ws)
-
-abbrev pub ReadsLocal : Drafted → Result ℕ Refusal → List Word → Type 0
-ReadsLocal d returned ws = Reads (λ most. record d { local = Some most }) returned (local_line d ws)
-
-abbrev pub ReadsConstant : Drafted → Result Constant Refusal → List Word → Type 0
-ReadsConstant d returned ws =
-    Reads (λ one. record d { constants = d.constants ++ one ∷ [] }) returned (const_line d ws)
-
-abbrev pub ReadsShared : Drafted → Result Shared Refusal → List Word → Type 0
-ReadsShared d returned ws =
-    Reads (λ one. record d { words = d.words ++ one ∷ [] }) returned (word_line d ws)
-
-abbrev pub ReadsLock : Drafted → Result Word Refusal → List Word → Type 0
-ReadsLock d returned ws =
-    Reads (λ lock. record d { locks = d.locks ++ lock ∷ [] }) returned (lock_line d ws)
-
-abbrev pub ReadsOp : Drafted → Result HeldBegun Refusal → List Word → Type 0
-ReadsOp d returned ws =
-    Reads (λ b. record d { begun = Some (begun_of b) }) returned (op_line d ws)
+abbrev pub ReadsWord : Result (Bor Word × Left) Refusal → Result (Word × List Word) Kind → Type 0
+ReadsWord returned meant = Reads (with_rest (λ word. word.now)) returned meant
 
 abbrev pub ReadsWords : Result Left Refusal → Result (List Word) Kind → Type 0
 ReadsWords returned meant = Reads (λ rest. texts rest.now) returned meant
@@ -143,38 +107,14 @@ ReadsExpr returned meant = Reads (with_rest expr_of) returned meant
 abbrev pub cell_of : Cell → ℕ × Expr
 cell_of cell = (cell.array, expr_of cell.index)
 
--- a `cas` of a cell
-abbrev pub swap_of : Cell → Boxed → Boxed → Expr
-swap_of cell old new = Swap cell.array (expr_of cell.index) (expr_of old) (expr_of new)
-
 abbrev pub ReadsCell : Result (Cell × Left) Refusal → Result ((ℕ × Expr) × List Word) Kind → Type 0
 ReadsCell returned meant = Reads (with_rest cell_of) returned meant
-
-abbrev pub ReadsExchange : Result ((Boxed × Boxed) × Left) Refusal
-    → Result ((Expr × Expr) × List Word) Kind → Type 0
-ReadsExchange returned meant =
-    Reads (with_rest (λ (old, new). (expr_of old, expr_of new))) returned meant
-
--- no word stands after an expression that was read
-abbrev pub ReadsNoMore : Result (Unit {0}) Refusal → List Word → Type 0
-ReadsNoMore returned ws = (e : Expr) → Reads (λ _. e) returned (all_read (e, ws))
-
--- this word stands after it, as the last one
-abbrev pub ReadsLast : Result (Unit {0}) Refusal → List ℕ → List Word → Type 0
-ReadsLast returned text ws = (e : Expr) → Reads (λ _. e) returned (last_word text (e, ws))
 
 -- ---- in an open operation
 
 -- whether to be equal, and what to
 abbrev pub ReadsCompared : Result (Bool × Boxed) Refusal → Result (Bool × Expr) Kind → Type 0
 ReadsCompared returned meant = Reads (λ (equal, e). (equal, expr_of e)) returned meant
-
--- what is awaited of a cell
-abbrev pub awaited_of : Awaited → (ℕ × Expr) × Bool × Expr
-awaited_of a = (cell_of a.cell, a.equal, expr_of a.value)
-
-abbrev pub ReadsAwaited : Result Awaited Refusal → Result ((ℕ × Expr) × Bool × Expr) Kind → Type 0
-ReadsAwaited returned meant = Reads awaited_of returned meant
 
 -- an expression that all the words are
 abbrev pub ReadsWhole : Result Boxed Refusal → Result Expr Kind → Type 0
@@ -186,6 +126,10 @@ ReadsTree returned meant = Reads tree_of returned meant
 abbrev pub ReadsCode : Result Evaluation Refusal → Result Coded Kind → Type 0
 ReadsCode returned meant = Reads coded_of returned meant
 
+-- what is said of a cell and an expression, in an open operation
+abbrev pub on_cell : {A : Type 0} → (Begun → ℕ × Expr → Expr → A) → HeldBegun → Cell → Boxed → A
+on_cell said b cell e = said (begun_of b) (cell_of cell) (expr_of e)
+
 -- the code of an index, and of a value after it
 abbrev pub ReadsBoth : Result (Evaluation × Evaluation) Refusal → HeldBegun → Boxed → Boxed → Type 0
 ReadsBoth returned b i e =
@@ -194,13 +138,6 @@ ReadsBoth returned b i e =
 
 abbrev pub ReadsBlock : Result HeldBlock Refusal → Result Block Kind → Type 0
 ReadsBlock returned meant = Reads block_of returned meant
-
--- a name, and a statement
-abbrev pub ReadsLet : Result (Word × Stmt) Refusal → Result (Word × Tree) Kind → Type 0
-ReadsLet returned meant = Reads (λ (name, t). (name, tree_of t)) returned meant
-
-abbrev pub ReadsOperation : Result HeldOperation Refusal → Result Operation Kind → Type 0
-ReadsOperation returned meant = Reads operation_of returned meant
 
 -- ---- what becomes of an open operation
 

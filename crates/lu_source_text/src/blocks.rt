@@ -1,9 +1,8 @@
 //! The open blocks of an operation, the innermost last.
 
-ghost use Rattle.std.specs.Prelude.{◌≡◌, ◌<◌, length, nat_le, IfOk, IfSome, Ok};
-ghost use Rattle.lu_component.specs.declared.component.TheConstants.{MOST_OPS};
+ghost use Rattle.std.specs.Prelude.{◌≡◌, ◌<◌, length, IfOk, IfSome, Ok};
 ghost use Rattle.lu_source.specs.Shapes.{tree_of};
-ghost use Rattle.lu_source_text.specs.Drafts.{block_of, blocks_of, opening_of};
+ghost use Rattle.lu_source_text.specs.Drafts.{block_of, opening_of};
 ghost use Rattle.lu_source_text.specs.Grammar as spec;
 ghost use Rattle.lu_source_text.specs.Reads.{BlocksBecome, HasInside, ReadsBlock, ReadsTree, TakesInnermost};
 
@@ -28,48 +27,15 @@ pub(crate) fn pop_block(blocks: &mut Vec<Block>) -> Option<Block>
     blocks.pop()
 }
 
-/// The most blocks that are open at a time.
-const MOST_BLOCKS: usize = 16;
-
-/// Whether there are as many blocks as there may be.
-pub(crate) fn are_deep(blocks: &[Block]) -> bool
-    ensures { result ≡ nat_le MOST_OPS (length (blocks_of blocks.now)) }
-{
-    blocks.len() >= MOST_BLOCKS
-}
-
 /// The block does this too.
-fn does_too(alloc: Global, block: Block, stmt: Stmt) -> Result<Block, Refusal>
+pub(crate) fn does_too(alloc: Global, block: Block, stmt: Stmt) -> Result<Block, Refusal>
     ensures { ReadsBlock result (spec.does_too (block_of block) (tree_of stmt)) }
 {
     if !falls(&block.does) {
         return Err(Refusal::Kind(SourceFaultKind::Flow));
     }
-    let Block {
-        opening,
-        does,
-        locals,
-        chained,
-    } = block;
-    let does = then(alloc, does, stmt)?;
-    Ok(Block {
-        opening,
-        does,
-        locals,
-        chained,
-    })
-}
-
-/// The innermost of the blocks does this too.
-pub(crate) fn add_to(alloc: Global, blocks: &mut Vec<Block>, stmt: Stmt) -> Result<(), Refusal>
-    ensures { BlocksBecome result blocks.old blocks.new (spec.added_to (tree_of stmt)) }
-{
-    let Some(block) = pop_block(blocks) else {
-        return Err(Refusal::Kind(SourceFaultKind::Flow));
-    };
-    let block = does_too(alloc, block, stmt)?;
-    push_block(blocks, block)?;
-    Ok(())
+    let does = then(alloc, block.does, stmt)?;
+    Ok(Block { does, ..block })
 }
 
 /// What a block does that a `}` closes, after which nothing else stands.

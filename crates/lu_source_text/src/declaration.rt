@@ -1,24 +1,22 @@
 //! Reading of declarations.
 
 ghost use Rattle.std.specs.Prelude.{◌≡◌, ◌<◌, ◌≤◌, ◌^◌, length, map, IfOk, Ok};
-ghost use Rattle.lu_component.specs.declared.component.TheConstants.{MOST_ARRAYS, MOST_LOCKS};
 ghost use Rattle.lu_text.specs.Names.{IsName};
 ghost use Rattle.lu_source_text.specs.Drafts.{block_of, drafted_of, opening_of};
 ghost use Rattle.lu_text.specs.Lines.{texts};
 ghost use Rattle.lu_source.specs.Programs.{operation_of};
 ghost use Rattle.lu_source_text.specs.Grammar as spec;
-ghost use Rattle.lu_source_text.specs.Parts.{arguments_in, cells_in, object_name, only_word};
-ghost use Rattle.lu_source_text.specs.Reads.{DraftIs, Reads, ReadsAlone, ReadsBegun, ReadsCells, ReadsConstant, ReadsLocal, ReadsLock, ReadsNames, ReadsObject, ReadsOp, ReadsShared, ReadsSize, ReadsValue, in_draft, in_line};
+ghost use Rattle.lu_source_text.specs.Reads.{DraftIs, ReadsAlone, ReadsBegun, ReadsNames, ReadsSize, in_draft, in_line};
 
 use crate::draft::{Begun, Block, Constant, Draft, Opening, Shared};
-use crate::expression::{after_word, first_number};
+use crate::expression::{after_word, first_number, first_word, last_word, nothing_left};
 use crate::fault::{Refusal, SourceFaultKind};
 use crate::names::{constant_from, is_free_name, position_from, shared_from};
 use lu_component::{
     Array, MOST_ARGUMENTS, MOST_ARRAYS, MOST_CELLS, MOST_LOCAL, MOST_LOCKS, MOST_OPS,
 };
 use lu_source::{Operation, Stmt};
-use lu_text::{Name, is_long};
+use lu_text::{Name, exactly_one, is_long};
 use std::alloc::Global;
 
 /// Whether the name means something already.
@@ -31,6 +29,19 @@ fn is_taken(draft: &Draft, locals: &[Name], word: &[u8]) -> bool
         || position_from(0, locals, word).is_some()
 }
 
+/// The name that a word is.
+fn name_of(alloc: Global, word: &[u8]) -> Result<Name, Refusal>
+    ensures { ReadsAlone result (spec.name_of word.now) }
+{
+    if !is_free_name(word) {
+        return Err(Refusal::Kind(SourceFaultKind::Form));
+    }
+    if is_long(word) {
+        return Err(Refusal::Kind(SourceFaultKind::Limit));
+    }
+    Ok(Name::new(alloc, word)?)
+}
+
 /// A new name.
 pub(crate) fn new_name(
     alloc: Global,
@@ -40,74 +51,34 @@ pub(crate) fn new_name(
 ) -> Result<Name, Refusal>
     ensures { ReadsAlone result (spec.new_name (drafted_of draft.now) locals.now word.now) }
 {
-    if !is_free_name(word) {
-        return Err(Refusal::Kind(SourceFaultKind::Form));
-    }
-    if is_long(word) {
-        return Err(Refusal::Kind(SourceFaultKind::Limit));
-    }
+    let name = name_of(alloc, word)?;
     if is_taken(draft, locals, word) {
         return Err(Refusal::Kind(SourceFaultKind::Name));
     }
-    Ok(Name::new(alloc, word)?)
-}
-
-/// The only word.
-fn only_word<'a>(words: &'a [&'a [u8]]) -> Result<&'a [u8], Refusal>
-    ensures { Reads (λ word. word.now) result (only_word (texts words.now)) }
-{
-    let Some((word, rest)) = words.split_first() else {
-        return Err(Refusal::Kind(SourceFaultKind::Form));
-    };
-    match rest.split_first() {
-        None => Ok(word),
-        Some(_) => Err(Refusal::Kind(SourceFaultKind::Form)),
-    }
-}
-
-/// The name that this word is, before anything is declared.
-fn object_name(alloc: Global, word: &[u8]) -> Result<Name, Refusal>
-    ensures { ReadsAlone result (object_name word.now) }
-{
-    if !is_free_name(word) {
-        return Err(Refusal::Kind(SourceFaultKind::Form));
-    }
-    if is_long(word) {
-        return Err(Refusal::Kind(SourceFaultKind::Limit));
-    }
-    Ok(Name::new(alloc, word)?)
-}
-
-/// The name of `object NAME`.
-fn object_in(alloc: Global, draft: &Draft, words: &[&[u8]]) -> Result<Name, Refusal>
-    ensures { ReadsObject (drafted_of draft.now) result (texts words.now) }
-{
-    let word = only_word(words)?;
-    object_name(alloc, word)
+    Ok(name)
 }
 
 /// `object NAME`
 pub(crate) fn object_line(alloc: Global, draft: &mut Draft, words: &[&[u8]]) -> Result<(), Refusal>
     ensures { DraftIs result draft.new (in_draft spec.object_line draft.old words.now) }
 {
-    draft.name = Some(object_in(alloc, draft, words)?);
+    let word = exactly_one(words).ok_or(Refusal::Kind(SourceFaultKind::Form))?;
+    draft.name = Some(name_of(alloc, word)?);
     Ok(())
 }
 
 /// A number, after which no word is left.
 fn last_number(constants: &[Constant], words: &[&[u8]]) -> Result<u32, Refusal>
-    ensures { ReadsValue result (spec.last_number constants.now (texts words.now)) }
+    ensures { ReadsAlone result (spec.last_number constants.now (texts words.now)) }
 {
     let (number, rest) = first_number(constants, words)?;
-    if let Some(_) = rest.split_first() {
-        return Err(Refusal::Kind(SourceFaultKind::Form));
-    }
+    nothing_left(rest)?;
     Ok(number)
 }
 
-/// The number of `local L`.
-fn local_in(draft: &Draft, words: &[&[u8]]) -> Result<u8, Refusal>
-    ensures { ReadsLocal (drafted_of draft.now) result (texts words.now) }
+/// `local L`
+fn local_line(draft: &mut Draft, words: &[&[u8]]) -> Result<(), Refusal>
+    ensures { DraftIs result draft.new (in_draft spec.local_line draft.old words.now) }
 {
     let most = last_number(&draft.constants, words)?;
     if draft.local.is_some() || !draft.operations.is_empty() {
@@ -116,36 +87,19 @@ fn local_in(draft: &Draft, words: &[&[u8]]) -> Result<u8, Refusal>
     if most > MOST_LOCAL {
         return Err(Refusal::Kind(SourceFaultKind::Limit));
     }
-    Ok(most as u8)
-}
-
-/// `local L`
-fn local_line(draft: &mut Draft, words: &[&[u8]]) -> Result<(), Refusal>
-    ensures { DraftIs result draft.new (in_draft spec.local_line draft.old words.now) }
-{
-    draft.local = Some(local_in(draft, words)?);
+    draft.local = Some(most as u8);
     Ok(())
-}
-
-/// The constant of `const NAME = N`.
-fn constant_in(alloc: Global, draft: &Draft, words: &[&[u8]]) -> Result<Constant, Refusal>
-    ensures { ReadsConstant (drafted_of draft.now) result (texts words.now) }
-{
-    let Some((word, rest)) = words.split_first() else {
-        return Err(Refusal::Kind(SourceFaultKind::Form));
-    };
-    let name = new_name(alloc, draft, &[], word)?;
-    let more = after_word(b"=".as_slice(), rest)?;
-    let value = last_number(&draft.constants, more)?;
-    Ok(Constant { name, value })
 }
 
 /// `const NAME = N`
 fn const_line(alloc: Global, draft: &mut Draft, words: &[&[u8]]) -> Result<(), Refusal>
     ensures { DraftIs result draft.new (in_draft spec.const_line draft.old words.now) }
 {
-    let constant = constant_in(alloc, draft, words)?;
-    draft.constants.push(constant)?;
+    let (word, rest) = first_word(words)?;
+    let name = new_name(alloc, draft, &[], word)?;
+    let more = after_word(b"=".as_slice(), rest)?;
+    let value = last_number(&draft.constants, more)?;
+    draft.constants.push(Constant { name, value })?;
     Ok(())
 }
 
@@ -166,76 +120,46 @@ fn len_in<'a>(draft: &Draft, words: &'a [&'a [u8]]) -> Result<(u32, bool, &'a [&
 
 /// `= INIT` or nothing.
 fn init_in(draft: &Draft, words: &[&[u8]]) -> Result<u32, Refusal>
-    ensures { ReadsValue result (spec.init_in (drafted_of draft.now) (texts words.now)) }
+    ensures { ReadsAlone result (spec.init_in (drafted_of draft.now) (texts words.now)) }
 {
-    if words.split_first().is_none() {
+    if words.is_empty() {
         return Ok(0);
     }
     let rest = after_word(b"=".as_slice(), words)?;
     last_number(&draft.constants, rest)
 }
 
-/// `[LEN]` or nothing and `= INIT` or nothing, of a shared word more: the length, whether it is
-/// written, and what the cells hold at first.
-fn cells_in(draft: &Draft, words: &[&[u8]]) -> Result<(u8, bool, u32), Refusal>
-    ensures cells { ReadsCells result (in_draft cells_in draft.now words.now) }
-    ensures room { IfOk result (λ _. length draft.now.words.items < MOST_ARRAYS) }
-{
-    let (len, indexed, more) = len_in(draft, words)?;
-    let init = init_in(draft, more)?;
-    if draft.words.len() >= MOST_ARRAYS || len < 1 || len > MOST_CELLS {
-        return Err(Refusal::Kind(SourceFaultKind::Limit));
-    }
-    Ok((len as u8, indexed, init))
-}
-
-/// The shared word of a line `word`.
-fn shared_in(alloc: Global, draft: &Draft, words: &[&[u8]]) -> Result<Shared, Refusal>
-    ensures shared { ReadsShared (drafted_of draft.now) result (texts words.now) }
-    ensures room { IfOk result (λ _. length draft.now.words.items < MOST_ARRAYS) }
-{
-    let Some((word, rest)) = words.split_first() else {
-        return Err(Refusal::Kind(SourceFaultKind::Form));
-    };
-    let name = new_name(alloc, draft, &[], word)?;
-    let (len, indexed, init) = cells_in(draft, rest)?;
-    let array = Array { name, len, init };
-    Ok(Shared { array, indexed })
-}
-
 /// `word NAME`, `word NAME = INIT`, `word NAME[LEN]` or `word NAME[LEN] = INIT`
 fn word_line(alloc: Global, draft: &mut Draft, words: &[&[u8]]) -> Result<(), Refusal>
     ensures { DraftIs result draft.new (in_draft spec.word_line draft.old words.now) }
 {
-    let shared = shared_in(alloc, draft, words)?;
-    draft.words.push(shared)?;
-    Ok(())
-}
-
-/// The name of `lock NAME`, outside an operation.
-fn lock_in(alloc: Global, draft: &Draft, words: &[&[u8]]) -> Result<Name, Refusal>
-    ensures lock { ReadsLock (drafted_of draft.now) result (texts words.now) }
-    ensures room { IfOk result (λ _. length draft.now.locks.items < MOST_LOCKS) }
-{
-    let Some((word, rest)) = words.split_first() else {
-        return Err(Refusal::Kind(SourceFaultKind::Form));
-    };
+    let (word, rest) = first_word(words)?;
     let name = new_name(alloc, draft, &[], word)?;
-    if let Some(_) = rest.split_first() {
-        return Err(Refusal::Kind(SourceFaultKind::Form));
-    }
-    if draft.locks.len() >= MOST_LOCKS {
+    let (len, indexed, more) = len_in(draft, rest)?;
+    let init = init_in(draft, more)?;
+    if draft.words.len() >= MOST_ARRAYS || len < 1 || len > MOST_CELLS {
         return Err(Refusal::Kind(SourceFaultKind::Limit));
     }
-    Ok(name)
+    let array = Array {
+        name,
+        len: len as u8,
+        init,
+    };
+    draft.words.push(Shared { array, indexed })?;
+    Ok(())
 }
 
 /// `lock NAME`, outside an operation
 fn lock_line(alloc: Global, draft: &mut Draft, words: &[&[u8]]) -> Result<(), Refusal>
     ensures { DraftIs result draft.new (in_draft spec.lock_line draft.old words.now) }
 {
-    let lock = lock_in(alloc, draft, words)?;
-    draft.locks.push(lock)?;
+    let (word, rest) = first_word(words)?;
+    let name = new_name(alloc, draft, &[], word)?;
+    nothing_left(rest)?;
+    if draft.locks.len() >= MOST_LOCKS {
+        return Err(Refusal::Kind(SourceFaultKind::Limit));
+    }
+    draft.locks.push(name)?;
     Ok(())
 }
 
@@ -272,10 +196,8 @@ fn names_in<'a>(
 ) -> Result<(Vec<Name>, &'a [&'a [u8]]), Refusal>
     ensures { ReadsNames result (spec.names_in (drafted_of draft.now) (texts words.now)) }
 {
-    let Some((word, rest)) = words.split_first() else {
-        return Err(Refusal::Kind(SourceFaultKind::Form));
-    };
-    if *word == b")".as_slice() {
+    let (word, rest) = first_word(words)?;
+    if word == b")".as_slice() {
         return Ok((Vec::new(alloc), rest));
     }
     names_from(alloc, draft, Vec::new(alloc), words)
@@ -291,57 +213,27 @@ fn is_operation(operations: &[Operation], word: &[u8]) -> bool
     }
 }
 
-/// Whether an operation more may be named so, with these arguments.
-fn op_fault(draft: &Draft, word: &[u8], locals: &[Name]) -> Option<SourceFaultKind>
-    ensures { result ≡ spec.op_fault (drafted_of draft.now) word.now locals.now }
-{
-    if is_long(word)
-        || draft.operations.len() >= MOST_OPS
-        || locals.len() > MOST_ARGUMENTS as usize
-    {
-        return Some(SourceFaultKind::Limit);
-    }
-    if is_operation(&draft.operations, word) {
-        return Some(SourceFaultKind::Name);
-    }
-    None
-}
-
-/// The arguments of `(A, B) {`, after which no word is left.
-fn arguments_in(alloc: Global, draft: &Draft, words: &[&[u8]]) -> Result<Vec<Name>, Refusal>
-    ensures { Reads (λ names. names.items) result (in_draft arguments_in draft.now words.now) }
-{
-    let inside = after_word(b"(".as_slice(), words)?;
-    let (names, more) = names_in(alloc, draft, inside)?;
-    let end = after_word(b"{".as_slice(), more)?;
-    if let Some(_) = end.split_first() {
-        return Err(Refusal::Kind(SourceFaultKind::Form));
-    }
-    Ok(names)
-}
-
-/// The operation that `op NAME(A, B) {` opens.
-fn op_in(alloc: Global, draft: &Draft, words: &[&[u8]]) -> Result<Begun, Refusal>
-    ensures { ReadsOp (drafted_of draft.now) result (texts words.now) }
-{
-    let Some((word, rest)) = words.split_first() else {
-        return Err(Refusal::Kind(SourceFaultKind::Form));
-    };
-    if !is_free_name(word) {
-        return Err(Refusal::Kind(SourceFaultKind::Form));
-    }
-    let locals = arguments_in(alloc, draft, rest)?;
-    match op_fault(draft, word, &locals) {
-        Some(kind) => Err(Refusal::Kind(kind)),
-        None => begin(alloc, word, locals),
-    }
-}
-
 /// `op NAME(A, B) {`
 fn op_line(alloc: Global, draft: &mut Draft, words: &[&[u8]]) -> Result<(), Refusal>
     ensures { DraftIs result draft.new (in_draft spec.op_line draft.old words.now) }
 {
-    draft.begun = Some(op_in(alloc, draft, words)?);
+    let (word, rest) = first_word(words)?;
+    if !is_free_name(word) {
+        return Err(Refusal::Kind(SourceFaultKind::Form));
+    }
+    let inside = after_word(b"(".as_slice(), rest)?;
+    let (locals, more) = names_in(alloc, draft, inside)?;
+    last_word(b"{".as_slice(), more)?;
+    if is_long(word)
+        || draft.operations.len() >= MOST_OPS
+        || locals.len() > MOST_ARGUMENTS as usize
+    {
+        return Err(Refusal::Kind(SourceFaultKind::Limit));
+    }
+    if is_operation(&draft.operations, word) {
+        return Err(Refusal::Kind(SourceFaultKind::Name));
+    }
+    draft.begun = Some(begin(alloc, word, locals)?);
     Ok(())
 }
 

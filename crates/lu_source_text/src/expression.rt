@@ -5,15 +5,13 @@ ghost use Rattle.std.specs.Option.{option_map};
 ghost use Rattle.lu_text.specs.Lines.{texts};
 ghost use Rattle.lu_source.specs.declared.expr.TheConstants.{REGISTERS};
 ghost use Rattle.lu_source.specs.Evaluations.{expr_of};
-ghost use Rattle.lu_source.specs.Expressions.Expr.{Not};
 ghost use Rattle.lu_source_text.specs.Grammar as spec;
-ghost use Rattle.lu_source_text.specs.Parts.{operated, value_with};
-ghost use Rattle.lu_source_text.specs.Reads.{ReadsCell, ReadsExchange, ReadsExpr, ReadsLast, ReadsNoMore, ReadsNumber, ReadsWords, by_steps, infix_after, meanings, swap_of};
+ghost use Rattle.lu_source_text.specs.Reads.{ReadsCell, ReadsExpr, ReadsAlone, ReadsNumber, ReadsWord, ReadsWords, by_steps, infix_after, meanings};
 
 use crate::draft::Constant;
 use crate::fault::{Refusal, SourceFaultKind};
 use crate::infix::{Infix, binding, infix_in, most_after};
-use crate::names::{constant_from, is_free_name, number_of, position_from, shared_from};
+use crate::names::{constant_from, is_free_name, position_from, shared_from};
 use crate::scope::{Cell, Scope};
 use lu_source::Expr;
 use lu_text::{Name, value_in};
@@ -22,33 +20,41 @@ use std::alloc::{AllocError, Global};
 /// An expression, and the words after it.
 type Parsed<'a> = (Expr, &'a [&'a [u8]]);
 
+/// The first word, and the words after it.
+pub(crate) fn first_word<'a>(words: &'a [&'a [u8]]) -> Result<(&'a [u8], &'a [&'a [u8]]), Refusal>
+    ensures { ReadsWord result (spec.first_word (texts words.now)) }
+{
+    match words.split_first() {
+        None => Err(Refusal::Kind(SourceFaultKind::Form)),
+        Some((word, rest)) => Ok((word, rest)),
+    }
+}
+
 /// The words after this one, which stands first.
 pub(crate) fn after_word<'a>(text: &[u8], words: &'a [&'a [u8]]) -> Result<&'a [&'a [u8]], Refusal>
     ensures { ReadsWords result (spec.after_word text.now (texts words.now)) }
 {
-    let Some((word, rest)) = words.split_first() else {
-        return Err(Refusal::Kind(SourceFaultKind::Form));
-    };
-    if *word == text {
+    let (word, rest) = first_word(words)?;
+    if word == text {
         Ok(rest)
     } else {
         Err(Refusal::Kind(SourceFaultKind::Form))
     }
 }
 
-/// Whether nothing stands after what was read.
+/// Nothing stands after what was read.
 pub(crate) fn nothing_left(words: &[&[u8]]) -> Result<(), Refusal>
-    ensures { ReadsNoMore result (texts words.now) }
+    ensures { ReadsAlone result (spec.nothing_left (texts words.now)) }
 {
-    match words.split_first() {
-        None => Ok(()),
-        Some(_) => Err(Refusal::Kind(SourceFaultKind::Form)),
+    if !words.is_empty() {
+        return Err(Refusal::Kind(SourceFaultKind::Form));
     }
+    Ok(())
 }
 
-/// Whether this word stands after what was read, as the last one.
+/// This word stands first, and nothing after it.
 pub(crate) fn last_word(text: &[u8], words: &[&[u8]]) -> Result<(), Refusal>
-    ensures { ReadsLast result text.now (texts words.now) }
+    ensures { ReadsAlone result (spec.last_word text.now (texts words.now)) }
 {
     nothing_left(after_word(text, words)?)
 }
@@ -60,13 +66,10 @@ pub(crate) fn first_number<'a>(
 ) -> Result<(u32, &'a [&'a [u8]]), Refusal>
     ensures { ReadsNumber result (spec.first_number constants.now (texts words.now)) }
 {
-    let Some((word, rest)) = words.split_first() else {
-        return Err(Refusal::Kind(SourceFaultKind::Form));
-    };
-    match number_of(constants, word) {
-        None => Err(Refusal::Kind(SourceFaultKind::Number)),
-        Some(number) => Ok((number, rest)),
-    }
+    let (word, rest) = first_word(words)?;
+    let number = value_in(word).or(constant_from(constants, word));
+    let number = number.ok_or(Refusal::Kind(SourceFaultKind::Number))?;
+    Ok((number, rest))
 }
 
 /// The register of a local.
@@ -75,19 +78,6 @@ pub(crate) fn local_in(locals: &[Name], word: &[u8]) -> Option<u8>
     ensures { result ≡ spec.local_in locals.now word.now }
 {
     Some(position_from(0, locals, word)? as u8)
-}
-
-/// What a name stands for that is not followed by an index.
-fn named_expr(scope: Scope<'_>, word: &[u8]) -> Option<Expr>
-    ensures { option_map expr_of result ≡ spec.named_expr (meanings scope.entry) word.now }
-{
-    if let Some(register) = local_in(scope.locals, word) {
-        return Some(Expr::Local(register));
-    }
-    match constant_from(scope.constants, word) {
-        None => None,
-        Some(value) => Some(Expr::Number(value)),
-    }
 }
 
 /// The expression that an operator makes of two.
@@ -144,9 +134,8 @@ pub(crate) fn cell_with<'a>(
 ) -> Result<(Cell, &'a [&'a [u8]]), Refusal>
     ensures { ReadsCell result (by_steps (spec.cell_with word.now) steps scope.entry words.now) }
 {
-    let Some((number, indexed)) = shared_from(0, scope.words, word) else {
-        return Err(Refusal::Kind(SourceFaultKind::Name));
-    };
+    let found = shared_from(0, scope.words, word);
+    let (number, indexed) = found.ok_or(Refusal::Kind(SourceFaultKind::Name))?;
     let array = number as u8;
     if indexed {
         let inside = after_word(b"[".as_slice(), words)?;
@@ -169,46 +158,15 @@ fn name_with<'a>(
 ) -> Result<Parsed<'a>, Refusal>
     ensures { ReadsExpr result (by_steps (spec.name_with word.now) steps scope.entry words.now) }
 {
-    if let Some(expr) = named_expr(scope, word) {
-        return Ok((expr, words));
+    if let Some(register) = local_in(scope.locals, word) {
+        return Ok((Expr::Local(register), words));
+    }
+    if let Some(value) = constant_from(scope.constants, word) {
+        return Ok((Expr::Number(value), words));
     }
     let (cell, rest) = cell_with(alloc, steps, scope, word, words)?;
     let index = Box::new(alloc, cell.index)?;
     Ok((Expr::Read(cell.array, index), rest))
-}
-
-/// `(CELL,` after `cas`.
-#[cycle(expression)]
-fn swapped_with<'a>(
-    alloc: Global,
-    steps: usize,
-    scope: Scope<'_>,
-    words: &'a [&'a [u8]],
-) -> Result<(Cell, &'a [&'a [u8]]), Refusal>
-    ensures { ReadsCell result (by_steps spec.swapped_with steps scope.entry words.now) }
-{
-    let inside = after_word(b"(".as_slice(), words)?;
-    let Some((word, rest)) = inside.split_first() else {
-        return Err(Refusal::Kind(SourceFaultKind::Form));
-    };
-    let (cell, second) = cell_with(alloc, steps, scope, word, rest)?;
-    let third = after_word(b",".as_slice(), second)?;
-    Ok((cell, third))
-}
-
-/// `OLD, NEW)` after it.
-#[cycle(expression)]
-fn exchange_with<'a>(
-    alloc: Global,
-    steps: usize,
-    scope: Scope<'_>,
-    words: &'a [&'a [u8]],
-) -> Result<((Expr, Expr), &'a [&'a [u8]]), Refusal>
-    ensures { ReadsExchange result (by_steps spec.exchange_with steps scope.entry words.now) }
-{
-    let (old, rest) = closed_with(alloc, steps, scope, b",".as_slice(), words)?;
-    let (new, more) = closed_with(alloc, steps, scope, b")".as_slice(), rest)?;
-    Ok(((old, new), more))
 }
 
 /// `(CELL, OLD, NEW)` after `cas`.
@@ -221,51 +179,16 @@ pub(crate) fn cas_with<'a>(
 ) -> Result<Parsed<'a>, Refusal>
     ensures { ReadsExpr result (by_steps spec.cas_with steps scope.entry words.now) }
 {
-    let (cell, rest) = swapped_with(alloc, steps, scope, words)?;
-    let ((old, new), more) = exchange_with(alloc, steps, scope, rest)?;
-    Ok((swap(alloc, cell, old, new)?, more))
-}
-
-/// A `cas` of a cell.
-fn swap(alloc: Global, cell: Cell, old: Expr, new: Expr) -> Result<Expr, AllocError>
-    ensures { IfOk result (λ expr. expr_of expr ≡ swap_of cell old new) }
-{
+    let inside = after_word(b"(".as_slice(), words)?;
+    let (word, rest) = first_word(inside)?;
+    let (cell, rest) = cell_with(alloc, steps, scope, word, rest)?;
+    let rest = after_word(b",".as_slice(), rest)?;
+    let (old, rest) = closed_with(alloc, steps, scope, b",".as_slice(), rest)?;
+    let (new, rest) = closed_with(alloc, steps, scope, b")".as_slice(), rest)?;
     let index = Box::new(alloc, cell.index)?;
     let old = Box::new(alloc, old)?;
     let new = Box::new(alloc, new)?;
-    Ok(Expr::Swap(cell.array, index, old, new))
-}
-
-/// The opposite of an expression.
-fn opposite(alloc: Global, expr: Expr) -> Result<Expr, AllocError>
-    ensures { IfOk result (λ not. expr_of not ≡ Not (expr_of expr)) }
-{
-    Ok(Expr::Not(Box::new(alloc, expr)?))
-}
-
-/// A truth value, a number, or what a name stands for.
-#[cycle(expression)]
-fn value_with<'a>(
-    alloc: Global,
-    steps: usize,
-    scope: Scope<'_>,
-    word: &[u8],
-    words: &'a [&'a [u8]],
-) -> Result<Parsed<'a>, Refusal>
-    ensures { ReadsExpr result (by_steps (value_with word.now) steps scope.entry words.now) }
-{
-    if word == b"true".as_slice() {
-        Ok((Expr::Number(1), words))
-    } else if word == b"false".as_slice() {
-        Ok((Expr::Number(0), words))
-    } else if is_free_name(word) {
-        name_with(alloc, steps, scope, word, words)
-    } else {
-        match value_in(word) {
-            None => Err(Refusal::Kind(SourceFaultKind::Number)),
-            Some(value) => Ok((Expr::Number(value), words)),
-        }
-    }
+    Ok((Expr::Swap(cell.array, index, old, new), rest))
 }
 
 /// An expression without operators between two values in it, but for those in parentheses.
@@ -281,15 +204,22 @@ fn unary_with<'a>(
 {
     if word == b"!".as_slice() {
         let (expr, rest) = expr_from(alloc, steps, scope, 6, words)?;
-        Ok((opposite(alloc, expr)?, rest))
+        Ok((Expr::Not(Box::new(alloc, expr)?), rest))
     } else if word == b"(".as_slice() {
         closed_with(alloc, steps, scope, b")".as_slice(), words)
     } else if word == b"cas".as_slice() {
         cas_with(alloc, steps, scope, words)
     } else if word == b"pick".as_slice() {
         pick_from(scope.constants, words)
+    } else if word == b"true".as_slice() {
+        Ok((Expr::Number(1), words))
+    } else if word == b"false".as_slice() {
+        Ok((Expr::Number(0), words))
+    } else if is_free_name(word) {
+        name_with(alloc, steps, scope, word, words)
     } else {
-        value_with(alloc, steps, scope, word, words)
+        let value = value_in(word).ok_or(Refusal::Kind(SourceFaultKind::Number))?;
+        Ok((Expr::Number(value), words))
     }
 }
 
@@ -344,23 +274,7 @@ fn infix_from<'a>(
     if most < binds {
         return Err(Refusal::Kind(SourceFaultKind::Form));
     }
-    operated_from(alloc, steps - 1, scope, least, by, left, rest)
-}
-
-/// The right side of an operator after this left side, and the operators after it.
-#[cycle(expression)]
-fn operated_from<'a>(
-    alloc: Global,
-    steps: usize,
-    scope: Scope<'_>,
-    least: u8,
-    by: Infix,
-    left: Expr,
-    words: &'a [&'a [u8]],
-) -> Result<Parsed<'a>, Refusal>
-    ensures { ReadsExpr result (operated by left least steps scope.entry words.now) }
-{
-    let (right, more) = expr_from(alloc, steps, scope, binding(by) + 1, words)?;
+    let (right, more) = expr_from(alloc, steps - 1, scope, binds + 1, rest)?;
     let both = joined(alloc, by, left, right)?;
-    infix_from(alloc, steps, scope, least, most_after(by), both, more)
+    infix_from(alloc, steps - 1, scope, least, most_after(by), both, more)
 }

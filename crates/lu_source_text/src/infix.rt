@@ -2,7 +2,6 @@
 
 ghost use Rattle.std.specs.Prelude.{◌≡◌};
 ghost use Rattle.lu_source_text.specs.Grammar as spec;
-ghost use Rattle.lu_source_text.specs.Parts.{arithmetic_in, operator_in};
 
 use lu_source::Operator;
 
@@ -27,16 +26,7 @@ pub(crate) fn infix_in(word: &[u8]) -> Option<Infix>
         Some(Infix::Or)
     } else if word == b"&&".as_slice() {
         Some(Infix::And)
-    } else {
-        operator_in(word)
-    }
-}
-
-/// The operator that a word is which compares two values or computes with them.
-fn operator_in(word: &[u8]) -> Option<Infix>
-    ensures { result ≡ operator_in word.now }
-{
-    if word == b"==".as_slice() {
+    } else if word == b"==".as_slice() {
         Some(Infix::Joins(Operator::Equals))
     } else if word == b"!=".as_slice() {
         Some(Infix::Joins(Operator::Differs))
@@ -48,16 +38,7 @@ fn operator_in(word: &[u8]) -> Option<Infix>
         Some(Infix::Joins(Operator::AtMost))
     } else if word == b">=".as_slice() {
         Some(Infix::Joins(Operator::AtLeast))
-    } else {
-        arithmetic_in(word)
-    }
-}
-
-/// The operator that a word is which computes with two values.
-fn arithmetic_in(word: &[u8]) -> Option<Infix>
-    ensures { result ≡ arithmetic_in word.now }
-{
-    if word == b"+".as_slice() {
+    } else if word == b"+".as_slice() {
         Some(Infix::Joins(Operator::Plus))
     } else if word == b"-".as_slice() {
         Some(Infix::Joins(Operator::Minus))

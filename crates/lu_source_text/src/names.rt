@@ -61,30 +61,14 @@ pub(crate) fn shared_from(before: usize, shared: &[Shared], word: &[u8]) -> Opti
     }
 }
 
-/// The number that a word means: a literal, or a constant's name.
-pub(crate) fn number_of(constants: &[Constant], word: &[u8]) -> Option<u32>
-    ensures { result ≡ either (a_value word.now) (spec.constant_from constants.now word.now) }
-{
-    match value_in(word) {
-        Some(value) => Some(value),
-        None => constant_from(constants, word),
-    }
-}
-
 /// Whether the word may be a name: it has the form of one, of any length, and is no keyword.
 pub fn is_free_name(word: &[u8]) -> bool
     ensures { result ≡ spec.is_free_name word.now }
 {
-    has_name_form(word) && !is_keyword(word)
+    has_name_form(word) && !declares(word) && !states(word) && !stands_for_value(word)
 }
 
-/// Whether a word is one that no name may be.
-fn is_keyword(word: &[u8]) -> bool
-    ensures { result ≡ spec.is_keyword word.now }
-{
-    declares(word) || states(word) || stands_for_value(word)
-}
-
+/// Whether a declaration begins with the word.
 fn declares(word: &[u8]) -> bool
     ensures { result ≡ is_among declaring word.now }
 {
@@ -96,6 +80,7 @@ fn declares(word: &[u8]) -> bool
         || word == b"op".as_slice()
 }
 
+/// Whether the word is a keyword of statements.
 fn states(word: &[u8]) -> bool
     ensures { result ≡ is_among stating word.now }
 {
@@ -111,6 +96,7 @@ fn states(word: &[u8]) -> bool
         || word == b"await".as_slice()
 }
 
+/// Whether the word is a keyword of expressions.
 fn stands_for_value(word: &[u8]) -> bool
     ensures { result ≡ is_among valued word.now }
 {

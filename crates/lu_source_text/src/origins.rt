@@ -14,15 +14,14 @@ ghost use Rattle.lu_source_text.specs.Grammar.{source_grammar};
 ghost use Rattle.lu_source_text.specs.Origins as spec;
 ghost use Rattle.lu_source_text.specs.Origins.{AreOrigins, FailsAs, Fills, HasEach, IsFilled, alone_at, are_indexed, closed_at, standing_at};
 
+use crate::closing::code_len;
 use crate::draft::{Block, Draft, Opening, Shared};
 use crate::fault::SourceFault;
 use crate::reading::{finish, new_draft, take_line};
-use lu_source::{Operation, Origin, Origins, Stmt, comes_out, falls, size};
+use lu_component::MOST_INSTRS;
+use lu_source::{Operation, Origin, Origins, falls, size};
 use lu_text::{Name, lines_of};
 use std::alloc::{AllocError, Global};
-
-/// The most instructions that an operation has.
-const MOST: usize = 64;
 
 /// How many instructions stand in front of what a block does, up to 64.
 fn opening_size(opening: &Opening) -> usize
@@ -32,20 +31,9 @@ fn opening_size(opening: &Opening) -> usize
         Opening::Whole | Opening::Turns => 0,
         Opening::Test(_) => 1,
         Opening::Other(_, first) => {
-            if falls(first) {
-                (2 + size(first)).min(MOST)
-            } else {
-                (1 + size(first)).min(MOST)
-            }
+            (1 + size(first) + usize::from(falls(first))).min(MOST_INSTRS)
         }
     }
-}
-
-/// How many instructions an open block makes so far, up to 64.
-fn block_size(block: &Block) -> usize
-    ensures { result ≡ min (spec.block_size (block_of block.now)) MOST_INSTRS }
-{
-    (opening_size(&block.opening) + size(&block.does)).min(MOST)
 }
 
 /// How many instructions open blocks make so far, up to 64.
@@ -54,19 +42,10 @@ fn size_so_far(blocks: &[Block]) -> usize
 {
     match blocks {
         [] => 0,
-        [outer, inner @ ..] => (block_size(outer) + size_so_far(inner)).min(MOST),
-    }
-}
-
-/// How many instructions an operation has, up to 64.
-fn code_len(body: &Stmt) -> usize
-    ensures { result ≡ min (length (operation_code (tree_of body.now))) MOST_INSTRS }
-{
-    let len = size(body);
-    if comes_out(body) {
-        (len + 1).min(MOST)
-    } else {
-        len.min(MOST)
+        [outer, inner @ ..] => {
+            let len = opening_size(&outer.opening) + size(&outer.does);
+            (len + size_so_far(inner)).min(MOST_INSTRS)
+        }
     }
 }
 
@@ -135,7 +114,8 @@ fn fill_closed(
     ensures there { OnOk result (length closed.now ≤ length rows.new.items) }
 {
     for (number, operation) in closed.iter().enumerate() {
-        fill_at(alloc, rows, number, line, code_len(&operation.body), &[])?;
+        let len = code_len(&operation.body).min(MOST_INSTRS);
+        fill_at(alloc, rows, number, line, len, &[])?;
     }
     Ok(())
 }
@@ -167,6 +147,7 @@ fn fill_all(
     }
 }
 
+/// Of each shared word, whether it is written with an index.
 fn indexed_of(alloc: Global, words: &[Shared]) -> Result<Vec<bool>, AllocError>
     ensures { HasItems result (map (λ w. w.indexed) words.now) }
 {

@@ -7,13 +7,12 @@ ghost use Rattle.lu_text.specs.Results.{HasItems};
 ghost use Rattle.lu_source_text.specs.Drafts.{drafted_of};
 ghost use Rattle.lu_source_text.specs.Grammar as spec;
 ghost use Rattle.lu_source_text.specs.Grammar.{source_grammar};
-ghost use Rattle.lu_source_text.specs.Parts.{by_first};
 ghost use Rattle.lu_source_text.specs.Readers.{GivesDraft, GivesSource, IsCompiledFrom, component_meant};
-ghost use Rattle.lu_source_text.specs.Reads.{DraftIs, DraftTakes, in_draft, in_line};
+ghost use Rattle.lu_source_text.specs.Reads.{DraftIs, DraftTakes, in_line};
 
-use crate::closing::{close_line, go_on};
+use crate::closing::close_line;
 use crate::declaration::{declaration, object_line};
-use crate::draft::{Begun, Draft, Shared};
+use crate::draft::{Begun, Draft};
 use crate::fault::{Refusal, SourceFault, SourceFaultKind};
 use crate::source::Source;
 use crate::statement::statement;
@@ -44,25 +43,6 @@ pub(crate) fn new_draft(alloc: Global) -> Draft
     }
 }
 
-/// A line of an operation.
-fn line_inside(
-    alloc: Global,
-    draft: &mut Draft,
-    mut begun: Begun,
-    word: &[u8],
-    words: &[&[u8]],
-) -> Result<(), Refusal>
-    ensures { DraftTakes result (spec.line_inside word.now) draft.old begun words.now draft.new }
-{
-    if word == b"}".as_slice() {
-        close_line(alloc, draft, begun, words)
-    } else {
-        statement(alloc, draft, &mut begun, word, words)?;
-        go_on(draft, begun);
-        Ok(())
-    }
-}
-
 /// A line of an operation, which has at most 256 of them.
 fn inside(
     alloc: Global,
@@ -77,47 +57,33 @@ fn inside(
         return Err(Refusal::Kind(SourceFaultKind::Limit));
     }
     begun.lines += 1;
-    line_inside(alloc, draft, begun, word, words)
+    if word == b"}".as_slice() {
+        return close_line(alloc, draft, begun, words);
+    }
+    statement(alloc, draft, &mut begun, word, words)?;
+    draft.begun = Some(begun);
+    Ok(())
 }
 
-/// The first line with words.
-fn object_first(
+/// A line with words: the first is the `object` line. Then come declarations, and in an open
+/// operation statements.
+fn worded_line(
     alloc: Global,
     draft: &mut Draft,
     word: &[u8],
     words: &[&[u8]],
 ) -> Result<(), Refusal>
-    ensures { DraftIs result draft.new (in_line spec.object_first draft.old word.now words.now) }
-{
-    if word == b"object".as_slice() {
-        object_line(alloc, draft, words)
-    } else {
-        Err(Refusal::Kind(SourceFaultKind::Missing))
-    }
-}
-
-fn by_state(alloc: Global, draft: &mut Draft, word: &[u8], words: &[&[u8]]) -> Result<(), Refusal>
-    ensures { DraftIs result draft.new (in_line by_first draft.old word.now words.now) }
+    ensures { DraftIs result draft.new (in_line spec.worded_line draft.old word.now words.now) }
 {
     if draft.name.is_none() {
-        return object_first(alloc, draft, word, words);
+        if word == b"object".as_slice() {
+            return object_line(alloc, draft, words);
+        }
+        return Err(Refusal::Kind(SourceFaultKind::Missing));
     }
     match draft.begun.take() {
         None => declaration(alloc, draft, word, words),
         Some(begun) => inside(alloc, draft, begun, word, words),
-    }
-}
-
-/// A line of words, of which there are at most 256.
-fn short_line(alloc: Global, draft: &mut Draft, words: &[&[u8]]) -> Result<(), Refusal>
-    ensures { DraftIs result draft.new (in_draft spec.short_line draft.old words.now) }
-{
-    if words.len() > MOST_WORDS {
-        return Err(Refusal::Kind(SourceFaultKind::Limit));
-    }
-    match words.split_first() {
-        None => Ok(()),
-        Some((word, rest)) => by_state(alloc, draft, word, rest),
     }
 }
 
@@ -129,7 +95,13 @@ fn read_line(alloc: Global, draft: &mut Draft, text: &[u8]) -> Result<(), Refusa
         return Err(Refusal::Kind(SourceFaultKind::Byte));
     }
     let words = source_words(alloc, text)?;
-    short_line(alloc, draft, &words)
+    if words.len() > MOST_WORDS {
+        return Err(Refusal::Kind(SourceFaultKind::Limit));
+    }
+    match words.split_first() {
+        None => Ok(()),
+        Some((word, rest)) => worded_line(alloc, draft, word, rest),
+    }
 }
 
 /// The draft takes in a line; a fault has the line's number.
@@ -148,13 +120,6 @@ pub(crate) fn take_line(
     }
 }
 
-/// The arrays of shared words.
-fn arrays_of(alloc: Global, words: Vec<Shared>) -> Result<Vec<Array>, AllocError>
-    ensures { HasItems result (map (λ w. w.array) words.items) }
-{
-    words.into_iter().map(|word| word.array).collect(alloc)
-}
-
 /// What is declared at the end of the text.
 pub(crate) fn finish(alloc: Global, line: usize, draft: Draft) -> Result<Source, SourceFault>
     ensures { GivesSource result (on_line line (source_grammar.finish (drafted_of draft))) }
@@ -168,19 +133,16 @@ pub(crate) fn finish(alloc: Global, line: usize, draft: Draft) -> Result<Source,
         begun,
         ..
     } = draft;
-    match (name, begun) {
-        (Some(name), None) => {
-            let arrays = arrays_of(alloc, words)?;
-            Ok(Source {
-                name,
-                local: local.unwrap_or(16),
-                arrays,
-                locks,
-                operations,
-            })
-        }
-        _ => Err(Fault::At(SourceFaultKind::Missing, line)),
-    }
+    let (Some(name), None) = (name, begun) else {
+        return Err(Fault::At(SourceFaultKind::Missing, line));
+    };
+    Ok(Source {
+        name,
+        local: local.unwrap_or(16),
+        arrays: words.into_iter().map(|word| word.array).collect(alloc)?,
+        locks,
+        operations,
+    })
 }
 
 /// Reads a source from its lines, without their LFs.
@@ -217,22 +179,6 @@ pub fn read_source(alloc: Global, text: &[u8]) -> Result<Source, SourceFault>
     read_source_lines(alloc, &lines)
 }
 
-fn component_of(alloc: Global, text: &[u8]) -> Result<Component, SourceFault>
-    ensures read { IfOk result (λ c. IsCompiledFrom text.now c) }
-    ensures exact { Gives result (component_meant text.now) }
-{
-    let source = read_source(alloc, text)?;
-    let component = compile(
-        alloc,
-        source.name,
-        source.local,
-        source.arrays,
-        source.locks,
-        &source.operations,
-    )?;
-    Ok(component)
-}
-
 /// The component that a source's text is compiled to. It does as the source: of each matrix, the
 /// schedules of the one are those of the other, with the same histories.
 ///
@@ -250,5 +196,14 @@ pub fn compile_text(alloc: Global, text: &[u8]) -> Result<Component, SourceFault
     // No line before the fault's has one.
     ensures first { TellsFirst source_grammar text.now result }
 {
-    component_of(alloc, text)
+    let source = read_source(alloc, text)?;
+    let component = compile(
+        alloc,
+        source.name,
+        source.local,
+        source.arrays,
+        source.locks,
+        &source.operations,
+    )?;
+    Ok(component)
 }

@@ -24,11 +24,3 @@ pub(crate) struct Cell {
     pub array: u8,
     pub index: Expr,
 }
-
-/// What is awaited: that a cell is this value, or that it is another.
-#[derive(Drop)]
-pub(crate) struct Awaited {
-    pub cell: Cell,
-    pub equal: bool,
-    pub value: Expr,
-}

@@ -2,39 +2,44 @@
 
 ghost use Rattle.std.specs.Prelude.{◌≡◌, ◌<◌, length, IfOk};
 ghost use Rattle.lu_text.specs.Lines.{texts};
-ghost use Rattle.lu_source.specs.declared.expr.TheConstants.{REGISTERS};
 ghost use Rattle.lu_source.specs.Evaluations.{expr_of};
 ghost use Rattle.lu_source.specs.Expressions as expressions;
 ghost use Rattle.lu_source.specs.Shapes.{tree_of};
 ghost use Rattle.lu_source_text.specs.Drafts.{begun_of, opening_of};
 ghost use Rattle.lu_source_text.specs.Grammar as spec;
-ghost use Rattle.lu_source_text.specs.Parts.{first_value, first_value_in, simple_line, started_loop, started_while};
-ghost use Rattle.lu_source_text.specs.Reads.{Becomes, ReadsLet, ReadsLine, ReadsTest, ReadsTree, in_begun};
+ghost use Rattle.lu_source_text.specs.Reads.{Becomes, ReadsLine, ReadsTest, ReadsTree, in_begun};
 
-use crate::blocks::{add_to, are_deep, push_block};
+use crate::blocks::{does_too, pop_block, push_block};
 use crate::declaration::{new_name, open_block};
 use crate::draft::{Begun, Draft, Opening};
-use crate::expression::after_word;
+use crate::expression::{first_word, last_word};
 use crate::fault::{Refusal, SourceFaultKind};
 use crate::simple::{assigned_in, expr_before_brace, set_local, simple, value_of};
 use lu_component::Operand;
 use lu_source::{Expr, Operator, REGISTERS, Stmt};
-use lu_text::Name;
 use std::alloc::Global;
 
 /// The innermost block does this too.
 fn add(alloc: Global, begun: &mut Begun, stmt: Stmt) -> Result<(), Refusal>
     ensures { Becomes result begun.old begun.new (λ b. spec.added b (tree_of stmt)) }
 {
-    add_to(alloc, &mut begun.blocks, stmt)
+    let Some(block) = pop_block(&mut begun.blocks) else {
+        return Err(Refusal::Kind(SourceFaultKind::Flow));
+    };
+    let block = does_too(alloc, block, stmt)?;
+    push_block(&mut begun.blocks, block)?;
+    Ok(())
 }
+
+/// The most blocks that are open at a time.
+const MOST_BLOCKS: usize = 16;
 
 /// One block more, with what opened it.
 fn deeper(begun: &mut Begun, opening: Opening, chained: bool) -> Result<(), Refusal>
     ensures { Becomes result begun.old begun.new
         (λ b. spec.deeper b (opening_of opening) chained) }
 {
-    if are_deep(&begun.blocks) {
+    if begun.blocks.len() >= MOST_BLOCKS {
         return Err(Refusal::Kind(SourceFaultKind::Limit));
     }
     let block = open_block(opening, begun.locals.len(), chained);
@@ -42,55 +47,31 @@ fn deeper(begun: &mut Begun, opening: Opening, chained: bool) -> Result<(), Refu
     Ok(())
 }
 
-/// The statement that gives a new local this value, where there is a register for it.
-fn first_value(alloc: Global, begun: &Begun, expr: &Expr) -> Result<Stmt, Refusal>
-    ensures read { ReadsTree result (first_value (begun_of begun.now) (expr_of expr.now)) }
-    ensures room { IfOk result (λ _. length begun.now.locals.items < REGISTERS) }
-{
-    if begun.locals.len() >= REGISTERS as usize {
-        return Err(Refusal::Kind(SourceFaultKind::Registers));
-    }
-    set_local(alloc, begun, begun.locals.len() as u8, expr)
-}
-
-/// The statement that gives a new local its value, by `= EXPR`.
-fn first_value_in(
+/// The statement that gives a new local its value, by `= EXPR`, where there is a register for it.
+fn first_value(
     alloc: Global,
     draft: &Draft,
     begun: &Begun,
     words: &[&[u8]],
 ) -> Result<Stmt, Refusal>
-    ensures read { ReadsTree result (in_begun first_value_in draft.now begun.now words.now) }
+    ensures read { ReadsTree result (in_begun spec.first_value draft.now begun.now words.now) }
     ensures room { IfOk result (λ _. length begun.now.locals.items < REGISTERS) }
 {
     let expr = assigned_in(alloc, draft, begun, words)?;
-    first_value(alloc, begun, &expr)
-}
-
-/// The name of `let NAME = EXPR`, and the statement that gives it its value.
-fn let_in(
-    alloc: Global,
-    draft: &Draft,
-    begun: &Begun,
-    words: &[&[u8]],
-) -> Result<(Name, Stmt), Refusal>
-    ensures read { ReadsLet result (in_begun spec.let_in draft.now begun.now words.now) }
-    ensures room { IfOk result (λ _. length begun.now.locals.items < REGISTERS) }
-{
-    let Some((word, rest)) = words.split_first() else {
-        return Err(Refusal::Kind(SourceFaultKind::Form));
-    };
-    let name = new_name(alloc, draft, &begun.locals, word)?;
-    let stmt = first_value_in(alloc, draft, begun, rest)?;
-    Ok((name, stmt))
+    if begun.locals.len() >= REGISTERS as usize {
+        return Err(Refusal::Kind(SourceFaultKind::Registers));
+    }
+    set_local(alloc, begun, begun.locals.len() as u8, &expr)
 }
 
 /// `let NAME = EXPR`: a local more.
 fn let_line(alloc: Global, draft: &Draft, begun: &mut Begun, words: &[&[u8]]) -> Result<(), Refusal>
     ensures { ReadsLine result spec.let_line draft.now words.now begun.old begun.new }
 {
-    let (name, stmt) = let_in(alloc, draft, begun, words)?;
-    add_to(alloc, &mut begun.blocks, stmt)?;
+    let (word, rest) = first_word(words)?;
+    let name = new_name(alloc, draft, &begun.locals, word)?;
+    let stmt = first_value(alloc, draft, begun, rest)?;
+    add(alloc, begun, stmt)?;
     begun.locals.push(name)?;
     Ok(())
 }
@@ -113,9 +94,8 @@ fn tested(alloc: Global, begun: &mut Begun, expr: Expr) -> Result<Operand, Refus
 {
     let test = as_test(expr);
     let value = value_of(alloc, begun, &test)?;
-    let at = value.at;
     add(alloc, begun, value.code)?;
-    Ok(at)
+    Ok(value.at)
 }
 
 /// `if EXPR {`
@@ -133,7 +113,7 @@ pub(crate) fn if_line(
     deeper(begun, Opening::Test(value), chained)
 }
 
-/// `while EXPR {`
+/// `while EXPR {`, after what a jump back leads to.
 fn while_line(
     alloc: Global,
     draft: &Draft,
@@ -142,57 +122,20 @@ fn while_line(
 ) -> Result<(), Refusal>
     ensures { ReadsLine result spec.while_line draft.now words.now begun.old begun.new }
 {
+    add(alloc, begun, Stmt::Nothing)?;
     let expr = expr_before_brace(alloc, draft, begun, words)?;
     deeper(begun, Opening::Turns, false)?;
     let value = tested(alloc, begun, expr)?;
     add(alloc, begun, Stmt::BreakUnless(value))
 }
 
-/// `loop {`
-fn loop_line(begun: &mut Begun, words: &[&[u8]]) -> Result<(), Refusal>
+/// `loop {`, after what a jump back leads to.
+fn loop_line(alloc: Global, begun: &mut Begun, words: &[&[u8]]) -> Result<(), Refusal>
     ensures { Becomes result begun.old begun.new (λ b. spec.loop_line b (texts words.now)) }
 {
-    let rest = after_word(b"{".as_slice(), words)?;
-    if let Some(_) = rest.split_first() {
-        return Err(Refusal::Kind(SourceFaultKind::Form));
-    }
+    add(alloc, begun, Stmt::Nothing)?;
+    last_word(b"{".as_slice(), words)?;
     deeper(begun, Opening::Turns, false)
-}
-
-/// `while EXPR {`, after what a jump back leads to.
-fn start_while(
-    alloc: Global,
-    draft: &Draft,
-    begun: &mut Begun,
-    words: &[&[u8]],
-) -> Result<(), Refusal>
-    ensures { ReadsLine result started_while draft.now words.now begun.old begun.new }
-{
-    add(alloc, begun, Stmt::Nothing)?;
-    while_line(alloc, draft, begun, words)
-}
-
-/// `loop {`, after what a jump back leads to.
-fn start_loop(alloc: Global, begun: &mut Begun, words: &[&[u8]]) -> Result<(), Refusal>
-    ensures { Becomes result begun.old begun.new (λ b. started_loop b (texts words.now)) }
-{
-    add(alloc, begun, Stmt::Nothing)?;
-    loop_line(begun, words)
-}
-
-/// The innermost block does what a line says that opens no block and declares no local.
-fn simple_line(
-    alloc: Global,
-    draft: &Draft,
-    begun: &mut Begun,
-    word: &[u8],
-    words: &[&[u8]],
-) -> Result<(), Refusal>
-    ensures { ReadsLine result
-        (simple_line word.now) draft.now words.now begun.old begun.new }
-{
-    let stmt = simple(alloc, draft, begun, word, words)?;
-    add(alloc, begun, stmt)
 }
 
 /// A line of an operation that closes no block.
@@ -211,10 +154,11 @@ pub(crate) fn statement(
     } else if word == b"if".as_slice() {
         if_line(alloc, draft, begun, false, words)
     } else if word == b"while".as_slice() {
-        start_while(alloc, draft, begun, words)
+        while_line(alloc, draft, begun, words)
     } else if word == b"loop".as_slice() {
-        start_loop(alloc, begun, words)
+        loop_line(alloc, begun, words)
     } else {
-        simple_line(alloc, draft, begun, word, words)
+        let stmt = simple(alloc, draft, begun, word, words)?;
+        add(alloc, begun, stmt)
     }
 }

@@ -26,8 +26,10 @@ fn is_name_part(byte: u8) -> bool
 fn is_pair(first: u8, second: u8) -> bool
     ensures { result ≡ spec.is_pair first second }
 {
-    second == b'=' && (first == b'=' || first == b'!' || first == b'<' || first == b'>')
-        || (first == b'&' && second == b'&' || first == b'|' && second == b'|')
+    matches!(
+        (first, second),
+        (b'=' | b'!' | b'<' | b'>', b'=') | (b'&', b'&') | (b'|', b'|')
+    )
 }
 
 /// Where the first byte stands that is no letter, digit or `_`.
@@ -38,17 +40,6 @@ fn name_end(bytes: &[u8]) -> Option<usize>
     bytes.iter().position(|byte| !is_name_part(*byte))
 }
 
-/// How many letters, digits and `_` stand first.
-fn name_len(bytes: &[u8]) -> usize
-    ensures len { result ≡ spec.name_len bytes.now }
-    ensures within { result ≤ length bytes.now }
-{
-    match name_end(bytes) {
-        None => bytes.len(),
-        Some(end) => end,
-    }
-}
-
 /// How long the first word is, or a blank.
 fn item_len(bytes: &[u8]) -> usize
     ensures len { result ≡ spec.item_len bytes.now }
@@ -57,32 +48,10 @@ fn item_len(bytes: &[u8]) -> usize
 {
     match bytes {
         [] => 0,
-        [first, rest @ ..] => {
-            if is_name_part(*first) {
-                return 1 + name_len(rest);
-            }
-            match rest {
-                [] => 1,
-                [second, ..] => { if is_pair(*first, *second) { 2 } else { 1 } }
-            }
-        }
+        [first, rest @ ..] if is_name_part(*first) => { 1 + name_end(rest).unwrap_or(rest.len()) }
+        [first, second, ..] if is_pair(*first, *second) => 2,
+        _ => 1,
     }
-}
-
-fn words_in(alloc: Global, bytes: &[u8]) -> Result<Vec<&[u8]>, AllocError>
-    ensures { IfOk result (λ words. texts words.items ≡ spec.words_in bytes.now) }
-{
-    let mut words = Vec::new(alloc);
-    let mut rest = bytes;
-    while !rest.is_empty() {
-        let blank = is_blank(rest[0]);
-        let (item, behind) = rest.split_at(item_len(rest));
-        if !blank {
-            words.push(item)?;
-        }
-        rest = behind;
-    }
-    Ok(words)
 }
 
 /// The words of a line, up to a comment: all letters, digits and `_` that stand together, an
@@ -94,5 +63,14 @@ fn words_in(alloc: Global, bytes: &[u8]) -> Result<Vec<&[u8]>, AllocError>
 pub fn source_words(alloc: Global, line: &[u8]) -> Result<Vec<&[u8]>, AllocError>
     ensures { IfOk result (λ words. texts words.items ≡ spec.source_words line.now) }
 {
-    words_in(alloc, before_comment(line))
+    let mut words = Vec::new(alloc);
+    let mut rest = before_comment(line);
+    while !rest.is_empty() {
+        let (item, after) = rest.split_at(item_len(rest));
+        if !is_blank(rest[0]) {
+            words.push(item)?;
+        }
+        rest = after;
+    }
+    Ok(words)
 }

@@ -14,7 +14,7 @@ use Rattle.lu_spec.specs.SpecText.{AreListed, HasConflictIn, IsFaultAmong, IsRea
 use Rattle.lu_spec.specs.Specs.{FitsMatrix}
 use Rattle.lu_spec.specs.Reading.{IsGatheredDraft, IsNextOf}
 use Rattle.lu_spec.specs.EveryFault.{AddsFaults, AreFaultsFrom, AreFaultsOfLines, AreSpecFaults, IsFirstLineFault, IsJudgedAs, IsTaken, Judges, Leaves, LeavesDraft, TakesNone, first_line_fault}
-use Rattle.lu_spec.specs.Laws.{IsToldAsRead}
+use Rattle.lu_spec.specs.Laws.{IsListedAsRead}
 use Rattle.lu_spec.proofs.Collected.{in_listed, in_set}
 use Rattle.lu_spec.proofs.Faultless.{no_fault}
 use Rattle.lu_spec.proofs.HistoryLines.{line_same}
@@ -161,27 +161,27 @@ told_after matrix (line ∷ lines) n listed faults are numbered (fault, after, o
         one_after matrix listed q line lines others next.is.0 (again q (listed_more matrix listed are line q next) rest)
     by_fault (Some f) (here, wrong) again = record { listed = listed; are = are; line = line; rest = lines; parts = refl; numbered = here ∙ numbered; fault = wrong }
 
-pub told_as_read : (matrix : Matrix) (text : List ℕ) (faults : List SpecLineFault) → AreSpecFaults matrix text faults → IsToldAsRead matrix text faults
-told_as_read matrix text faults are = by_lines (kept_lines text) refl are
+pub listed_as_read : (matrix : Matrix) (text : List ℕ) (faults : List SpecLineFault) → AreSpecFaults matrix text faults → IsListedAsRead matrix text faults
+listed_as_read matrix text faults are = by_lines (kept_lines text) refl are
   where
-    none_after : (lines : List (List ℕ)) (others : List SpecLineFault) → kept_lines text ≡ first_line ∷ lines → ToldAfter matrix [] lines others → IsToldAsRead matrix text others
+    none_after : (lines : List (List ℕ)) (others : List SpecLineFault) → kept_lines text ≡ first_line ∷ lines → ToldAfter matrix [] lines others → IsListedAsRead matrix text others
     none_after lines [] cut (listed, listing, is) = (listed, listing, sym (joined_lines text) ∙ (ap concat (cut ∙ ap (λ (x : List (List ℕ)). first_line ∷ x) is) ∙ ap (λ (x : List ℕ). first_line ++ x) (concat_lines listed)))
     none_after lines (first ∷ others) cut among = inr (lines, cut, among)
 
-    by_first : (first : List ℕ) (lines : List (List ℕ)) (fault : Option SpecLineFault) (others : List SpecLineFault) → kept_lines text ≡ first ∷ lines → IsFirstLineFault first fault → ToldAfter matrix [] lines others → IsToldAsRead matrix text (option_to_list fault ++ others)
+    by_first : (first : List ℕ) (lines : List (List ℕ)) (fault : Option SpecLineFault) (others : List SpecLineFault) → kept_lines text ≡ first ∷ lines → IsFirstLineFault first fault → ToldAfter matrix [] lines others → IsListedAsRead matrix text (option_to_list fault ++ others)
     by_first first lines None others cut is told = none_after lines others (cut ∙ ap (λ (x : List ℕ). x ∷ lines) is) told
     by_first first lines (Some fault) others cut (other, is) told =
         inl (ap (λ (x : SpecLineFault). x.kind) is, ap (λ (x : SpecLineFault). x.line) is, λ rest e. other (let both : first ∷ lines ≡ first_line ∷ rest = sym cut ∙ e in let same : first ≡ first_line = cc in same))
 
-    by_lines : (lines : List (List ℕ)) → kept_lines text ≡ lines → AreFaultsOfLines matrix lines faults → IsToldAsRead matrix text faults
+    by_lines : (lines : List (List ℕ)) → kept_lines text ≡ lines → AreFaultsOfLines matrix lines faults → IsListedAsRead matrix text faults
     by_lines [] cut is =
-        let none : IsToldAsRead matrix text (first_line_fault ∷ []) = inl (refl, refl, λ rest e. let both : [] ≡ first_line ∷ rest = sym cut ∙ e in cc) in
-        subst (IsToldAsRead matrix text) (sym is) none
+        let none : IsListedAsRead matrix text (first_line_fault ∷ []) = inl (refl, refl, λ rest e. let both : [] ≡ first_line ∷ rest = sym cut ∙ e in cc) in
+        subst (IsListedAsRead matrix text) (sym is) none
     by_lines (first ∷ lines) cut (fault, others, is, from, whole) =
         let told = told_after matrix lines 2 [] others (no_histories matrix) refl from in
-        subst (IsToldAsRead matrix text) (sym whole) (by_first first lines fault others cut is told)
+        subst (IsListedAsRead matrix text) (sym whole) (by_first first lines fault others cut is told)
 
 -- nothing is told of a text that is read
 pub none_told : (matrix : Matrix) (text : List ℕ) (members : List (List SerialOp)) (faults : List SpecLineFault) → IsReadAs matrix text members → AreSpecFaults matrix text faults → faults ≡ []
 none_told matrix text members [] read are = refl
-none_told matrix text members (first ∷ others) read are = absurd (no_fault matrix text members first.kind first.line read (told_as_read matrix text (first ∷ others) are))
+none_told matrix text members (first ∷ others) read are = absurd (no_fault matrix text members first.kind first.line read (listed_as_read matrix text (first ∷ others) are))

@@ -69,15 +69,15 @@ ListsGiven matrix text =
 
 -- Where nothing is reported of a text it lists histories of the matrix; else the first fault that
 -- is reported is the reader's.
-abbrev pub IsGivenToldAsRead : Matrix → List ℕ → List SpecLineFault → Type 0
-IsGivenToldAsRead matrix text [] = ListsGiven matrix text
-IsGivenToldAsRead matrix text (first ∷ others) =
+abbrev pub IsGivenListedAsRead : Matrix → List ℕ → List SpecLineFault → Type 0
+IsGivenListedAsRead matrix text [] = ListsGiven matrix text
+IsGivenListedAsRead matrix text (first ∷ others) =
     IsGivenFault matrix text (At first.kind first.line)
 
-abbrev pub GivenToldAsRead : Type 0
-GivenToldAsRead =
+abbrev pub GivenListedAsRead : Type 0
+GivenListedAsRead =
     (matrix : Matrix) (text : List ℕ) (faults : List SpecLineFault) →
-    AreGivenFaults matrix text faults → IsGivenToldAsRead matrix text faults
+    AreGivenFaults matrix text faults → IsGivenListedAsRead matrix text faults
 
 -- ---- one line after those of a draft
 

@@ -32,20 +32,20 @@ ReadAgain =
 
 -- Where nothing is reported of a text it lists histories of the matrix; else the first fault that
 -- is reported is the reader's.
-abbrev pub IsToldAsRead : Matrix → List ℕ → List SpecLineFault → Type 0
-IsToldAsRead matrix text [] =
+abbrev pub IsListedAsRead : Matrix → List ℕ → List SpecLineFault → Type 0
+IsListedAsRead matrix text [] =
     (listed : List (List SerialOp)) × AreListed matrix listed × (text ≡ spec_text listed)
-IsToldAsRead matrix text (first ∷ others) = IsSpecFault matrix text (At first.kind first.line)
+IsListedAsRead matrix text (first ∷ others) = IsSpecFault matrix text (At first.kind first.line)
 
 -- What is reported of a text agrees with its reader.
-abbrev pub ToldAsRead : Type 0
-ToldAsRead =
+abbrev pub ListedAsRead : Type 0
+ListedAsRead =
     (matrix : Matrix) (text : List ℕ) (faults : List SpecLineFault) →
-    AreSpecFaults matrix text faults → IsToldAsRead matrix text faults
+    AreSpecFaults matrix text faults → IsListedAsRead matrix text faults
 
 -- Nothing is reported of a text that is read.
-abbrev pub NoneTold : Type 0
-NoneTold =
+abbrev pub NoneListed : Type 0
+NoneListed =
     (matrix : Matrix) (text : List ℕ) (members : List (List SerialOp))
     (faults : List SpecLineFault) →
     IsReadAs matrix text members → AreSpecFaults matrix text faults → faults ≡ []

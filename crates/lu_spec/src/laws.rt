@@ -1,8 +1,8 @@
 //! Laws of specifications, for the crates above.
 
-ghost use Rattle.lu_spec.specs.EveryFreeFault.{GivenToldAsRead};
+ghost use Rattle.lu_spec.specs.EveryFreeFault.{GivenListedAsRead};
 ghost use Rattle.lu_spec.specs.FreeLaws.{FirmIsPlain, ReadAlike, RefusedAlike};
-ghost use Rattle.lu_spec.specs.Laws.{NoFault, NoneTold, OneSpelling, ReadAgain, ToldAsRead};
+ghost use Rattle.lu_spec.specs.Laws.{NoFault, NoneListed, OneSpelling, ReadAgain, ListedAsRead};
 
 /// What is read of a text is written as that text: a specification has one spelling. The function
 /// does nothing.
@@ -26,9 +26,9 @@ pub fn read_again()
 /// [`crate::spec_faults`] agrees with [`crate::read_spec`]: it tells no fault exactly of a text
 /// that lists histories of the matrix, and of any other the reader's fault first. The function does
 /// nothing.
-pub fn told_as_read()
-    ensures first { ToldAsRead }
-    ensures none { NoneTold }
+pub fn listed_as_read()
+    ensures first { ListedAsRead }
+    ensures none { NoneListed }
 {}
 
 /// Without marks a specification that may leave outcomes free is a specification: histories
@@ -43,6 +43,6 @@ pub fn free_without_marks()
 /// [`crate::given_spec_faults`] agrees with [`crate::read_given_spec`]: where it tells no fault the
 /// text lists histories of the matrix, and else its first fault is the reader's. The function does
 /// nothing.
-pub fn given_told_as_read()
-    ensures { GivenToldAsRead }
+pub fn given_listed_as_read()
+    ensures { GivenListedAsRead }
 {}

@@ -104,24 +104,13 @@ fn has_arguments(signatures: &[Signature<'_>], part: &Part<'_>) -> bool
     }
 }
 
-/// Whether it is known how many arguments the operation takes.
-fn has_arity(signatures: &[Signature<'_>], part: &Part<'_>) -> bool
-    ensures { result ≡ spec.has_arity signatures.now part.now }
-{
-    match signature_of(signatures, part) {
-        None => false,
-        Some(signature) => signature.arity.is_some(),
-    }
-}
-
 /// The words of the arguments, which are looked at where it is known how many there are to be.
 fn argument_words<'a>(signatures: &[Signature<'_>], part: &'a Part<'_>) -> &'a [&'a [u8]]
     ensures { texts result.now ≡ spec.argument_words signatures.now part.entry.now }
 {
-    if has_arity(signatures, part) {
-        part.arguments()
-    } else {
-        &[]
+    match signature_of(signatures, part) {
+        Some(signature) if signature.arity.is_some() => part.arguments(),
+        _ => &[],
     }
 }
 
@@ -229,21 +218,13 @@ impl MatrixDraft {
     }
 }
 
-fn total_calls(threads: &[Calls]) -> usize
-    requires { sum_by length threads.now < 2 ^ 64 }
-    ensures { result ≡ sum_by length threads.now }
-{
-    threads.iter().map(|calls| calls.as_slice().len()).sum()
-}
-
 /// Whether there is no room for one more thread of this many calls.
 fn is_full(threads: &[Calls], calls: usize) -> bool
     requires { sum_by length threads.now ≤ MOST_CALLS }
     ensures { result ≡ spec.is_full threads.now calls }
 {
-    threads.len() >= MOST_THREADS
-        || calls > MOST_CALLS_OF_THREAD
-        || total_calls(threads) + calls > MOST_CALLS
+    let total: usize = threads.iter().map(|calls| calls.as_slice().len()).sum();
+    threads.len() >= MOST_THREADS || calls > MOST_CALLS_OF_THREAD || total + calls > MOST_CALLS
 }
 
 /// What is wrong with the calls of a line, if anything is. `full`: there is no room for them.

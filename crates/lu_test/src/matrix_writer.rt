@@ -21,18 +21,11 @@ fn put_name(text: &mut String, operations: &[Op], number: u8) -> Result<(), Allo
     }
 }
 
-fn put_argument(text: &mut String, argument: u32) -> Result<(), AllocError>
-    ensures { Writes result text.old text.new (spec.argument_text argument) }
-{
-    write!(text, " {argument}")?;
-    Ok(())
-}
-
 fn put_arguments(text: &mut String, arguments: &[u32]) -> Result<(), AllocError>
     ensures { Writes result text.old text.new (spec.arguments_text arguments.now) }
 {
     for argument in arguments {
-        put_argument(text, *argument)?;
+        write!(text, " {argument}")?;
     }
     Ok(())
 }
@@ -50,19 +43,13 @@ pub fn write_call(text: &mut String, operations: &[Op], call: &Call) -> Result<(
     put_arguments(text, call.args.as_slice())
 }
 
-/// Adds a call after `;`.
-fn put_other(text: &mut String, operations: &[Op], call: &Call) -> Result<(), AllocError>
-    ensures { Writes result text.old text.new (spec.other_text operations.now call.now) }
-{
-    text.push(';')?;
-    write_call(text, operations, call)
-}
-
+/// Adds each call after `;`.
 fn put_others(text: &mut String, operations: &[Op], calls: &[Call]) -> Result<(), AllocError>
     ensures { Writes result text.old text.new (spec.others_text operations.now calls.now) }
 {
     for call in calls {
-        put_other(text, operations, call)?;
+        text.push(';')?;
+        write_call(text, operations, call)?;
     }
     Ok(())
 }

@@ -8,18 +8,6 @@ use crate::schedule_text::{has_form, line_in};
 use lu_text::parts_of;
 use std::alloc::{AllocError, Global};
 
-/// The words after `schedule` of a line.
-fn words_by<'a>(alloc: Global, line: &'a [u8]) -> Result<Option<Vec<&'a [u8]>>, AllocError>
-    ensures { HasWords result (spec.schedule_line_words (Some line.now)) }
-{
-    let mut words = parts_of(alloc, b' ', line)?;
-    if !has_form(&words) {
-        return Ok(None);
-    }
-    words.remove(0);
-    Ok(Some(words))
-}
-
 /// The words after `schedule`, where the text has the form of a schedule: `schedule` and words,
 /// each after one space, in one line with its LF.
 ///
@@ -29,8 +17,13 @@ fn words_by<'a>(alloc: Global, line: &'a [u8]) -> Result<Option<Vec<&'a [u8]>>, 
 pub fn schedule_words(alloc: Global, text: &[u8]) -> Result<Option<Vec<&[u8]>>, AllocError>
     ensures { HasWords result (spec.schedule_words text.now) }
 {
-    match line_in(text) {
-        None => Ok(None),
-        Some(line) => words_by(alloc, line),
+    let Some(line) = line_in(text) else {
+        return Ok(None);
+    };
+    let mut words = parts_of(alloc, b' ', line)?;
+    if !has_form(&words) {
+        return Ok(None);
     }
+    words.remove(0);
+    Ok(Some(words))
 }

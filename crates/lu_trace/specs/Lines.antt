@@ -98,10 +98,10 @@ labelled_line labels c f instr =
     ++ labelled_instr labels c f.op instr ++ codes "  # "
 
 -- what the instruction at the operation's place is shown by, and what begins a remark
-abbrev pub told_by : Wording → AComponent → Frame → Instr → List ℕ
-told_by Component c f instr = component_line c f instr
-told_by (Labelled labels) c f instr = labelled_line labels.now c f instr
-told_by (Source lines origins) c f instr =
+abbrev pub head_of : Wording → AComponent → Frame → Instr → List ℕ
+head_of Component c f instr = component_line c f instr
+head_of (Labelled labels) c f instr = labelled_line labels.now c f instr
+head_of (Source lines origins) c f instr =
     source_line lines.now origins.now f
 
 -- a call as a matrix has it
@@ -116,7 +116,7 @@ next_call s t done =
 -- the next instruction of the operation f, and what it does by the move m
 abbrev pub next_instr : Wording → State → Move → Frame → List ℕ
 next_instr how s m f =
-    option_map_or (λ instr. told_by how s.component f instr ++ deed how s m f instr)
+    option_map_or (λ instr. head_of how s.component f instr ++ deed how s m f instr)
     (instr_at s.component f.op f.place) []
 
 -- what a thread that stands so does next
@@ -140,7 +140,7 @@ step_line how number s m = line number m.thread (step_words how s m)
 abbrev pub waiting : Wording → State → ℕ → Frame → Instr → List ℕ
 waiting how s t f instr =
     if is_blocked s f instr
-    then line None t (told_by how s.component f instr ++ awaited how s f instr) else []
+    then line None t (head_of how s.component f instr ++ awaited how s f instr) else []
 
 abbrev pub activity_wait : Wording → State → ℕ → Activity → List ℕ
 activity_wait how s t Idle = []

@@ -3,7 +3,7 @@
 ghost use Rattle.std.specs.Prelude.{◌≡◌};
 ghost use Rattle.lu_text.specs.Writing.{Writes};
 ghost use Rattle.lu_trace.specs.Lines as spec;
-ghost use Rattle.lu_trace.specs.Lines.{component_line, labelled_instr, labelled_line, told_by};
+ghost use Rattle.lu_trace.specs.Lines.{component_line, labelled_instr, labelled_line, head_of};
 
 use crate::effects::write_deed;
 use crate::wording::{Wording, write_place, write_source_line};
@@ -165,7 +165,7 @@ pub(crate) fn write_instr_text(
     instr: &Instr,
 ) -> Result<(), AllocError>
     ensures { Writes result text.old text.new
-        (told_by how.now component.now frame.now instr.now) }
+        (head_of how.now component.now frame.now instr.now) }
 {
     match *how {
         Wording::Component => write_component_line(text, component, frame, instr),

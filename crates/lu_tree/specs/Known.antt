@@ -122,8 +122,8 @@ KidsTellNoMore all some =
 -- what is known after the only moves of threads
 abbrev pub AreKnownAfter : (List SerialOp → Type 0) → State → List Event → ℕ
     → (ℕ → Known → Type 0) → Type 0
-AreKnownAfter Set s h left IsTold =
-    (t : ℕ) (below : Known) → IsTold t below
+AreKnownAfter Set s h left Holds =
+    (t : ℕ) (below : Known) → Holds t below
     → (next : State) (event : Option Event) → Moves t s next event
     → IsKnown Set next (h ++ with_event event []) left below
 

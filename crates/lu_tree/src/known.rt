@@ -12,7 +12,7 @@ use std::alloc::Global;
 /// Which part of the room that is left, in beginnings, one may take with those that go on from it.
 const SHARE: u32 = 4;
 
-/// How many schedules go on from a beginning, and from longer ones, which are told by the threads
+/// How many schedules go on from a beginning, and from longer ones, which are given by the threads
 /// that moved. No state is kept.
 #[derive(Drop)]
 pub(crate) struct Known {

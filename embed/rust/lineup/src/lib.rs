@@ -158,10 +158,10 @@ impl Case {
     /// What `lineup WORDS` answers to this component and matrix, and further parts.
     pub fn ask(&self, words: &str, parts: &[&str]) -> Result<Answer, Fault> {
         let bundle = [&[&self.component, &self.matrix as &str], parts].concat().join("---\n");
-        let told = answer(words, bundle.as_bytes());
-        match told.status {
-            2 | 4 => Err(Fault::Refused(told.text.trim_end().to_owned())),
-            _ => Ok(told),
+        let answered = answer(words, bundle.as_bytes());
+        match answered.status {
+            2 | 4 => Err(Fault::Refused(answered.text.trim_end().to_owned())),
+            _ => Ok(answered),
         }
     }
 

@@ -5,7 +5,7 @@ use Rattle.lu_lint.proofs.component.read_words.Goals as goal
 
 pub returns : goal.returns
 returns over c = record {
-  told = c.in_ok-all.ensures.told;
+  said = c.in_ok-all.ensures.said;
   left = c.in_ok-all.ensures.left_is;
   sound = ap (λ (b : Bool). c.args.reading.sound && b) (none_is c.is_none-sound.result _ c.is_none-sound.ensures ∙ ap is_none c.in_ok-all.ensures.fault_is);
   found = refl;

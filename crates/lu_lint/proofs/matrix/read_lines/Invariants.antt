@@ -13,6 +13,6 @@ abbrev pub invariant-loop-before : goal.invariant-loop-before
 invariant-loop-before over l = record {
   room : HasRoom l.draft;
   fits : FitsBy l.signatures l.draft;
-  told : said_of l.all.items ++ said_faults part.Matrix l.above (faults_after (matrix_lint l.signatures) l.seen.items (l.before + 1) l.draft (drop l.before (texts l.lines))) ≡ said_of l.initial.all.items ++ said_of_lines (matrix_lint l.signatures) l.above (texts l.lines);
+  said : said_of l.all.items ++ said_faults part.Matrix l.above (faults_after (matrix_lint l.signatures) l.seen.items (l.before + 1) l.draft (drop l.before (texts l.lines))) ≡ said_of l.initial.all.items ++ said_of_lines (matrix_lint l.signatures) l.above (texts l.lines);
   read : Reads (grammar_by l.signatures) l.sound (l.before + 1) l.draft (drop l.before (texts l.lines)) (meaning_of_lines (grammar_by l.signatures) (texts l.lines));
 }

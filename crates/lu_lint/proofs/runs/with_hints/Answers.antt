@@ -1,5 +1,5 @@
 use Rattle.lu_lint.specs.Runs.{said_of_hint}
-use Rattle.lu_lint.proofs.FaultsTold.{push_more}
+use Rattle.lu_lint.proofs.FaultsSaid.{push_more}
 use Rattle.lu_lint.proofs.runs.with_hints.Goals as goal
 
 pub loop-hint-preserved : goal.loop-hint-preserved

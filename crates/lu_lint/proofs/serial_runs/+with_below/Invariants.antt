@@ -9,5 +9,5 @@ decreases-with_below g l = weight (g.T.SerialTree.below l.tree.now l.place)
 abbrev pub invariant-loop-i : goal.invariant-loop-i
 invariant-loop-i g l = record {
   path : l.path.items ≡ l.fn.path.items;
-  hints : l.told.items ≡ of_kids l.fn.told.items l.fn.path.items (g.T.SerialTree.below l.tree l.place) l.i;
+  hints : l.found.items ≡ of_kids l.fn.found.items l.fn.path.items (g.T.SerialTree.below l.tree l.place) l.i;
 }

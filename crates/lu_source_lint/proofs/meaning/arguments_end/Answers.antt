@@ -1,18 +1,16 @@
-use Rattle.std.proofs.Common.{◌+◌, ◌∙◌, arith, drop, get_or, sym}
+use Rattle.std.proofs.Common.{◌∙◌, ap, length, rules, sym, tests}
+use Rattle.std.proofs.Math.ListN.{length-map}
+use Rattle.std.proofs.lemmas.Iterator.{YieldsList-from_slice}
+use Rattle.std.proofs.lemmas.Iterator.Search.{position_from_yields_List}
+use Rattle.std.specs.List.{position}
+use Rattle.std.specs.Option.{unwrap_or}
 use Rattle.lu_text.specs.Lines.{texts}
-use Rattle.lu_text.proofs.Reading.{text_more, texts_end}
-use Rattle.lu_source_lint.proofs.Found.{ends_here, ends_nowhere, ends_on, no_word}
+use Rattle.lu_source_lint.specs.Faults.{ends_arguments}
+use Rattle.lu_source_lint.proofs.Found.{read_by}
 use Rattle.lu_source_lint.proofs.meaning.arguments_end.Goals as goal
 
-pub returns-then-ends_arguments : goal.returns-then-ends_arguments
-returns-then-ends_arguments c =
-    let step = text_more c.args.words.now c.loop-position.position no_word c.loop-position-test.true in
-    ends_here c.loop-position.position (get_or c.args.words.now c.loop-position.position no_word).now (drop (c.loop-position.position + 1) (texts c.args.words.now)) _ (sym c.ends_arguments.ensures ∙ c.if-ends_arguments.true) (rw step at c.loop-position.invariant)
-
-pub loop-position-preserved : goal.loop-position-preserved
-loop-position-preserved c =
-    let step = text_more c.args.words.now c.loop-position.position no_word c.loop-position-test.true in
-    ends_on c.loop-position.position (get_or c.args.words.now c.loop-position.position no_word).now (drop (c.loop-position.position + 1) (texts c.args.words.now)) _ (sym c.ends_arguments.ensures ∙ c.if-ends_arguments.false) (rw step at c.loop-position.invariant)
-
 pub returns : goal.returns
-returns c = ends_nowhere c.loop-position.position _ (drop c.loop-position.position (texts c.args.words.now)) _ (omega arith) (texts_end c.args.words.now c.loop-position.position (omega arith)) c.loop-position.invariant
+returns c =
+    c.unwrap_or.ensures
+    ∙ ap (λ o. unwrap_or o (length c.args.words.now)) (position_from_yields_List ends_arguments _ _ _ c.position.ensures.ran (read_by (λ w. w.now) (YieldsList-from_slice c.args.words.now cc)) (λ x b q k. search (rules, tests)))
+    ∙ ap (unwrap_or (position ends_arguments (texts c.args.words.now))) (sym (length-map c.args.words.now (λ w. w.now)))

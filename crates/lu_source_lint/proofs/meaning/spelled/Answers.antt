@@ -1,5 +1,5 @@
 use Rattle.lu_text.proofs.Reading.{text_more}
-use Rattle.lu_source_lint.proofs.Telling.{spelled_more}
+use Rattle.lu_source_lint.proofs.Reported.{spelled_more}
 use Rattle.lu_source_lint.proofs.meaning.spelled.Goals as goal
 
 pub loop-word-preserved : goal.loop-word-preserved

@@ -1,14 +1,9 @@
-use Rattle.std.proofs.Common.{◌∙◌, sym}
-use Rattle.lu_text.proofs.Reading.{text_more}
-use Rattle.lu_source_lint.proofs.Found.{among_here, among_on}
+use Rattle.std.proofs.Common.{rules, tests}
+use Rattle.std.proofs.lemmas.Iterator.{YieldsList-from_slice}
+use Rattle.std.proofs.lemmas.Iterator.Search.{any_from_yields_List}
+use Rattle.lu_source_text.specs.Grammar.{is_word}
+use Rattle.lu_source_lint.proofs.Found.{read_by}
 use Rattle.lu_source_lint.proofs.warnings.is_among.Goals as goal
 
-pub returns-then-eq : goal.returns-then-eq
-returns-then-eq c =
-    let step = text_more c.args.words.now c.loop-other.other-index _ c.loop-other-test.true in
-    among_here c.args.word.now _ _ _ (sym c.eq.ensures ∙ c.if-eq.true) (rw step at c.loop-other.invariant)
-
-pub loop-other-preserved : goal.loop-other-preserved
-loop-other-preserved c =
-    let step = text_more c.args.words.now c.loop-other.other-index _ c.loop-other-test.true in
-    among_on c.args.word.now _ _ _ (sym c.eq.ensures ∙ c.if-eq.false) (rw step at c.loop-other.invariant)
+pub returns : goal.returns
+returns c = any_from_yields_List (is_word c.args.word.now) _ _ _ c.any.ensures.ran (read_by (λ w. w.now) (YieldsList-from_slice c.args.words.now cc)) (λ x b q k. search (rules, tests))

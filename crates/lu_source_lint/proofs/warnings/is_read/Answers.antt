@@ -1,20 +1,14 @@
-use Rattle.std.proofs.Common.{◌+◌, ◌∙◌, drop, sym}
+use Rattle.std.proofs.Common.{rules, tests}
+use Rattle.std.specs.Prelude.{not, codes}
+use Rattle.std.proofs.lemmas.Iterator.{YieldsList-from_slice}
+use Rattle.std.proofs.lemmas.Iterator.Search.{any_from_yields_List, YieldsList-from_take_while}
 use Rattle.lu_text.specs.Lines.{texts}
-use Rattle.lu_source_lint.specs.Warnings.{lines_in}
-use Rattle.lu_source_lint.proofs.Found.{lines_more, read_here, read_on, read_stops}
+use Rattle.lu_source_lint.specs.Faults.{word_is}
+use Rattle.lu_source_lint.specs.Warnings.{reads}
+use Rattle.lu_source_lint.proofs.Found.{read_by}
 use Rattle.lu_source_lint.proofs.warnings.is_read.Goals as goal
 
-pub returns-then-word_is : goal.returns-then-word_is
-returns-then-word_is c =
-    let step = lines_more c.args.lines.now c.loop-line.line-index c.line-item.result c.as_slice-words.result.now c.loop-line-test.true c.line-item.is c.as_slice-words.ensures.value in
-    read_stops c.args.name.now (texts c.as_slice-words.result.now) (drop (c.loop-line.line-index + 1) (lines_in c.args.lines.now)) _ (sym c.word_is.ensures ∙ c.if-word_is.true) (rw step at c.loop-line.invariant)
-
-pub returns-then-reads : goal.returns-then-reads
-returns-then-reads c =
-    let step = lines_more c.args.lines.now c.loop-line.line-index c.line-item.result c.as_slice-words.result.now c.loop-line-test.true c.line-item.is c.as_slice-words.ensures.value in
-    read_here c.args.name.now (texts c.as_slice-words.result.now) (drop (c.loop-line.line-index + 1) (lines_in c.args.lines.now)) _ (sym c.word_is.ensures ∙ c.if-word_is.false) (sym c.reads.ensures ∙ c.if-reads.true) (rw step at c.loop-line.invariant)
-
-pub loop-line-preserved : goal.loop-line-preserved
-loop-line-preserved c =
-    let step = lines_more c.args.lines.now c.loop-line.line-index c.line-item.result c.as_slice-words.result.now c.loop-line-test.true c.line-item.is c.as_slice-words.ensures.value in
-    read_on c.args.name.now (texts c.as_slice-words.result.now) (drop (c.loop-line.line-index + 1) (lines_in c.args.lines.now)) _ (sym c.word_is.ensures ∙ c.if-word_is.false) (sym c.reads.ensures ∙ c.if-reads.false) (rw step at c.loop-line.invariant)
+pub returns : goal.returns
+returns c = any_from_yields_List (reads c.args.name.now) _ _ _ c.any.ensures.ran
+    (YieldsList-from_take_while _ (λ words. not (word_is words 0 (codes "op"))) (read_by (λ l. texts l.items) (YieldsList-from_slice c.args.lines.now cc)) c.take_while.ensures.closure c.take_while.ensures.done (λ x b q k. search (rules, tests)))
+    (λ x b q k. search (rules, tests))

@@ -1,10 +1,15 @@
-use Rattle.std.proofs.Common.{◌+◌, drop}
-use Rattle.lu_text.specs.Lines.{text_if, texts}
-use Rattle.lu_source_lint.specs.Warnings.{lines_in}
-use Rattle.lu_source_lint.proofs.Found.{lines_more, names_more}
+use Rattle.std.proofs.Common.{rules, tests}
+use Rattle.std.specs.Prelude.{codes}
+use Rattle.std.proofs.lemmas.Iterator.{YieldsList-from_map_by, YieldsList-from_slice}
+use Rattle.std.proofs.lemmas.Iterator.Consumers.{map_from_collect, YieldsList-at, YieldsList-from_filter}
+use Rattle.lu_text.specs.Lines.{texts}
+use Rattle.lu_source_lint.specs.Faults.{word_is}
+use Rattle.lu_source_lint.specs.Warnings.{name_of}
+use Rattle.lu_source_lint.proofs.Found.{read_by}
 use Rattle.lu_source_lint.proofs.warnings.shared_names.Goals as goal
 
-pub loop-line-preserved : goal.loop-line-preserved
-loop-line-preserved c =
-    let step = lines_more c.args.lines.now c.loop-line.line-index c.line-item.result c.deref.result.now c.loop-line-test.true c.line-item.is c.deref.ensures.value in
-    names_more (texts c.loop-line.names.items) (texts c.add_name.new.names.items) (text_if c.declared.result) (texts c.deref.result.now) (drop (c.loop-line.line-index + 1) (lines_in c.args.lines.now)) _ c.in_ok-add_name.ensures c.declared.ensures (rw step at c.loop-line.invariant)
+pub returns : goal.returns
+returns c = map_from_collect _ c.collect.ensures.ran
+    (YieldsList-from_map_by _ (λ r. r.now) name_of (YieldsList-at c.map.ensures.source
+    (YieldsList-from_filter _ (λ words. word_is words 0 (codes "word")) (read_by (λ l. texts l.items) (YieldsList-from_slice c.args.lines.now cc)) c.filter.ensures.closure (λ x b q k. search (rules, tests))))
+    c.map.ensures.closure (λ x r q k. search (rules, tests)))

@@ -19,3 +19,8 @@ pub infix_from-returns : goal.infix_from-returns
 infix_from-returns t c =
     let is : texts c.args.words.now ≡ c.in-Some.word.now.now ∷ texts c.in-Some.rest.now = search rules in
     rw (infix_more c.args.steps (c.args.steps - 1) (meanings c.args.scope) c.args.least c.args.most (expr_of c.args.left) (texts c.args.words.now) c.in-Some.word.now.now (texts c.in-Some.rest.now) (omega arith) is) (search rules)
+
+pub infix_from-returns-in_err-right : goal.infix_from-returns-in_err-right
+infix_from-returns-in_err-right t c =
+    let is : texts c.args.words.now ≡ c.in-Some.word.now.now ∷ texts c.in-Some.rest.now = search rules in
+    rw (infix_more c.args.steps (c.args.steps - 1) (meanings c.args.scope) c.args.least c.args.most (expr_of c.args.left) (texts c.args.words.now) c.in-Some.word.now.now (texts c.in-Some.rest.now) (omega arith) is) (search rules)

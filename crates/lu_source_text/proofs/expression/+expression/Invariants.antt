@@ -7,9 +7,6 @@ decreases-expr_from l = 6 * l.steps
 abbrev pub decreases-infix_from : goal.decreases-infix_from
 decreases-infix_from l = 6 * l.steps
 
-abbrev pub decreases-operated_from : goal.decreases-operated_from
-decreases-operated_from l = 6 * l.steps + 1
-
 abbrev pub decreases-closed_with : goal.decreases-closed_with
 decreases-closed_with l = 6 * l.steps + 1
 
@@ -19,17 +16,8 @@ decreases-cell_with l = 6 * l.steps + 2
 abbrev pub decreases-name_with : goal.decreases-name_with
 decreases-name_with l = 6 * l.steps + 3
 
-abbrev pub decreases-swapped_with : goal.decreases-swapped_with
-decreases-swapped_with l = 6 * l.steps + 3
-
-abbrev pub decreases-exchange_with : goal.decreases-exchange_with
-decreases-exchange_with l = 6 * l.steps + 2
-
 abbrev pub decreases-cas_with : goal.decreases-cas_with
 decreases-cas_with l = 6 * l.steps + 4
-
-abbrev pub decreases-value_with : goal.decreases-value_with
-decreases-value_with l = 6 * l.steps + 4
 
 abbrev pub decreases-unary_with : goal.decreases-unary_with
 decreases-unary_with l = 6 * l.steps + 5

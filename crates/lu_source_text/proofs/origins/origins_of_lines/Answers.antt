@@ -7,7 +7,7 @@ use Rattle.lu_source_text.specs.Grammar.{source_grammar}
 use Rattle.lu_source_text.specs.Origins.{entries}
 use Rattle.lu_source_text.proofs.Drafts.{IsDraft, draft_kept, locals_named, nothing_is}
 use Rattle.lu_source_text.proofs.Complete.{each_there}
-use Rattle.lu_source_text.proofs.Entries.{are_done, told, after_is, drafts_go_on, fails_done, origins_go_on}
+use Rattle.lu_source_text.proofs.Entries.{are_done, IfOk-both, after_is, drafts_go_on, fails_done, origins_go_on}
 use Rattle.lu_source_text.proofs.origins.origins_of_lines.Goals as goal
 
 pub returns-in_err-take_line-clause-fault : goal.returns-in_err-take_line-clause-fault
@@ -40,7 +40,7 @@ fill_all-requires c = locals_named c.take_line.new.draft (draft_kept _ _ _ _ c.l
 
 pub returns-clause-origins : goal.returns-clause-origins
 returns-clause-origins c =
-    told c.origins_of.result _ _ _ c.origins_of.ensures.operations c.origins_of.ensures.indexed (λ origins same indexed.
+    IfOk-both c.origins_of.result _ _ _ c.origins_of.ensures.operations c.origins_of.ensures.indexed (λ origins same indexed.
     are_done _ (drafted_of c.loop-before.draft) _ _ c.loop-before.operations.items origins (ap entries same) (texts_end c.args.lines.now c.loop-before.before (omega arith)) c.loop-before.invariant.origins c.loop-before.invariant.drafts indexed)
 
 pub returns-clause-each : goal.returns-clause-each

@@ -1,7 +1,0 @@
-use Rattle.std.proofs.Common.{◌≡◌, ◌+◌, ◌++◌, drop}
-use Rattle.lu_text.specs.Lines.{texts}
-use Rattle.lu_lint.specs.Runs.{lines_from}
-use Rattle.lu_lint.proofs.runs.lines_from.Given as goal
-
-abbrev pub invariant-loop-before : goal.invariant-loop-before
-invariant-loop-before l = l.found.items ++ lines_from l.word (l.before + 1) (drop l.before (texts l.lines)) ≡ lines_from l.word 1 (texts l.lines)

@@ -1,7 +1,0 @@
-use Rattle.std.proofs.Common.{◌≡◌, ◌++◌, drop, map}
-use Rattle.lu_lint.specs.Said.{said_of}
-use Rattle.lu_lint.specs.Parts.{specification_said}
-use Rattle.lu_lint.proofs.specification.with_specification_faults.Given as goal
-
-abbrev pub invariant-loop-fault : goal.invariant-loop-fault
-invariant-loop-fault over l = said_of l.all.items ++ map (specification_said l.above) (drop l.fault-index l.faults) ≡ said_of l.initial.all.items ++ map (specification_said l.above) l.faults

@@ -1,7 +1,0 @@
-use Rattle.std.proofs.Common.{◌≡◌, take}
-use Rattle.lu_text.specs.Lines.{texts}
-use Rattle.lu_source_lint.specs.Faults.{bytes_of}
-use Rattle.lu_source_lint.proofs.faults.borrowed.Given as goal
-
-abbrev pub invariant-loop-line : goal.invariant-loop-line
-invariant-loop-line l = texts l.borrowed.items ≡ bytes_of (take l.line-index l.lines)

@@ -1,7 +1,0 @@
-use Rattle.std.proofs.Common.{◌≡◌, drop}
-use Rattle.lu_source_lint.specs.Warnings as spec
-use Rattle.lu_source_lint.specs.Warnings.{lines_in}
-use Rattle.lu_source_lint.proofs.warnings.is_read.Given as goal
-
-abbrev pub invariant-loop-line : goal.invariant-loop-line
-invariant-loop-line l = spec.is_read l.name (drop l.line-index (lines_in l.lines)) ≡ spec.is_read l.name (lines_in l.lines)

@@ -1,5 +1,0 @@
-use Rattle.lu_spec.proofs.FreeFaultLines.{given_told}
-use Rattle.lu_spec.proofs.laws.given_told_as_read.Goals as goal
-
-pub returns : goal.returns
-returns _ = λ matrix text faults are. given_told matrix text faults are

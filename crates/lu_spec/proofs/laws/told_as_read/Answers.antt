@@ -1,8 +1,0 @@
-use Rattle.lu_spec.proofs.FaultLines.{none_told, told_as_read}
-use Rattle.lu_spec.proofs.laws.told_as_read.Goals as goal
-
-pub returns-clause-first : goal.returns-clause-first
-returns-clause-first _ = told_as_read
-
-pub returns-clause-none : goal.returns-clause-none
-returns-clause-none _ = none_told
