@@ -30,8 +30,8 @@ fn mark_once(edges: &[Edge], marks: &mut [bool]) -> bool
     ensures fewer { result ≡ true → count_by not marks.new < count_by not marks.old }
 {
     let mut is_changed = false;
-    for behind in 0..edges.len() {
-        if mark_along(edges[edges.len() - 1 - behind], marks) {
+    for back in 0..edges.len() {
+        if mark_along(edges[edges.len() - 1 - back], marks) {
             is_changed = true;
         }
     }

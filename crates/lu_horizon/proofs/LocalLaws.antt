@@ -11,7 +11,7 @@ use Rattle.lu_test.specs.Matrix.{Matrix}
 use Rattle.lu_machine.specs.States.{State, instr_at}
 use Rattle.lu_machine.specs.Steps.{OneStep, RunsOn, is_at_local, is_local, more_local}
 use Rattle.lu_horizon.specs.declared.outlook.Outlook.{Outlook}
-use Rattle.lu_horizon.specs.Code.{behind_local, more_after, run_on}
+use Rattle.lu_horizon.specs.Code.{after_local, more_after, run_on}
 use Rattle.lu_horizon.specs.Own.{IsOpenAt}
 use Rattle.lu_horizon.specs.Outlooks.{IsWeaker}
 use Rattle.lu_horizon.specs.Sure.{HasOutlook}
@@ -36,7 +36,7 @@ local_ends c (JumpIfZero v target) is ends = ends
 local_ends c (Return v) is ends = cc
 
 -- what is after it says no more than what is at each place to which it may go
-local_within : (on : ℕ → Outlook) (place : ℕ) (instr : Instr) → is_local instr ≡ true → (q : ℕ) → MayGoTo instr place q → IsWeaker (behind_local on place instr) (on q)
+local_within : (on : ℕ → Outlook) (place : ℕ) (instr : Instr) → is_local instr ≡ true → (q : ℕ) → MayGoTo instr place q → IsWeaker (after_local on place instr) (on q)
 local_within on place (Set to v) is q goes = rw goes (within_itself (on (place + 1)))
 local_within on place (Compute by to a b) is q goes = rw goes (within_itself (on (place + 1)))
 local_within on place (Load to w i) is q goes = absurd (cc)
@@ -81,16 +81,16 @@ module _ (c : Component) (matrix : Matrix) (t k : ℕ) (rest : Outlook) (code : 
     ahead_on (suc n) place s end a runs =
         by_instr (ahead_on n) (slice_get code place) refl (subst (λ b. MatchBool b ((x : State) × OneStep s (record { thread = t; pick = 0 }) x None × RunsOn n x t end) (end ≡ s)) (at_local place s a) runs)
       where
-        by_local : ((q : ℕ) (x y : State) → IsOpenAt c matrix t k q x → RunsOn n x t y → HasOutlook y t (run_on code known n q)) → (instr : Instr) → slice_get code place ≡ Some instr → (b : Bool) → is_local instr ≡ b → MatchBool b ((x : State) × OneStep s (record { thread = t; pick = 0 }) x None × RunsOn n x t end) (end ≡ s) → HasOutlook end t (if b then behind_local (run_on code known n) place instr else known place)
+        by_local : ((q : ℕ) (x y : State) → IsOpenAt c matrix t k q x → RunsOn n x t y → HasOutlook y t (run_on code known n q)) → (instr : Instr) → slice_get code place ≡ Some instr → (b : Bool) → is_local instr ≡ b → MatchBool b ((x : State) × OneStep s (record { thread = t; pick = 0 }) x None × RunsOn n x t end) (end ≡ s) → HasOutlook end t (if b then after_local (run_on code known n) place instr else known place)
         by_local go instr at true is h =
             let m : Move = record { thread = t; pick = 0 } in
             let on = run_on code known n in
             elim (own_goes c matrix t k s m h.0 None h.1 place a refl instr (here place s a ∙ at)) [
-              | inl goes ↦ outlook_less end t (behind_local on place instr) (on goes.0) (local_within on place instr is goes.0 goes.1) (go goes.0 h.0 end goes.2 h.2)
+              | inl goes ↦ outlook_less end t (after_local on place instr) (on goes.0) (local_within on place instr is goes.0 goes.1) (go goes.0 h.0 end goes.2 h.2)
               | inr ends ↦ absurd (local_ends c instr is ends.0)
             ]
         by_local go instr at false is h = rw h (next place s a)
 
-        by_instr : ((q : ℕ) (x y : State) → IsOpenAt c matrix t k q x → RunsOn n x t y → HasOutlook y t (run_on code known n q)) → (o : Option Instr) → slice_get code place ≡ o → MatchBool (option_map_or is_local o false) ((x : State) × OneStep s (record { thread = t; pick = 0 }) x None × RunsOn n x t end) (end ≡ s) → HasOutlook end t (option_map_or (λ instr. if is_local instr then behind_local (run_on code known n) place instr else known place) o (known place))
+        by_instr : ((q : ℕ) (x y : State) → IsOpenAt c matrix t k q x → RunsOn n x t y → HasOutlook y t (run_on code known n q)) → (o : Option Instr) → slice_get code place ≡ o → MatchBool (option_map_or is_local o false) ((x : State) × OneStep s (record { thread = t; pick = 0 }) x None × RunsOn n x t end) (end ≡ s) → HasOutlook end t (option_map_or (λ instr. if is_local instr then after_local (run_on code known n) place instr else known place) o (known place))
         by_instr go None at h = rw h (next place s a)
         by_instr go (Some instr) at h = by_local go instr at (is_local instr) refl h

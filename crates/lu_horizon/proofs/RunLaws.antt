@@ -6,19 +6,19 @@ use Rattle.lu_component.specs.declared.instr.Operand.{Operand}
 use Rattle.lu_component.specs.Component.{Component}
 use Rattle.lu_machine.specs.Steps.{is_local}
 use Rattle.lu_horizon.specs.declared.outlook.Outlook.{Outlook}
-use Rattle.lu_horizon.specs.Code.{behind_local, outlook_at, run_on, unless_there}
+use Rattle.lu_horizon.specs.Code.{after_local, outlook_at, run_on, unless_there}
 use Rattle.lu_horizon.specs.Outlooks.{IsWeaker, one_before}
 use Rattle.lu_horizon.proofs.SureLaws.{either_less, within_before, within_itself, within_more}
 
 -- one local instruction more
-pub run_over : (code : List Instr) (known : ℕ → Outlook) (n place : ℕ) (instr : Instr) → slice_get code place ≡ Some instr → is_local instr ≡ true → 0 < n → run_on code known n place ≡ behind_local (run_on code known (n - 1)) place instr
+pub run_over : (code : List Instr) (known : ℕ → Outlook) (n place : ℕ) (instr : Instr) → slice_get code place ≡ Some instr → is_local instr ≡ true → 0 < n → run_on code known n place ≡ after_local (run_on code known (n - 1)) place instr
 run_over code known zero place instr at is some = absurd (omega arith)
 run_over code known (suc n) place instr at is some =
     let e : suc n - 1 ≡ n = omega arith in
     rw (e, at, is) refl
 
 -- one that is no jump goes to the next place
-pub after_next : (on : ℕ → Outlook) (place : ℕ) (instr : Instr) → ((target : ℕ) → instr ≢ Jump target) → ((v : Operand) (target : ℕ) → instr ≢ JumpIfZero v target) → behind_local on place instr ≡ on (place + 1)
+pub after_next : (on : ℕ → Outlook) (place : ℕ) (instr : Instr) → ((target : ℕ) → instr ≢ Jump target) → ((v : Operand) (target : ℕ) → instr ≢ JumpIfZero v target) → after_local on place instr ≡ on (place + 1)
 after_next on place (Set to v) jump branch = refl
 after_next on place (Compute by to a b) jump branch = refl
 after_next on place (Load to w i) jump branch = refl

@@ -42,10 +42,10 @@ outlook_at c on rest place (JumpIfZero v target) =
 outlook_at c on rest place (Return v) = one_before rest
 
 -- the outlook after a local instruction at this place
-abbrev pub behind_local : (ℕ → Outlook) → ℕ → Instr → Outlook
-behind_local on place (Jump target) = on target
-behind_local on place (JumpIfZero v target) = either (on target) (on (place + 1))
-behind_local on place _ = on (place + 1)
+abbrev pub after_local : (ℕ → Outlook) → ℕ → Instr → Outlook
+after_local on place (Jump target) = on target
+after_local on place (JumpIfZero v target) = either (on target) (on (place + 1))
+after_local on place _ = on (place + 1)
 
 -- what is ahead of a thread that runs on from this place by at most n local instructions, where
 -- `known` has what is ahead of a move that begins at a place
@@ -53,7 +53,7 @@ abbrev pub run_on : List Instr → (ℕ → Outlook) → ℕ → ℕ → Outlook
 run_on code known zero place = known place
 run_on code known (suc n) place =
     option_map_or
-    (λ i. if is_local i then behind_local (run_on code known n) place i else known place)
+    (λ i. if is_local i then after_local (run_on code known n) place i else known place)
     (slice_get code place) (known place)
 
 -- how many local instructions may follow this one, where a move begins with it

@@ -33,7 +33,13 @@ pub(crate) fn outlook_of(known: &[Outlook], place: usize) -> Outlook
 }
 
 /// The outlook after an instruction that traps unless its cell is there.
-fn behind(component: &Component, array: u8, index: Operand, next: Outlook, rest: Outlook) -> Outlook
+fn after_cell(
+    component: &Component,
+    array: u8,
+    index: Operand,
+    next: Outlook,
+    rest: Outlook,
+) -> Outlook
     ensures { result ≡ unless_there (is_certain_cell component.now array index) next rest }
 {
     if is_certain_cell(component, array, index) {
@@ -102,11 +108,11 @@ pub(crate) fn certain(
 {
     let most = more_after(component, instr);
     let next = run_on(code, known, most, BRANCHES, place + 1);
-    let behind = match *instr {
+    let after = match *instr {
         Instr::Set { .. } | Instr::Compute { .. } => next,
         Instr::Load { array, index, .. }
         | Instr::Store { array, index, .. }
-        | Instr::Cas { array, index, .. } => behind(component, array, index, next, rest),
+        | Instr::Cas { array, index, .. } => after_cell(component, array, index, next, rest),
         Instr::Unlock(_) => next.either(rest),
         Instr::Jump(target) => run_on(code, known, most, BRANCHES, usize::from(target)),
         Instr::JumpIfZero { target, .. } => {
@@ -117,7 +123,7 @@ pub(crate) fn certain(
             return Outlook::NOTHING;
         }
     };
-    behind.one_before()
+    after.one_before()
 }
 
 /// What is ahead where a move opens a call of this code: no more than that.

@@ -155,8 +155,8 @@ fn go_through(code: &[Instr], known: &mut Vec<Dead>) -> bool
     ensures settled { result ≡ false → AreDead code.now known.new.items }
 {
     let mut less = false;
-    for behind in 0..code.len() {
-        less |= look_at_place(code, code.len() - 1 - behind, known);
+    for back in 0..code.len() {
+        less |= look_at_place(code, code.len() - 1 - back, known);
     }
     less
 }

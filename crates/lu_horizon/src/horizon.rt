@@ -208,8 +208,8 @@ fn of_thread(
     let mut calls = Vec::new(alloc);
     let mut rest = Outlook::NO_MOVE;
     let many = matrix.calls(t);
-    for behind in 0..many {
-        let code = code_of(component, matrix.call(t, many - 1 - behind).op);
+    for back in 0..many {
+        let code = code_of(component, matrix.call(t, many - 1 - back).op);
         let places = of_code(alloc, component, code, rest, most)?;
         rest = places.before();
         calls.insert(0, places)?;

@@ -96,4 +96,4 @@ pub all_kids : (found so_far : List SerialHint) (path : List SerialOp) (hs : Lis
 all_kids found so_far path hs i law past is =
     is
     ∙ (ap (λ (x : List Branch). with_set found path (members_from (contains hs []) x)) (take_all i (branches_of hs) past)
-    ∙ ap (with_set found path) (sym law.parted))
+    ∙ ap (with_set found path) (sym law.members))

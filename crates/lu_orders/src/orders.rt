@@ -157,8 +157,8 @@ impl Orders {
         ensures numbers { IsSome result → AreWithOne row.old cap left row.new }
         ensures answers { CountsUpTo self.now left → IsSome result }
     {
-        for behind in 0..left + 1 {
-            let moves = left - behind;
+        for back in 0..left + 1 {
+            let moves = left - back;
             row[moves] = self.with_one(cap, moves, row)?;
         }
         Some(())
@@ -176,8 +176,8 @@ impl Orders {
         }
         let mut row = [0; MOST_MOVES as usize + 1];
         start(&mut row);
-        for behind in 0..caps.len() {
-            let cap = usize::from(caps[caps.len() - 1 - behind]);
+        for back in 0..caps.len() {
+            let cap = usize::from(caps[caps.len() - 1 - back]);
             self.add_thread(cap, left, &mut row)?;
         }
         Some(row[left])

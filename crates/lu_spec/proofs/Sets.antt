@@ -98,7 +98,7 @@ in_joined (k ∷ ks) (suc i) b h at has = has_right (after k.0 k.1) (joined ks) 
 -- the members: the empty one, or one of a branch
 pub parted : (hs : List (List SerialOp)) (q : List SerialOp) → IsBranching hs → Has hs q → (q ≡ []) ⊎ Has (joined (branches_of hs)) q
 parted hs q is has =
-    elim (has_either (empty_if (contains hs [])) (joined (branches_of hs)) q (sym (ap (λ (x : List (List SerialOp)). contains x q) is.parted) ∙ has)) [
+    elim (has_either (empty_if (contains hs [])) (joined (branches_of hs)) q (sym (ap (λ (x : List (List SerialOp)). contains x q) is.members) ∙ has)) [
       | inl empty ↦ inl (only_empty (contains hs []) q empty)
       | inr branch ↦ inr branch
     ]
@@ -108,7 +108,7 @@ parted hs q is has =
     only_empty false p e = absurd cc
 
 pub of_branch : (hs : List (List SerialOp)) (q : List SerialOp) → IsBranching hs → Has (joined (branches_of hs)) q → Has hs q
-of_branch hs q is has = ap (λ (x : List (List SerialOp)). contains x q) is.parted ∙ has_right (empty_if (contains hs [])) (joined (branches_of hs)) q has
+of_branch hs q is has = ap (λ (x : List (List SerialOp)). contains x q) is.members ∙ has_right (empty_if (contains hs [])) (joined (branches_of hs)) q has
 
 -- ---- beginnings
 

@@ -199,7 +199,7 @@ module _ (Set : List SerialOp → Type 0) (question : TailQuestion) (s : State) 
     tail = record { many = rest.many; apart = sharers_apart question.sharers; each = λ j lt. solo_at j lt (cases_lt j (length s.threads)) };
     short = rest.short;
     number = is;
-    behind = behind;
+    after = behind;
     good = rest.good;
   }
     where
@@ -220,6 +220,6 @@ tail_all Set left n s h g agree re t =
     let short = t.short in
     let all = orders_all s (IsGoodAfter Set g) left t.sharing t.events_of (all_moves t.moves) [] s [] (refl, refl) t.moves t.tail refl (omega arith)
     (λ v end k leads complete.
-    (let here = one_for_all Set s h agree t.moves t.sharing t.events_of t.tail v end k leads complete t.judging t.behind t.good in
+    (let here = one_for_all Set s h agree t.moves t.sharing t.events_of t.tail v end k leads complete t.judging t.after t.good in
     inl (complete, witness_reordered Set (h ++ k) (g ++ k) (reordered_then h g k re) here))) in
     subst (λ (x : ℕ). AllEndSo (IsGoodAfter Set g) s left (Below []) (completes x)) (sym t.number) all

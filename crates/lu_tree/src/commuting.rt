@@ -202,12 +202,12 @@ fn commute<const RUNS_LOCAL: bool>(
 
 /// What is known after the only move of the thread, by a hint or since it was walked.
 #[inline(always)]
-fn behind<'h: 'k, 'k>(hints: &Hints<'h>, known: &'k Known, thread: u8) -> Option<&'k Known>
+fn known_after<'h: 'k, 'k>(hints: &Hints<'h>, known: &'k Known, thread: u8) -> Option<&'k Known>
     ensures { IfSome result (λ below. IsKnownBy hints.now known.now thread below.now) }
 {
-    match hints.behind(thread) {
+    match hints.after(thread) {
         Some(below) => Some(below),
-        None => known.behind(thread),
+        None => known.after(thread),
     }
 }
 
@@ -230,10 +230,10 @@ pub(crate) fn hints_after<'h: 'k, 'k, const RUNS_LOCAL: bool>(
         if other == thread {
             continue;
         }
-        let Some(first) = behind(hints, known, other) else {
+        let Some(first) = known_after(hints, known, other) else {
             continue;
         };
-        let Some(below) = first.behind(thread) else {
+        let Some(below) = first.after(thread) else {
             continue;
         };
         if commute::<RUNS_LOCAL>(other, thread, dead, machine) {

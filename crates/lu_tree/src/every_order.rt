@@ -38,7 +38,7 @@ fn without(alloc: Global, ops: &[SerialOp], i: usize) -> Result<Vec<SerialOp>, A
 fn kid_with<T: SerialTree>(tree: &T, place: T::Place, label: SerialOp) -> Option<T::Place>
     requires { T.is_place tree.now place }
     ensures place { IfSome result (T.is_place tree.now) }
-    ensures behind { IfSome result (IsLedTo (T.below tree.now) (label ∷ []) place) }
+    ensures after { IfSome result (IsLedTo (T.below tree.now) (label ∷ []) place) }
 {
     for i in 0..tree.kid_count(place) {
         let (op, kid) = tree.kid(place, i);
@@ -52,7 +52,7 @@ fn kid_with<T: SerialTree>(tree: &T, place: T::Place, label: SerialOp) -> Option
 /// The place to which the operations lead from the root.
 fn place_after<T: SerialTree>(tree: &T, ops: &[SerialOp]) -> Option<T::Place>
     ensures place { IfSome result (T.is_place tree.now) }
-    ensures behind { IfSome result (IsPlaceAfter (T.below tree.now) ops.now (T.members tree.now)) }
+    ensures after { IfSome result (IsPlaceAfter (T.below tree.now) ops.now (T.members tree.now)) }
 {
     let mut place = tree.root();
     for op in ops {

@@ -39,7 +39,7 @@ impl<'k> Hints<'k> {
 
     /// What is known after the only move of the thread.
     #[inline(always)]
-    pub(crate) fn behind(&self, thread: u8) -> Option<&'k Known>
+    pub(crate) fn after(&self, thread: u8) -> Option<&'k Known>
         ensures { IfSome result (λ below. IsHint self.now thread below.now) }
     {
         match self.by_thread.get(usize::from(thread)) {
@@ -54,11 +54,7 @@ impl<'k> Hints<'k> {
         ensures only { IfSome result (λ _. picks ≡ 1) }
         ensures hint { IfSome result (λ below. IsHint self.now thread below.now) }
     {
-        if picks == 1 {
-            self.behind(thread)
-        } else {
-            None
-        }
+        if picks == 1 { self.after(thread) } else { None }
     }
 
     /// This is known after the only move of the thread.
@@ -86,7 +82,7 @@ impl Known {
     }
 
     /// What is known after the only move of the thread.
-    pub(crate) fn behind(&self, thread: u8) -> Option<&Known>
+    pub(crate) fn after(&self, thread: u8) -> Option<&Known>
         ensures { IfSome result (λ below. IsKid self.now thread below.now) }
     {
         for (of, below) in &self.kids {

@@ -176,7 +176,7 @@ fn question_at<'t, T: SerialTree>(
     node: &mut Node<'_, 't, T>,
 ) -> Option<TailQuestion>
     ensures same { node.new ≡ node.old }
-    ensures behind { IfSome result (λ q. StartsAfter q.judging node.old.trail.history) }
+    ensures after { IfSome result (λ q. StartsAfter q.judging node.old.trail.history) }
 {
     if let Some(sharers) = ahead.tables.horizon.last_sharers(&node.machine, left) {
         return Some(TailQuestion {

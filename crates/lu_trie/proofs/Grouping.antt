@@ -51,7 +51,7 @@ pub node-branching : (ends : Bool) (bs : List Branch) → AreBranches bs → IsB
 node-branching ends bs are =
     let same = node-branches ends bs are in
     record {
-      parted = ap (λ b. members_from b bs) (sym (node-nil ends bs)) ∙ ap (members_from (contains (members_from ends bs) [])) (sym same);
+      members = ap (λ b. members_from b bs) (sym (node-nil ends bs)) ∙ ap (members_from (contains (members_from ends bs) [])) (sym same);
       branches = subst AreBranches (sym same) are;
     }
 

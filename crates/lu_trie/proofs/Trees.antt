@@ -21,12 +21,12 @@ lighter-at (k ∷ ks) (suc i) b full is = omega (arith, weight-append (after k.0
 module _ (hs : List (List SerialOp)) (is : IsBranching hs) where
   -- the members with a first entry are those of the branches
   pub branching-cons : (p : SerialOp) (q : List SerialOp) → contains hs (p ∷ q) ≡ kids_contain (branches_of hs) p q
-  branching-cons p q = ap (λ x. contains x (p ∷ q)) is.parted ∙ node-cons (contains hs []) (branches_of hs) p q
+  branching-cons p q = ap (λ x. contains x (p ∷ q)) is.members ∙ node-cons (contains hs []) (branches_of hs) p q
 
   -- a branch weighs less than the whole
   pub branch_lighter : (i : ℕ) (b : Branch) → slice_get (branches_of hs) i ≡ Some b → weight b.1 < weight hs
   branch_lighter i b at =
-      let whole : weight hs ≡ weight (members_from (contains hs []) (branches_of hs)) = ap weight is.parted in
+      let whole : weight hs ≡ weight (members_from (contains hs []) (branches_of hs)) = ap weight is.members in
       omega (arith, whole, weight-append (empty_if (contains hs [])) (joined (branches_of hs)), lighter-at (branches_of hs) i b is.branches.full at)
 
   module _ (h : List SerialOp) (d : SerialOp) (some : 1 ≤ length h) where
@@ -53,7 +53,7 @@ length-taken bs i b lt at =
     ∙ length-joined-push (take i bs) b
 
 pub branching-length : (hs : List (List SerialOp)) → IsBranching hs → length hs ≡ length (empty_if (contains hs [])) + length (joined (branches_of hs))
-branching-length hs is = ap length is.parted ∙ length-node (contains hs []) (branches_of hs)
+branching-length hs is = ap length is.members ∙ length-node (contains hs []) (branches_of hs)
 
 -- the entry is not the label of any branch below i
 abbrev pub ApartBelow : List Branch → SerialOp → ℕ → Type 0

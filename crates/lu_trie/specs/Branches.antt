@@ -55,7 +55,7 @@ branches_of ((op ∷ history) ∷ histories) = with_first op history (branches_o
 -- the members are the empty history, where it is one, and those of the branches, each after its
 -- label
 pub record IsBranching (histories : List (List SerialOp)) : Type 0 where
-  pub parted : histories ≡ members_from (contains histories []) (branches_of histories)
+  pub members : histories ≡ members_from (contains histories []) (branches_of histories)
   pub branches : AreBranches (branches_of histories)
 
 -- the branch at place i has the label

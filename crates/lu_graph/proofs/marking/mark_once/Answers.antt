@@ -8,31 +8,31 @@ use Rattle.lu_graph.proofs.Spread.{MarkedSoFar, settled_all, so_far_kept, so_far
 use Rattle.lu_graph.proofs.marking.mark_once.Goals as goal
 use Rattle.lu_graph.proofs.marking.mark_once.Goals.{then-mark_along, else-mark_along}
 
-pub loop-behind-preserved : goal.loop-behind-preserved
-loop-behind-preserved c =
+pub loop-back-preserved : goal.loop-back-preserved
+loop-back-preserved c =
     let edges = c.args.edges.now in
     let old = c.args.marks.now in
-    let mid = c.loop-behind.marks in
+    let mid = c.loop-back.marks in
     let new = c.mark_along.new.marks in
-    let behind = c.loop-behind.behind in
-    let lt : behind < length c.args.edges.now = omega arith in
-    let k : ℕ = length c.args.edges.now - 1 - c.loop-behind.behind in
-    let e : Edge = get_or c.args.edges.now (length c.args.edges.now - 1 - c.loop-behind.behind) (edge 0 0) in
-    let here : (length c.args.edges.now - 1 - c.loop-behind.behind) + c.loop-behind.behind + 1 ≡ length c.args.edges.now = omega (arith, lt) in
-    let at = slice_get-get_or c.args.edges.now (length c.args.edges.now - 1 - c.loop-behind.behind) (edge 0 0) (omega (arith, lt)) in
-    elim c.if-mark_along.branch as (λ _. MarkedSoFar c.args.edges.now c.args.marks.now c.mark_along.new.marks (c.loop-behind.behind + 1) c.if-mark_along.is_changed) [
+    let back = c.loop-back.back in
+    let lt : back < length c.args.edges.now = omega arith in
+    let k : ℕ = length c.args.edges.now - 1 - c.loop-back.back in
+    let e : Edge = get_or c.args.edges.now (length c.args.edges.now - 1 - c.loop-back.back) (edge 0 0) in
+    let here : (length c.args.edges.now - 1 - c.loop-back.back) + c.loop-back.back + 1 ≡ length c.args.edges.now = omega (arith, lt) in
+    let at = slice_get-get_or c.args.edges.now (length c.args.edges.now - 1 - c.loop-back.back) (edge 0 0) (omega (arith, lt)) in
+    elim c.if-mark_along.branch as (λ _. MarkedSoFar c.args.edges.now c.args.marks.now c.mark_along.new.marks (c.loop-back.back + 1) c.if-mark_along.is_changed) [
       | then-mark_along w ↦
           (let marks = subst (λ (b : Bool). MatchBool b (MarksFrom e mid new) (MarksNone e mid new)) w.if-mark_along.true c.mark_along.ensures in
-          subst (λ (b : Bool). MarkedSoFar edges old new (behind + 1) b) (sym w.is_changed-is)
-          (so_far_marked edges old mid new behind k c.loop-behind.is_changed e here at c.loop-behind.invariant marks))
+          subst (λ (b : Bool). MarkedSoFar edges old new (back + 1) b) (sym w.is_changed-is)
+          (so_far_marked edges old mid new back k c.loop-back.is_changed e here at c.loop-back.invariant marks))
       | else-mark_along w ↦
           (let marks = subst (λ (b : Bool). MatchBool b (MarksFrom e mid new) (MarksNone e mid new)) w.if-mark_along.false c.mark_along.ensures in
-          subst (λ (b : Bool). MarkedSoFar edges old new (behind + 1) b) (sym w.is_changed-is)
-          (so_far_kept edges old mid new behind k c.loop-behind.is_changed e here at c.loop-behind.invariant marks))
+          subst (λ (b : Bool). MarkedSoFar edges old new (back + 1) b) (sym w.is_changed-is)
+          (so_far_kept edges old mid new back k c.loop-back.is_changed e here at c.loop-back.invariant marks))
     ]
 
 pub returns-clause-settled : goal.returns-clause-settled
-returns-clause-settled c = settled_all c.args.edges.now c.args.marks.now c.loop-behind.marks c.loop-behind.behind c.loop-behind.is_changed (omega arith) c.loop-behind.invariant
+returns-clause-settled c = settled_all c.args.edges.now c.args.marks.now c.loop-back.marks c.loop-back.back c.loop-back.is_changed (omega arith) c.loop-back.invariant
 
-pub loop-behind-init : goal.loop-behind-init
-loop-behind-init c = so_far_none c.args.edges.now c.args.marks.now
+pub loop-back-init : goal.loop-back-init
+loop-back-init c = so_far_none c.args.edges.now c.args.marks.now

@@ -16,7 +16,7 @@ loop-other-preserved g c =
       from = elim c.if-commute.branch [
         | then-commute w ↦
             (let commute : Commute dead c.loop-other.other c.args.thread s = subst (Commute dead c.loop-other.other c.args.thread) i.machine (c.commute.ensures.commute.0 w.if-commute.true) in
-            let more = from_more dead s hints known c.args.thread c.loop-other.other c.in-Some.first.now c.in-Some-behind.below.now c.loop-other.found w.add.new.self i.from w.add.ensures commute c.in-Some.ensures c.in-Some-behind.ensures in
+            let more = from_more dead s hints known c.args.thread c.loop-other.other c.in-Some.first.now c.in-Some-after.below.now c.loop-other.found w.add.new.self i.from w.add.ensures commute c.in-Some.ensures c.in-Some-after.ensures in
             subst (AreFrom dead s hints known c.args.thread) (sym w.found-is) more)
         | else-commute w ↦ subst (AreFrom dead s hints known c.args.thread) (sym w.found-is) i.from
       ];

@@ -19,7 +19,7 @@ loop-i-preserved g t c =
     serve_more hs c.args.ops.now c.loop-i.i d c.loop-i-test.true c.loop-i.invariant (λ first.
     (elim c.if-not-has_thread.branch [
       | then-not-has_thread+in-Some+in-Ok+else-not-has_every_order w ↦ λ q same.
-          w.in-Some.ensures.behind q (w.has_every_order.ensures w.if-not-has_every_order.false q (λ u. same u ∙ ap (entries u) (sym (w.deref.ensures.value ∙ w.in-Ok.ensures))))
+          w.in-Some.ensures.after q (w.has_every_order.ensures w.if-not-has_every_order.false q (λ u. same u ∙ ap (entries u) (sym (w.deref.ensures.value ∙ w.in-Ok.ensures))))
       | else-not-has_thread w ↦ absurd (c.has_thread.ensures w.if-not-has_thread.false first)
     ]))
 

@@ -4,8 +4,8 @@ use Rattle.lu_trie.specs.Branches.{branches_of}
 use Rattle.lu_tree.proofs.OrderSets.{kid_after}
 use Rattle.lu_tree.proofs.every_order.kid_with.Goals as goal
 
-pub returns-then-eq-clause-behind : goal.returns-then-eq-clause-behind
-returns-then-eq-clause-behind g c =
+pub returns-then-eq-clause-after : goal.returns-then-eq-clause-after
+returns-then-eq-clause-after g c =
     let hs = g.T.SerialTree.below c.args.tree.now c.args.place in
     let kid = g.T.SerialTree.below c.args.tree.now c.kid-kid.result.1 in
     let law = g.met.T.SerialTree.branching c.args.tree.now c.args.place c.requires in

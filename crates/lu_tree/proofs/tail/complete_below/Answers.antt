@@ -16,4 +16,4 @@ returns-clause-tail g c =
     let numbers : IfSome c.interleavings.result (λ n. n ≡ capped (interleavings lengths)) = rw c.deref.ensures.value at c.interleavings.ensures.number in
     let rest : IsRest Set c.in_ok-question.question s h 0 c.args.left lengths = rw c.question_at.ensures.same at c.in_ok-lengths.ensures.rest in
     IfSome_then c.interleavings.result {Q = IsGoodTail Set s h c.args.left} numbers
-    (λ n is. rest_all Set c.in_ok-question.question s h c.args.left n lengths c.in_ok-question.ensures.behind rest is)
+    (λ n is. rest_all Set c.in_ok-question.question s h c.args.left n lengths c.in_ok-question.ensures.after rest is)

@@ -4,19 +4,19 @@ use Rattle.lu_orders.specs.Orders.{orders_within}
 use Rattle.lu_orders.proofs.CapOrders.{numbers_first, numbers_more, zeros_of}
 use Rattle.lu_orders.proofs.orders.Orders.orders_within.Goals as goal
 
-pub loop-behind-init : goal.loop-behind-init
-loop-behind-init c =
+pub loop-back-init : goal.loop-back-init
+loop-back-init c =
     let row : c.start.new.row ≡ slice_set (zeros_of 257) 0 1 = c.start.ensures in
     record {
       many = ap length row ∙ length-set (zeros_of 257) 0 1;
       numbers = numbers_first 256 c.args.left c.args.caps.now c.start.new.row row;
     }
 
-pub loop-behind-preserved : goal.loop-behind-preserved
-loop-behind-preserved c =
+pub loop-back-preserved : goal.loop-back-preserved
+loop-back-preserved c =
     let caps = c.args.caps.now in
-    let b = c.loop-behind.behind in
-    let i = c.loop-behind.invariant in
+    let b = c.loop-back.back in
+    let i = c.loop-back.invariant in
     record {
       many = c.add_thread.ensures.many ∙ i.many;
       numbers = numbers_more caps b c.args.left c.add_thread.new.row (omega arith) (rw (← c.from-cap.ensures) (c.add_thread.ensures.numbers (search rules) (λ j. orders_within j (drop (length caps - b) caps)) i.numbers));
@@ -25,6 +25,6 @@ loop-behind-preserved c =
 pub returns-clause-number : goal.returns-clause-number
 returns-clause-number c =
     let caps = c.args.caps.now in
-    let whole : length caps - c.loop-behind.behind ≡ 0 = omega arith in
-    let number = c.loop-behind.invariant.numbers c.args.left (omega arith) in
+    let whole : length caps - c.loop-back.back ≡ 0 = omega arith in
+    let number = c.loop-back.invariant.numbers c.args.left (omega arith) in
     rw whole at number

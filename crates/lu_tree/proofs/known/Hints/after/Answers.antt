@@ -1,7 +1,7 @@
 use Rattle.std.proofs.Common.{◌≡◌, Some, slice_get, sym, ◌∙◌, ap}
 use Rattle.std.proofs.lemmas.Option.{slice_get-get_or}
 use Rattle.lu_tree.proofs.KnownLaws.{hint_there}
-use Rattle.lu_tree.proofs.known.Hints.behind.Goals as goal
+use Rattle.lu_tree.proofs.known.Hints.after.Goals as goal
 
 pub returns-in-Some : goal.returns-in-Some
 returns-in-Some c =
