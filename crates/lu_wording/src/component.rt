@@ -527,8 +527,8 @@ fn wording_of_words(
     text: &[u8],
     words: &[&[u8]],
 ) -> Result<String, AllocError> {
-    let (label, behind) = after_label(draft, words);
-    let Some((word, rest)) = behind.split_first() else {
+    let (label, after) = after_label(draft, words);
+    let Some((word, rest)) = after.split_first() else {
         return String::from_str(alloc, "this line has a fault");
     };
     match kind {
@@ -539,8 +539,8 @@ fn wording_of_words(
         LangFaultKind::Limit => limit(alloc, draft, words),
         LangFaultKind::Flow => flow(alloc, draft),
         LangFaultKind::Name => match label {
-            Some(label) => labelled_name(alloc, draft, label, behind),
-            None => name(alloc, draft, behind),
+            Some(label) => labelled_name(alloc, draft, label, after),
+            None => name(alloc, draft, after),
         },
     }
 }
