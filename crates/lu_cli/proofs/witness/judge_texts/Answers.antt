@@ -2,9 +2,9 @@ use Rattle.std.proofs.Common.{List, inl, subst}
 use Rattle.lu_recorded.specs.declared.recorded.Recorded.{Recorded}
 use Rattle.std.proofs.lemmas.Result.{err_from_is_err_and}
 use Rattle.lu_text.specs.Lines.{texts}
-use Rattle.lu_cli.specs.Judge.{IsJudgedSerially}
+use Rattle.lu_cli.specs.Witness.{IsJudgedSerially}
 use Rattle.lu_cli.proofs.Judged.{recorded_refused}
-use Rattle.lu_cli.proofs.judge.judge_texts.Goals as goal
+use Rattle.lu_cli.proofs.witness.judge_texts.Goals as goal
 
 pub returns-in_err-all : goal.returns-in_err-all
 returns-in_err-all c =

@@ -2,8 +2,8 @@
 
 ghost use Rattle.std.specs.Prelude.{◌≡◌, IfOk};
 ghost use Rattle.lu_text.specs.Lines.{texts};
-ghost use Rattle.lu_cli.specs.Judge as spec;
-ghost use Rattle.lu_cli.specs.Judge.{IsAnswerToJudgeAgainst, IsAnswerToJudge, JudgesBy, JudgesSerially, JudgesTexts, JudgesTextsAgainst, ShowsFirst, four_parts, seen_as_four, seen_as_three, three_parts};
+ghost use Rattle.lu_cli.specs.Witness as spec;
+ghost use Rattle.lu_cli.specs.Witness.{IsAnswerToWitnessAgainst, IsAnswerToWitness, JudgesBy, JudgesSerially, JudgesTexts, JudgesTextsAgainst, ShowsFirst, four_parts, seen_as_four, seen_as_three, three_parts};
 ghost use Rattle.lu_cli.specs.Refusals.{Answered};
 
 use crate::answer::Answer;
@@ -15,7 +15,7 @@ use lu_recorded::{Recorded, first_unwitnessed, read_all, write_reason_of, write_
 use lu_replay::set_or_offence;
 use lu_report::Bounds;
 use lu_serial::learn;
-use lu_spec::{Spec, read_given_spec};
+use lu_spec::{Marks, Spec, read_given_spec};
 use lu_trie::SerialTree;
 use std::alloc::{AllocError, Global};
 
@@ -24,7 +24,7 @@ fn all_witnessed(alloc: Global, count: usize) -> Result<Answer, AllocError>
     ensures { IfOk result (λ answer. answer ≡ spec.all_witnessed count) }
 {
     Ok(Answer {
-        text: format!(in alloc; "judge pass {count}\n")?,
+        text: format!(in alloc; "witness pass {count}\n")?,
         status: 0,
     })
 }
@@ -38,7 +38,7 @@ fn unwitnessed(
 ) -> Result<Answer, AllocError>
     ensures { IfOk result (λ a. a ≡ spec.unwitnessed number history.now reason.now) }
 {
-    let mut text = format!(in alloc; "judge fail {number}\n---\n")?;
+    let mut text = format!(in alloc; "witness fail {number}\n---\n")?;
     text.push_str(history)?;
     text.push_str("---\n")?;
     text.push_str(reason)?;
@@ -121,13 +121,13 @@ fn judge_texts(
     Ok(judge_serially(alloc, test, bounds, &all)?)
 }
 
-/// `lineup judge`: component, matrix, and recorded histories.
-pub(crate) fn answer_judge(
+/// `lineup witness`: component, matrix, and recorded histories.
+pub(crate) fn answer_witness(
     alloc: Global,
     bounds: Bounds,
     parts: &[&[u8]],
 ) -> Result<Answer, Refusal>
-    ensures { Answered (IsAnswerToJudge bounds (texts parts.now)) result }
+    ensures { Answered (IsAnswerToWitness bounds (texts parts.now)) result }
 {
     let (component, matrix, histories) = three_parts(parts).ok_or(Refusal::Parts)?;
     let case = read_texts(alloc, component, matrix)?;
@@ -142,12 +142,13 @@ pub(crate) fn answer_judge(
 fn judge_texts_against(
     alloc: Global,
     test: Test<'_>,
+    marks: Marks,
     spec: &[u8],
     histories: &[&[u8]],
 ) -> Result<Answer, Refusal>
-    ensures { JudgesTextsAgainst test.entry spec.now (texts histories.now) result }
+    ensures { JudgesTextsAgainst test.entry marks spec.now (texts histories.now) result }
 {
-    let specification = read_given_spec(alloc, test.matrix, spec)?;
+    let specification = read_given_spec(alloc, test.matrix, spec, marks)?;
     let all = read_all(alloc, test.matrix, histories)?;
     Ok(judge_by(alloc, test, &specification.tree(), &all)?)
 }
@@ -165,9 +166,13 @@ fn four_parts<'a, 'b>(
     Some((parts[0], parts[1], parts[2], &parts[3..]))
 }
 
-/// `lineup judge --spec`: component, matrix, specification, and recorded histories.
-pub(crate) fn answer_judge_against(alloc: Global, parts: &[&[u8]]) -> Result<Answer, Refusal>
-    ensures { Answered (IsAnswerToJudgeAgainst (texts parts.now)) result }
+/// `lineup witness --spec`: component, matrix, specification, and recorded histories.
+pub(crate) fn answer_witness_against(
+    alloc: Global,
+    marks: Marks,
+    parts: &[&[u8]],
+) -> Result<Answer, Refusal>
+    ensures { Answered (IsAnswerToWitnessAgainst marks (texts parts.now)) result }
 {
     let (component, matrix, spec, histories) = four_parts(parts).ok_or(Refusal::Parts)?;
     let case = read_texts(alloc, component, matrix)?;
@@ -175,5 +180,5 @@ pub(crate) fn answer_judge_against(alloc: Global, parts: &[&[u8]]) -> Result<Ans
         component: &case.component,
         matrix: &case.matrix,
     };
-    judge_texts_against(alloc, test, spec, histories)
+    judge_texts_against(alloc, test, marks, spec, histories)
 }

@@ -1,8 +1,8 @@
 use Rattle.std.proofs.Common.{◌≡◌, Some, slice_get, sym, ap, ◌∙◌}
 use Rattle.std.proofs.lemmas.Option.{get_or_from_slice_get}
 use Rattle.std.proofs.lemmas.Result.{IfOk-weaker}
-use Rattle.lu_cli.specs.Judge.{IsJudgedByMembers, IsShown}
-use Rattle.lu_cli.proofs.judge.judge_by.Goals as goal
+use Rattle.lu_cli.specs.Witness.{IsJudgedByMembers, IsShown}
+use Rattle.lu_cli.proofs.witness.judge_by.Goals as goal
 
 pub returns-in-Some : goal.returns-in-Some
 returns-in-Some g c =

@@ -5,9 +5,9 @@ use Rattle.lu_machine.proofs.Starting.{start_there}
 use Rattle.lu_history.specs.declared.serial.SerialOp.{SerialOp}
 use Rattle.lu_serial.specs.Offences.{IsSetOf}
 use Rattle.lu_refute.proofs.Fitting.{learnt_closes}
-use Rattle.lu_cli.specs.Judge.{IsJudgedByMembers, IsJudgedSerially}
+use Rattle.lu_cli.specs.Witness.{IsJudgedByMembers, IsJudgedSerially}
 use Rattle.lu_cli.specs.Serial.{IsOffenceReported}
-use Rattle.lu_cli.proofs.judge.judge_serially.Goals as goal
+use Rattle.lu_cli.proofs.witness.judge_serially.Goals as goal
 
 pub closure-requires-clause-deterministic : goal.closure-requires-clause-deterministic
 closure-requires-clause-deterministic c =

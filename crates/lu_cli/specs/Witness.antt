@@ -1,4 +1,4 @@
--- What `judge` answers.
+-- What `witness` answers.
 use Rattle.std.specs.Prelude.{ℕ, ◌++◌, codes, List, ◌≡◌, length, Option, Some, None, slice_get, ◌∷◌, ◌⊎◌, Result, IfOk}
 use Rattle.std.specs.Fmt.{decimal}
 use Rattle.lu_text.specs.Words.{Word}
@@ -10,6 +10,7 @@ use Rattle.lu_machine.specs.Starts.{IsStart}
 use Rattle.lu_history.specs.declared.serial.SerialOp.{SerialOp}
 use Rattle.lu_serial.specs.Offences.{NoOffence}
 use Rattle.lu_witness.specs.Witnesses.{IsMember}
+use Rattle.lu_spec.specs.declared.given.Marks.{Marks}
 use Rattle.lu_spec.specs.Beginnings.{IsClosureOf}
 use Rattle.lu_recorded.specs.declared.recorded.Recorded.{Recorded}
 use Rattle.lu_report.specs.Limits.{Bounds}
@@ -27,12 +28,12 @@ use Rattle.lu_cli.specs.Serial.{AreSerial, IsOffenceReported}
 -- this many histories have their witnesses
 abbrev pub all_witnessed : ℕ → Answer
 all_witnessed count =
-    record { text = codes "judge pass " ++ decimal count ++ codes "\n"; status = 0 }
+    record { text = codes "witness pass " ++ decimal count ++ codes "\n"; status = 0 }
 
 -- history n has not its witnesses: its text, and why
 abbrev pub unwitnessed : ℕ → List ℕ → List ℕ → Answer
 unwitnessed n history reason = record {
-  text = codes "judge fail " ++ decimal n ++ codes "\n---\n" ++ history ++ codes "---\n" ++ reason;
+  text = codes "witness fail " ++ decimal n ++ codes "\n---\n" ++ history ++ codes "---\n" ++ reason;
   status = 1;
 }
 
@@ -93,20 +94,22 @@ IsJudgedSerially c m limits all answer =
 abbrev pub IsJudgedTexts : Component → Matrix → Bounds → List (List ℕ) → Answer → Type 0
 IsJudgedTexts c matrix limits texts = ToRecorded matrix texts (IsJudgedSerially c matrix limits)
 
-abbrev pub IsAnswerToJudge : Bounds → List (List ℕ) → Answer → Type 0
-IsAnswerToJudge limits parts =
+abbrev pub IsAnswerToWitness : Bounds → List (List ℕ) → Answer → Type 0
+IsAnswerToWitness limits parts =
     ToParts (three_parts parts) (λ p. ToTexts p.0 p.1 (λ c m. IsJudgedTexts c m limits p.2))
 
 -- ---- by a specification
 
 -- the specification is read first, and then the recorded histories, which are judged by it
-abbrev pub IsJudgedAgainstTexts : Component → Matrix → List ℕ → List (List ℕ) → Answer → Type 0
-IsJudgedAgainstTexts c matrix spec texts =
-    ToGiven matrix spec (λ members. ToRecorded matrix texts (IsJudgedByMembers members c matrix))
+abbrev pub IsJudgedAgainstTexts : Component → Matrix → Marks → List ℕ → List (List ℕ) → Answer
+    → Type 0
+IsJudgedAgainstTexts c matrix marks spec texts =
+    ToGiven marks matrix spec (λ members. ToRecorded matrix texts (IsJudgedByMembers members c matrix))
 
-abbrev pub IsAnswerToJudgeAgainst : List (List ℕ) → Answer → Type 0
-IsAnswerToJudgeAgainst parts =
-    ToParts (four_parts parts) (λ p. ToTexts p.0 p.1 (λ c m. IsJudgedAgainstTexts c m p.2 p.3))
+abbrev pub IsAnswerToWitnessAgainst : Marks → List (List ℕ) → Answer → Type 0
+IsAnswerToWitnessAgainst marks parts =
+    ToParts (four_parts parts)
+    (λ p. ToTexts p.0 p.1 (λ c m. IsJudgedAgainstTexts c m marks p.2 p.3))
 
 -- ---- in memory, unless it ran out
 
@@ -129,6 +132,7 @@ abbrev pub JudgesTexts : Test → Bounds → List (List ℕ) → Result Answer R
 JudgesTexts test limits texts =
     Answered (IsJudgedTexts test.component.now test.matrix.now limits texts)
 
-abbrev pub JudgesTextsAgainst : Test → List ℕ → List (List ℕ) → Result Answer Refusal → Type 0
-JudgesTextsAgainst test spec texts =
-    Answered (IsJudgedAgainstTexts test.component.now test.matrix.now spec texts)
+abbrev pub JudgesTextsAgainst : Test → Marks → List ℕ → List (List ℕ) → Result Answer Refusal
+    → Type 0
+JudgesTextsAgainst test marks spec texts =
+    Answered (IsJudgedAgainstTexts test.component.now test.matrix.now marks spec texts)
