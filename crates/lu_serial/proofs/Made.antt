@@ -12,8 +12,8 @@ use Rattle.lu_machine.specs.States.{State, call_count}
 use Rattle.lu_machine.specs.Steps.{Step}
 use Rattle.lu_machine.specs.Starts.{IsStart}
 use Rattle.lu_serial.proofs.Opening.{Turned, step_turned}
-use Rattle.lu_refute.specs.Whole.{made, made_calls}
-use Rattle.lu_refute.proofs.Fails.{made_idle, made_busy}
+use Rattle.lu_serial.specs.Whole.{made, made_calls}
+use Rattle.lu_serial.proofs.Counts.{made_idle, made_busy}
 
 -- ---- one move
 

@@ -26,12 +26,12 @@ use Rattle.lu_machine.proofs.Running.{local_once}
 use Rattle.lu_serial.specs.Serial.{HasOpen}
 use Rattle.lu_serial.proofs.Opening.{complete_not_open, same_or_not}
 use Rattle.lu_serial.proofs.Single.{AtMostOne, one_along}
-use Rattle.lu_refute.specs.Linearizable.{AreLengths}
-use Rattle.lu_refute.specs.Whole.{IsQuiet, made, made_calls}
-use Rattle.lu_refute.proofs.Grounds.{Ground, start_on}
-use Rattle.lu_refute.proofs.Moves.{Stepped, step_stepped, the_thread, idle_or_not, done_in, done_of}
-use Rattle.lu_refute.proofs.Serially.{LeadsSerially, leads_count, leads_matrix, serially_leads, serially_to}
-use Rattle.lu_refute.proofs.Fails.{made_at, made_busy, made_idle, made_in, made_of, made_others}
+use Rattle.lu_serial.specs.Cuts.{AreLengths}
+use Rattle.lu_serial.specs.Whole.{IsQuiet, made, made_calls}
+use Rattle.lu_serial.proofs.Grounds.{Ground, start_on}
+use Rattle.lu_serial.proofs.Moves.{Stepped, step_stepped, the_thread, idle_or_not, done_in, done_of}
+use Rattle.lu_serial.proofs.Serially.{LeadsSerially, leads_count, leads_matrix, serially_leads, serially_to}
+use Rattle.lu_serial.proofs.Counts.{made_at, made_busy, made_idle, made_in, made_of, made_others}
 
 -- ---- the same state over another matrix
 

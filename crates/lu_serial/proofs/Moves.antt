@@ -14,7 +14,7 @@ use Rattle.lu_machine.specs.Ends.{IsComplete, IsFinished}
 use Rattle.lu_machine.proofs.Keeping.{step_keeps_threads}
 use Rattle.lu_serial.specs.Serial.{HasOpen}
 use Rattle.lu_serial.proofs.Opening.{How, step_turned, slice_get_set_other, slice_get_set_same, same_or_not}
-use Rattle.lu_refute.specs.Whole.{IsQuiet}
+use Rattle.lu_serial.specs.Whole.{IsQuiet}
 
 -- where the thread of a move stands before it and after it
 pub record Stepped (s : State) (m : Move) (new : State) (event : Option Event) : Type 0 where

@@ -17,9 +17,9 @@ use Rattle.lu_history.specs.Parts.{as_serial}
 use Rattle.lu_serial.specs.Serial.{HasOpen, EndsAs, IsSeriallyCut, IsSerialHistory, stuck_of}
 use Rattle.lu_serial.proofs.Opening.{How, same_or_not}
 use Rattle.lu_serial.proofs.SerialPaths.{serial_on}
-use Rattle.lu_refute.specs.Whole.{IsQuiet}
-use Rattle.lu_refute.proofs.Moves.{Stepped, step_stepped, the_thread, open_busy, idle_or_not, done_of, done_at, done_same, done_more, done_others, HasSeats, seated, done_complete}
-use Rattle.lu_refute.proofs.Serially.{LeadsSerially, serially_leads, serially_to, serially_from, serially_on, ended_run, leads_count, leads_seats}
+use Rattle.lu_serial.specs.Whole.{IsQuiet}
+use Rattle.lu_serial.proofs.Moves.{Stepped, step_stepped, the_thread, open_busy, idle_or_not, done_of, done_at, done_same, done_more, done_others, HasSeats, seated, done_complete}
+use Rattle.lu_serial.proofs.Serially.{LeadsSerially, serially_leads, serially_to, serially_from, serially_on, ended_run, leads_count, leads_seats}
 
 -- no serial schedule from here is cut
 abbrev pub NoCut : State → ℕ → Type 0

@@ -9,7 +9,7 @@ use Rattle.lu_machine.proofs.StepLaws.{step_same}
 use Rattle.lu_machine.proofs.Paths.{with_event-append}
 use Rattle.lu_history.specs.declared.serial.SerialOp.{SerialOp}
 use Rattle.lu_serial.specs.Serial.{IsByOpen, IsSerialFrom, IsSeriallyEnded, EndsAs}
-use Rattle.lu_refute.proofs.Moves.{HasSeats, count_same, seats_on, step_stepped}
+use Rattle.lu_serial.proofs.Moves.{HasSeats, count_same, seats_on, step_stepped}
 
 -- The schedule leads from s to the state end, with this history, and each move made while an operation is open is by its thread.
 abbrev pub LeadsSerially : State → List Move → State → List Event → Type 0
