@@ -3,7 +3,7 @@ use Rattle.lu_board.specs.declared.view.View.{View}
 use Rattle.lu_board.specs.Views.{merged}
 use Rattle.lu_board.specs.Seats.{Seat, TellsGiven, IsSeatOf, gathered}
 use Rattle.lu_board.proofs.Seats.{joins, gathered-push, all-front, tells-more}
-use Rattle.lu_board.proofs.board.gather.Goals as goal
+use Rattle.lu_board.proofs.shared.gather.Goals as goal
 
 pub join_seat-requires : goal.join_seat-requires
 join_seat-requires c =

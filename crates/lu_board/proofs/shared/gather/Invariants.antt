@@ -1,6 +1,6 @@
 use Rattle.std.proofs.Common.{◌≡◌, ◌+◌, ◌<◌, [], All, length}
 use Rattle.lu_board.specs.Seats.{TellsGiven, IsSeatOf, gathered}
-use Rattle.lu_board.proofs.board.gather.Given as goal
+use Rattle.lu_board.proofs.shared.gather.Given as goal
 
 abbrev pub invariant-loop-seat : goal.invariant-loop-seat
 invariant-loop-seat l = record {

@@ -1,7 +1,7 @@
 use Rattle.std.proofs.Common.{◌≡◌, ◌-◌, [], replicate}
 use Rattle.lu_board.specs.Views.{newcomer}
 use Rattle.lu_board.specs.Seats.{unused_seat}
-use Rattle.lu_board.proofs.board.Board.new.Given as goal
+use Rattle.lu_board.proofs.shared.Board.new.Given as goal
 
 abbrev pub invariant-loop-dealt : goal.invariant-loop-dealt
 invariant-loop-dealt l = record {

@@ -2,7 +2,7 @@ use Rattle.std.proofs.Common.{rules, sym, subst}
 use Rattle.lu_board.specs.Seats.{Seat}
 use Rattle.lu_board.proofs.Counts.{Has, contains-has}
 use Rattle.lu_board.proofs.Keeps.{lowers}
-use Rattle.lu_board.proofs.board.Board.lower.Goals as goal
+use Rattle.lu_board.proofs.shared.Board.lower.Goals as goal
 
 pub fetch_min-requires : goal.fetch_min-requires
 fetch_min-requires c =

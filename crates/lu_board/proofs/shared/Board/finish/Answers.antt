@@ -6,7 +6,7 @@ use Rattle.lu_board.specs.Pieces.{IsLeastPiece, AllAbove}
 use Rattle.lu_board.specs.Seats.{Seat, Board, gathered}
 use Rattle.lu_board.specs.Close.{SharesOut, found_by, skipped_by, given_by}
 use Rattle.lu_board.proofs.Seats.{finishes, gathered-pieces, index-is}
-use Rattle.lu_board.proofs.board.Board.finish.Goals as goal
+use Rattle.lu_board.proofs.shared.Board.finish.Goals as goal
 
 pub returns-then-best-pieces : goal.returns-then-best-pieces
 returns-then-best-pieces c =

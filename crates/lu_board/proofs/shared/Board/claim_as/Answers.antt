@@ -4,7 +4,7 @@ use Rattle.atomic_table.specs.Table.{step, Allows}
 use Rattle.lu_board.specs.Seats.{Board}
 use Rattle.lu_board.specs.Plays.{Claimed}
 use Rattle.lu_board.proofs.Keeps.{Rule, claims}
-use Rattle.lu_board.proofs.board.Board.claim_as.Goals as goal
+use Rattle.lu_board.proofs.shared.Board.claim_as.Goals as goal
 
 pub fetch_add-next-requires : goal.fetch_add-next-requires
 fetch_add-next-requires g c =

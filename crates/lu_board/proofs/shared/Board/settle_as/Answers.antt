@@ -2,7 +2,7 @@ use Rattle.std.proofs.Common.{rules, sym, subst}
 use Rattle.lu_board.specs.Seats.{Seat}
 use Rattle.lu_board.proofs.Counts.{Has, contains-has}
 use Rattle.lu_board.proofs.Keeps.{settles}
-use Rattle.lu_board.proofs.board.Board.settle_as.Goals as goal
+use Rattle.lu_board.proofs.shared.Board.settle_as.Goals as goal
 
 pub load-requires : goal.load-requires
 load-requires g c =

@@ -10,8 +10,8 @@ use Rattle.lu_board.specs.Events.{with_skipped, with_seen}
 use Rattle.lu_board.specs.Plays.{Looked}
 use Rattle.lu_board.proofs.Counts.{Has, contains-has}
 use Rattle.lu_board.proofs.Keeps.{looks}
-use Rattle.lu_board.proofs.board.Board.look_as.Goals as goal
-use Rattle.lu_board.proofs.board.Board.look_as.Goals.{then-best-piece, else-best-piece+then-best-seat, else-best-piece+else-best-seat}
+use Rattle.lu_board.proofs.shared.Board.look_as.Goals as goal
+use Rattle.lu_board.proofs.shared.Board.look_as.Goals.{then-best-piece, else-best-piece+then-best-seat, else-best-piece+else-best-seat}
 
 pub load-best-requires : goal.load-best-requires
 load-best-requires g c =
