@@ -9,7 +9,7 @@ import { open, wait } from './browser.mjs';
 const [page, program, root, folder] = process.argv.slice(2);
 const LIMIT = 3000;    // milliseconds for the program; what takes longer is left out, and counted
 const COMMANDS = ['lint', 'serial', 'check', 'check --bound 60', 'check --bound 12 --serial 9', 'check --spec', 'certify --bound 30',
-    'explain', 'explain --spec', 'draw', 'draw --explain', 'trace', 'trace --setup', 'replay', 'shrink', 'spec', 'refute', 'judge',
+    'explain', 'explain --spec', 'draw', 'draw --explain', 'trace', 'trace --setup', 'replay', 'shrink', 'spec', 'refute', 'witness',
     'conform', 'campaign --count', 'compile', '', 'nonsense'];
 const faults = [];
 const tell = fault => { faults.push(fault); console.log(fault); };
