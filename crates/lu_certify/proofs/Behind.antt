@@ -4,7 +4,7 @@ use Rattle.std.proofs.lemmas.Bool.{cases_lt}
 use Rattle.lu_component.specs.Component.{Component}
 use Rattle.lu_test.specs.Matrix.{Matrix}
 use Rattle.lu_machine.specs.States.{State}
-use Rattle.lu_machine.specs.Starts.{Settles}
+use Rattle.lu_machine.specs.Starts.{FromEachStart, Settles}
 use Rattle.lu_machine.specs.Schedules.{IsEndedWithin}
 use Rattle.lu_machine.proofs.Starting.{start_there}
 use Rattle.lu_history.specs.declared.serial.SerialOp.{SerialOp}
@@ -17,9 +17,9 @@ use Rattle.lu_report.specs.declared.report.Report.{Report}
 use Rattle.lu_replay.specs.Reports.{IsFinding, IsReport}
 use Rattle.lu_replay.proofs.Determined.{one_report}
 use Rattle.lu_certify.specs.declared.limits.Limits.{Limits}
-use Rattle.lu_certify.specs.Certificates.{Fails, FailsAfter, IsClear, IsFailingReport, IsFailure, IsFullPass}
+use Rattle.lu_certify.specs.Certificates.{Fails, FailsAfter, IsClear, IsFailingReport, IsFailure, IsFullPass, IsProvedGood, IsProvedLive}
 use Rattle.lu_certify.specs.Cuts.{IsLeftOpen}
-use Rattle.lu_certify.proofs.Linear.{clear_at, clear_not_failing, never_bad, never_good}
+use Rattle.lu_certify.proofs.Linear.{IsWell, clear_at, good_at, never_bad, never_good, well_not_failing}
 
 -- ---- one state
 
@@ -97,17 +97,23 @@ module _ (c : Component) (matrix : Matrix) (limits : Limits) (settles : Settles 
       let same : x.0 ≡ y.0 = one_after x.0 y.0 x.1 y.1 in
       one_report c matrix y.0 limits.serial r q settles (subst (λ (n : ℕ). IsReport c matrix n limits.serial r) same x.2) y.2
 
-  -- a clear cut does not fail
-  pub clear_never_fails : IsClear c limits matrix → Fails c limits matrix → ⊥
-  clear_never_fails clear fails =
+  -- a cut that is well does not fail
+  well_never_fails : FromEachStart c matrix (λ s. IsWell s limits.serial) → Fails c limits matrix → ⊥
+  well_never_fails well fails =
       elim fails.1 as (λ _. ⊥) [
-        | inl at ↦ clear_not_failing c matrix limits settles clear (fails.0, at.0, at.1)
+        | inl at ↦ well_not_failing c matrix limits.bound limits.serial settles well (fails.0, at.0, at.1)
         | inr behind ↦
             (let there = start_there c matrix settles in
             let s = there.0 in
             let here = behind.1.2 s there.1 in
-            never_bad (IsSerialHistory s) s (clear_at c matrix limits clear s there.1).well here.2.schedule here.2.bad)
+            never_bad (IsSerialHistory s) s (well s there.1).well here.2.schedule here.2.bad)
       ]
+
+  pub clear_never_fails : IsClear c limits matrix → Fails c limits matrix → ⊥
+  clear_never_fails clear = well_never_fails (clear_at c matrix limits clear)
+
+  pub good_never_fails : IsProvedGood c limits matrix → Fails c limits matrix → ⊥
+  good_never_fails proved = well_never_fails (good_at c matrix limits proved)
 
   -- nor does one whose report at the bounds is no failure and that is left open
   pub open_never_fails : (r : Report) → IsReport c matrix limits.bound limits.serial r → (IsFailure r.finding → ⊥) → IsLeftOpen c limits matrix → Fails c limits matrix → ⊥
@@ -120,7 +126,12 @@ module _ (c : Component) (matrix : Matrix) (limits : Limits) (settles : Settles 
   -- nor is it clear, where its report is no full pass
   pub open_never_clear : (r : Report) → IsReport c matrix limits.bound limits.serial r → (IsFullPass r.finding → ⊥) → IsLeftOpen c limits matrix → IsClear c limits matrix → ⊥
   open_never_clear r report less left (inl has) = less (subst (λ (x : Report). IsFullPass x.finding) (one_report c matrix limits.bound limits.serial has.0 r settles has.1 report) has.2)
-  open_never_clear r report less left (inr proved) = left.unproved proved
+  open_never_clear r report less left (inr proved) = left.unproved proved.0
+
+  -- nor is it where its schedules are not proved live
+  pub unlive_never_clear : (r : Report) → IsReport c matrix limits.bound limits.serial r → (IsFullPass r.finding → ⊥) → (IsProvedLive c limits matrix → ⊥) → IsClear c limits matrix → ⊥
+  unlive_never_clear r report less unlive (inl has) = less (subst (λ (x : Report). IsFullPass x.finding) (one_report c matrix limits.bound limits.serial has.0 r settles has.1 report) has.2)
+  unlive_never_clear r report less unlive (inr proved) = unlive proved.1
 
 -- it was tried first, or it is tried then
 pub tried_either : (P : Type 0) (tried : Bool) → (tried ≡ true → P) → (not tried ≡ true → P) → P

@@ -1,6 +1,6 @@
 -- Where a cut has a livelock, and where it has none.
-use Rattle.std.proofs.Common.{arith, ◌≡◌, ◌↔◌, Bool, true, false, not, ℕ, zero, suc, ◌+◌, ◌-◌, List, [], ◌∷◌, ◌++◌, length, take, Option, Some, None, Result, Ok, Err, refl, subst, inl, inr}
-use Rattle.std.specs.Prelude.{IfOk, IsTrue}
+use Rattle.std.proofs.Common.{arith, ◌≡◌, ℕ, zero, suc, ◌+◌, ◌-◌, List, [], ◌∷◌, ◌++◌, length, take, Option, Some, None, Result, Ok, Err, refl, subst, inl, inr}
+use Rattle.std.specs.Prelude.{IfOk}
 use Rattle.std.proofs.lemmas.Bool.{cases_lt}
 use Rattle.std.proofs.lemmas.List.{length_push}
 use Rattle.lu_component.specs.Component.{Component}
@@ -18,7 +18,9 @@ use Rattle.lu_machine.proofs.Orders.{smaller_cases}
 use Rattle.lu_machine.proofs.Paths.{child_leads}
 use Rattle.lu_machine.proofs.Starting.{start_there}
 use Rattle.lu_machine.proofs.StepLaws.{feasible_step}
-use Rattle.lu_graph.specs.Hopeless.{IsFirstLost, IsFirstLostIfAny, IsHopeless, LosesHope}
+use Rattle.lu_graph.specs.declared.lost.FirstLost.{FirstLost}
+use Rattle.lu_graph.specs.declared.lost.FirstLost.TheVariants.{First, Never, Unknown}
+use Rattle.lu_graph.specs.Hopeless.{FindsFirstLost, IsFirstLost, IsHopeless, LosesHope, NeverLosesHope}
 use Rattle.lu_witness.specs.Goodness.{Any}
 use Rattle.lu_serial.specs.Offences.{NoOffence}
 use Rattle.lu_report.specs.declared.report.Finding.{Finding}
@@ -26,12 +28,15 @@ use Rattle.lu_report.specs.declared.report.Finding.TheVariants.{SerialCut}
 use Rattle.lu_report.specs.declared.report.Report.{Report}
 use Rattle.lu_replay.specs.Reports.{IsFinding}
 use Rattle.lu_certify.specs.declared.limits.Limits.{Limits}
+use Rattle.lu_certify.specs.declared.asked.Asked.{Asked}
+use Rattle.lu_certify.specs.declared.asked.Asked.TheVariants.{Clearness, FailureOnly, LivelockOnly}
 use Rattle.lu_certify.specs.declared.judged.Standing.{Standing}
-use Rattle.lu_certify.specs.declared.judged.Standing.TheVariants.{FullPass, Open, Proved}
+use Rattle.lu_certify.specs.declared.judged.Standing.TheVariants.{FullPass, Good, Open}
 use Rattle.lu_certify.specs.declared.so_far.SoFar.{SoFar}
 use Rattle.lu_certify.specs.declared.so_far.SoFar.TheVariants.{Clear, Lost, Unclear}
-use Rattle.lu_certify.specs.Certificates.{HasNoLivelock, HasReport, IsFullPass, IsProved}
-use Rattle.lu_certify.specs.Cuts.{IsFirstLostOf, IsLivelockIfAny, IsLost, IsNext, IsStanding, so_far_after}
+use Rattle.lu_certify.specs.Certificates.{HasNoLivelock, HasReport, IsClear, IsFullPass, IsLivelock, IsProvedGood, IsProvedLive}
+use Rattle.lu_certify.specs.Cuts.{IsFirstLostOf, IsLivelockIfAny, IsLivelockOf, IsNext, IsStanding, asked_by, report_of, so_far_after}
+use Rattle.lu_certify.specs.Looking.{IsAnswer, IsClearUnless, TellsUnclear}
 use Rattle.lu_certify.proofs.Linear.{full_at}
 use Rattle.lu_certify.proofs.Within.{cut_there, none_of}
 
@@ -89,20 +94,42 @@ never_lost s bound uncut u r =
 -- ---- what is known of a cut
 
 module _ (c : Component) (matrix : Matrix) (limits : Limits) (settles : Settles c matrix) where
-  pub none_in_full_pass : HasReport IsFullPass c limits.bound limits.serial matrix → HasNoLivelock c limits matrix
-  none_in_full_pass has u livelock =
-      let there = start_there c matrix settles in
-      let s = there.0 in
-      let full = full_at c matrix limits.bound limits.serial has s there.1 in
-      never_lost s limits.bound (λ v cut. none_of (λ w. Any w × IsCutAt s limits.bound w) full.counts.cut full.good.numbers.cut full.uncut v (tt, cut)) u (livelock s there.1).2.lost
+  full_never_lost : HasReport IsFullPass c limits.bound limits.serial matrix → FromEachStart c matrix NeverLosesHope
+  full_never_lost has s at =
+      let full = full_at c matrix limits.bound limits.serial has s at in
+      never_lost s limits.bound (λ v cut. none_of (λ w. Any w × IsCutAt s limits.bound w) full.counts.cut full.good.numbers.cut full.uncut v (tt, cut))
 
-  pub livelock_where : {E : Type 0} (result : Result (Option (List Move)) E) → FromEachStart c matrix (λ s. NoOffence s limits.serial) → IfOk result (IsFirstLostOf c limits matrix) → IfOk result (IsLivelockIfAny c limits matrix)
-  livelock_where (Ok None) none lost = λ u livelock.
-      (let there = start_there c matrix settles in
-      let x = livelock there.0 there.1 in
-      lost there.0 there.1 x.1 u x.2.moves x.2.lost)
-  livelock_where (Ok (Some u)) none lost = λ s at. (none s at, (lost s at).0, (lost s at).1)
-  livelock_where (Err e) none lost = tt
+  -- what was found of schedules that lead to a state from which none ends, where no serial run offends
+  livelock_of : (standing : Standing) (lost : FirstLost) → FromEachStart c matrix (λ s. NoOffence s limits.serial) → IsFirstLostOf c limits matrix lost → IsLivelockOf c limits matrix standing lost
+  livelock_of standing Never none lost = lost
+  livelock_of standing (First u) none lost = λ s at. (none s at, (lost s at).0, (lost s at).1)
+  livelock_of standing Unknown none lost =
+      let there = start_there c matrix settles in
+      let here = lost there.0 there.1 in (
+        (λ u livelock. let x = livelock there.0 there.1 in (here x.1).1 u x.2),
+        (λ _ live. let x = live there.0 there.1 in (here x.0).0 x.1),
+      )
+
+  pub livelock_where : {E : Type 0} (standing : Standing) (result : Result FirstLost E) → FromEachStart c matrix (λ s. NoOffence s limits.serial) → IfOk result (IsFirstLostOf c limits matrix) → IfOk result (IsLivelockOf c limits matrix standing)
+  livelock_where standing (Ok lost) none is = livelock_of standing lost none is
+  livelock_where standing (Err e) none is = tt
+
+  -- a clear cut never loses hope
+  pub clear_never_lost : IsClear c limits matrix → FromEachStart c matrix NeverLosesHope
+  clear_never_lost (inl has) s at = full_never_lost has s at
+  clear_never_lost (inr proved) s at = (proved.1 s at).1
+
+  -- so it has no livelock
+  pub never_lost_none : FromEachStart c matrix NeverLosesHope → HasNoLivelock c limits matrix
+  never_lost_none never u livelock =
+      let there = start_there c matrix settles in
+      never there.0 there.1 u (livelock there.0 there.1).2.lost
+
+  pub clear_no_livelock : IsClear c limits matrix → HasNoLivelock c limits matrix
+  clear_no_livelock clear = never_lost_none (clear_never_lost clear)
+
+  pub none_in_full_pass : HasReport IsFullPass c limits.bound limits.serial matrix → HasNoLivelock c limits matrix
+  none_in_full_pass has = clear_no_livelock (inl has)
 
   -- it is left open, with this report at the bounds
   module _ (r : Report) (stands : IsStanding c limits matrix (Open r)) where
@@ -115,27 +142,44 @@ module _ (c : Component) (matrix : Matrix) (limits : Limits) (settles : Settles 
         (livelock there.0 there.1).0 v (finds_as (SerialCut v) is there.0 there.1).0.kind
 
 -- what is sought from each start is the cut's
-pub first_lost_of : {E : Type 0} (c : Component) (matrix : Matrix) (limits : Limits) (result : Result (Option (List Move)) E) → FromEachStart c matrix (λ s. IfOk result (IsFirstLostIfAny limits.nodes s)) → IfOk result (IsFirstLostOf c limits matrix)
+pub first_lost_of : {E : Type 0} (c : Component) (matrix : Matrix) (limits : Limits) (result : Result FirstLost E) → FromEachStart c matrix (λ s. IfOk result (FindsFirstLost limits.nodes s)) → IfOk result (IsFirstLostOf c limits matrix)
 first_lost_of c matrix limits (Ok lost) is = is
 first_lost_of c matrix limits (Err e) is = tt
 
+-- ---- what is answered of it
+
+-- where no schedule leads to a state from which none ends, it is clear but for its ended ones
+pub live_answer : (asked : Asked) (c : Component) (matrix : Matrix) (limits : Limits) (standing : Standing) → Settles c matrix → IsStanding c limits matrix standing → IsProvedLive c limits matrix → IsAnswer asked c limits matrix None (report_of standing)
+live_answer FailureOnly c matrix limits standing settles stands live = tt
+live_answer LivelockOnly c matrix limits standing settles stands live = never_lost_none c matrix limits settles (λ s at. (live s at).1)
+live_answer Clearness c matrix limits standing settles stands live = (never_lost_none c matrix limits settles (λ s at. (live s at).1), (λ _. told standing stands))
+  where
+    told : (standing : Standing) → IsStanding c limits matrix standing → IsClearUnless c limits matrix (report_of standing)
+    told FullPass stands = inl stands
+    told Good stands = inr (stands, live)
+    told (Open r) stands = (stands.0, stands.1)
+
+-- where that is not known
+pub open_answer : (asked : Asked) (c : Component) (matrix : Matrix) (limits : Limits) (unclear : Option Report) → HasNoLivelock c limits matrix → TellsUnclear asked c limits matrix unclear → IsAnswer asked c limits matrix None unclear
+open_answer FailureOnly c matrix limits unclear none tells = tt
+open_answer LivelockOnly c matrix limits unclear none tells = none
+open_answer Clearness c matrix limits unclear none tells = (none, (λ _. tells refl))
+
+-- where it has a livelock
+pub lost_answer : (asked : Asked) (c : Component) (matrix : Matrix) (limits : Limits) (u : List Move) → IsLivelock c limits matrix u → IsAnswer asked c limits matrix (Some u) None
+lost_answer FailureOnly c matrix limits u is = tt
+lost_answer LivelockOnly c matrix limits u is = is
+lost_answer Clearness c matrix limits u is = (is, (λ same. absurd (let other : Some u ≡ None = same in cc)))
+
 -- ---- what is known after it
 
-next_cut : (c : Component) (limits : Limits) (matrix : Matrix) (old : SoFar) (livelock : Option (List Move)) (standing : Standing) → IsLivelockIfAny c limits matrix livelock → IsStanding c limits matrix standing → IsNext c limits old matrix (so_far_after old matrix livelock standing)
-next_cut c limits matrix (Lost smaller u) livelock standing has stands = refl
-next_cut c limits matrix (Unclear smaller q) None standing has stands = (refl, has)
-next_cut c limits matrix (Unclear smaller q) (Some u) standing has stands = (refl, has)
-next_cut c limits matrix Clear None FullPass has stands = (has, inl stands)
-next_cut c limits matrix Clear None Proved has stands = (has, inr stands)
-next_cut c limits matrix Clear None (Open r) has stands = (refl, has, stands.0, stands.1)
-next_cut c limits matrix Clear (Some u) standing has stands = (refl, has)
+pub next_cut : (c : Component) (limits : Limits) (matrix : Matrix) (old : SoFar) (livelock : Option (List Move)) (unclear : Option Report) → IsAnswer (asked_by old) c limits matrix livelock unclear → IsNext c limits old matrix (so_far_after old matrix livelock unclear)
+next_cut c limits matrix (Lost smaller u) livelock unclear is = refl
+next_cut c limits matrix (Unclear smaller q) None unclear is = (refl, is)
+next_cut c limits matrix (Unclear smaller q) (Some u) unclear is = (refl, is)
+next_cut c limits matrix Clear None None is = (is.0, is.1 refl)
+next_cut c limits matrix Clear None (Some r) is = (refl, is.0, (is.1 refl).0, (is.1 refl).1)
+next_cut c limits matrix Clear (Some u) unclear is = (refl, is.0)
 
--- so it is where one is sought unless a cut before has one
-pub next_sought : (c : Component) (limits : Limits) (matrix : Matrix) (old : SoFar) (lost : Bool) (livelock : Option (List Move)) (standing : Standing) → (IsTrue lost ↔ IsLost old) → (not lost ≡ true → IsLivelockIfAny c limits matrix livelock) → IsStanding c limits matrix standing → IsNext c limits old matrix (so_far_after old matrix livelock standing)
-next_sought c limits matrix old false livelock standing is has stands = next_cut c limits matrix old livelock standing (has refl) stands
-next_sought c limits matrix (Lost smaller u) true livelock standing is has stands = refl
-next_sought c limits matrix (Unclear smaller q) true livelock standing is has stands = absurd (is.0 refl)
-next_sought c limits matrix Clear true livelock standing is has stands = absurd (is.0 refl)
-
-pub proved_none : (c : Component) (matrix : Matrix) (limits : Limits) → IsProved c matrix limits → FromEachStart c matrix (λ s. NoOffence s limits.serial)
-proved_none c matrix limits proved s at = (proved s at).0
+pub good_none : (c : Component) (matrix : Matrix) (limits : Limits) → IsProvedGood c limits matrix → FromEachStart c matrix (λ s. NoOffence s limits.serial)
+good_none c matrix limits proved s at = (proved s at).0

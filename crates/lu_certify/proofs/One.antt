@@ -17,7 +17,7 @@ use Rattle.lu_certify.specs.Certificates.{AllClear, AreSame, Fails, IsCertificat
 use Rattle.lu_certify.specs.Laws.{CertificateDecides, Decides}
 use Rattle.lu_certify.proofs.Behind.{clear_never_fails, failing_is, one_failing}
 use Rattle.lu_certify.proofs.Linear.{begun_deterministic, clear_at, clear_cut, clear_linearizes}
-use Rattle.lu_certify.proofs.Livelocks.{one_lost}
+use Rattle.lu_certify.proofs.Livelocks.{clear_never_lost, clear_no_livelock, one_lost}
 use Rattle.lu_certify.proofs.CutLengths.{lengths_compare}
 use Rattle.lu_certify.proofs.Refuted.{none_serves}
 
@@ -57,6 +57,9 @@ module _ (c : Component) (matrix : Matrix) (limits : Limits) (settles : Settles 
         ]
       ]
 
+  clear_none : AllClear c matrix limits → NoLivelocks c matrix limits
+  clear_none all lengths are = clear_no_livelock c (cut matrix lengths) limits (cut_settles lengths) (all lengths are)
+
   none_lost : NoLivelocks c matrix limits → (smaller : Matrix) (u : List Move) → IsFirstLivelock c matrix limits smaller u → ⊥
   none_lost none smaller u first = none first.lengths first.are u (subst (λ m. IsLivelock c limits m u) first.is first.livelock)
 
@@ -92,11 +95,11 @@ module _ (c : Component) (matrix : Matrix) (limits : Limits) (settles : Settles 
   one (Linearizable members) (Linearizable others) x y =
       let there = start_there c matrix settles in
       λ q. (
-        (λ has. (y.2 there.0 there.1 q).1 ((x.2 there.0 there.1 q).0 has)),
-        (λ has. (x.2 there.0 there.1 q).1 ((y.2 there.0 there.1 q).0 has)),
+        (λ has. (y.1 there.0 there.1 q).1 ((x.1 there.0 there.1 q).0 has)),
+        (λ has. (x.1 there.0 there.1 q).1 ((y.1 there.0 there.1 q).0 has)),
       )
   one (Linearizable members) (NotLinearizable b q) x y = none_fails x.0 b q y
-  one (Linearizable members) (Livelock b v) x y = none_lost x.1 b v y.1
+  one (Linearizable members) (Livelock b v) x y = none_lost (clear_none x.0) b v y.1
   one (Linearizable members) (Undecided b q) x y = none_unclear x.0 b q y.2
   one (NotLinearizable a r) (Linearizable others) x y = absurd (none_fails y.0 a r x)
   one (NotLinearizable a r) (NotLinearizable b q) x y =
@@ -104,7 +107,7 @@ module _ (c : Component) (matrix : Matrix) (limits : Limits) (settles : Settles 
       ap (λ (m : Matrix). NotLinearizable m r) same.0 ∙ ap (λ (p : Report). NotLinearizable b p) same.1
   one (NotLinearizable a r) (Livelock b v) x y = absurd (y.0 x.lengths x.are (has_it a r x))
   one (NotLinearizable a r) (Undecided b q) x y = absurd (y.0 x.lengths x.are (has_it a r x))
-  one (Livelock a u) (Linearizable others) x y = absurd (none_lost y.1 a u x.1)
+  one (Livelock a u) (Linearizable others) x y = absurd (none_lost (clear_none y.0) a u x.1)
   one (Livelock a u) (NotLinearizable b q) x y = absurd (x.0 y.lengths y.are (has_it b q y))
   one (Livelock a u) (Livelock b v) x y =
       let same = livelock_same a b u v x.1 y.1 in
@@ -121,8 +124,8 @@ module _ (c : Component) (matrix : Matrix) (limits : Limits) (settles : Settles 
   decided (Linearizable members) x =
       let there = start_there c matrix settles in
       let whole = clear_at c matrix limits (clear_cut c matrix limits x.0 matrix (whole_cut matrix)) there.0 there.1 in (
-        begun_deterministic c matrix there.0 limits.serial members there.1 whole.none (x.2 there.0 there.1),
-        clear_linearizes c matrix limits members settles x.0 x.2,
+        (begun_deterministic c matrix there.0 limits.serial members there.1 whole.none (x.1 there.0 there.1), clear_linearizes c matrix limits members settles x.0 x.1),
+        (λ smaller is. clear_never_lost c smaller limits (settles_too c matrix smaller settles (ap (λ (m : Matrix). m.setup) is.2)) (clear_cut c matrix limits x.0 smaller is)),
       )
   decided (NotLinearizable smaller r) x =
       let there : Settles c smaller = subst (Settles c) (sym x.is) (cut_settles x.lengths) in

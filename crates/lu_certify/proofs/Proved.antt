@@ -18,7 +18,7 @@ use Rattle.lu_graph.proofs.OtherSet.{few_too, shortest_too, well_too}
 use Rattle.lu_certify.specs.declared.limits.Limits.{Limits}
 use Rattle.lu_certify.specs.declared.by_nodes.ByNodes.{ByNodes}
 use Rattle.lu_certify.specs.declared.by_nodes.ByNodes.TheVariants.{AllGood, BadAfter, Nothing}
-use Rattle.lu_certify.specs.Certificates.{FailsAfter, IsProved}
+use Rattle.lu_certify.specs.Certificates.{FailsAfter, IsProvedGood}
 use Rattle.lu_certify.specs.Cuts.{IsLeftOpen, IsShownByNodes, IsByNodesOf}
 use Rattle.lu_certify.proofs.Behind.{one_length}
 use Rattle.lu_certify.proofs.Linear.{never_bad}
@@ -53,7 +53,7 @@ module _ (c : Component) (matrix : Matrix) (limits : Limits) (settles : Settles 
         let here = set s at in
         shortest_too (IsMember members) (IsSerialHistory s) (λ q y. (here.are q).0 y) (λ q y. (here.are q).1 y) s moves x
 
-    shown_well : FromEachStart c matrix (λ s. EndsWellOnFewNodes (IsMember members) s limits.nodes) → IsProved c matrix limits
+    shown_well : FromEachStart c matrix (λ s. EndsWellOnFewNodes (IsMember members) s limits.nodes) → IsProvedGood c limits matrix
     shown_well is s at =
         let here = set s at in
         (here.none, (few_at s at (is s at).0, well_too (IsMember members) (IsSerialHistory s) (λ q y. (here.are q).0 y) (λ q y. (here.are q).1 y) s (is s at).1))

@@ -30,17 +30,17 @@ use Rattle.lu_certify.specs.declared.certificate.Certificate.TheVariants.{Linear
 use Rattle.lu_certify.specs.declared.so_far.SoFar.{SoFar}
 use Rattle.lu_certify.specs.declared.so_far.SoFar.TheVariants.{Clear, Lost, Unclear}
 use Rattle.lu_certify.specs.declared.judged.Standing.{Standing}
-use Rattle.lu_certify.specs.declared.judged.Standing.TheVariants.{FullPass, Open, Proved}
+use Rattle.lu_certify.specs.declared.judged.Standing.TheVariants.{FullPass, Good, Open}
 use Rattle.lu_certify.specs.Certificates.{AllClear, AreBeginnings, Fails, HasNoLivelock, IsCertificate, IsClear, IsFailingReport, IsFirstFailing, IsFirstLivelock, IsFirstUnclear, IsLivelock, NamesCutOf, NoneFails, NoLivelocks}
 use Rattle.lu_certify.specs.Cuts.{IsConcluded, IsCutAt, IsNext, IsStanding, IsWithoutOffence, cut_count, cut_number, length_counts}
 use Rattle.lu_certify.proofs.CutLengths.{chosen}
-use Rattle.lu_certify.proofs.Behind.{clear_never_fails}
+use Rattle.lu_certify.proofs.Behind.{clear_never_fails, good_never_fails}
 use Rattle.lu_certify.proofs.Linear.{clear_at, clear_cut}
 
 -- a cut that stands does not fail
-standing_never_fails : (c : Component) (matrix : Matrix) (limits : Limits) → Settles c matrix → (standing : Standing) → IsStanding c limits matrix standing → Fails c limits matrix → ⊥
+pub standing_never_fails : (c : Component) (matrix : Matrix) (limits : Limits) → Settles c matrix → (standing : Standing) → IsStanding c limits matrix standing → Fails c limits matrix → ⊥
 standing_never_fails c matrix limits settles FullPass stands = clear_never_fails c matrix limits settles (inl stands)
-standing_never_fails c matrix limits settles Proved stands = clear_never_fails c matrix limits settles (inr stands)
+standing_never_fails c matrix limits settles Good stands = good_never_fails c matrix limits settles stands
 standing_never_fails c matrix limits settles (Open r) stands = stands.2
 
 module _ (c : Component) (matrix : Matrix) (limits : Limits) where
@@ -94,11 +94,9 @@ module _ (c : Component) (matrix : Matrix) (limits : Limits) where
     clear_more : ClearBefore number → IsClear c limits smaller → ClearBefore (number + 1)
     clear_more before clear = this_or_before (λ other. IsClear c limits (cut matrix other)) before (subst (IsClear c limits) at.is clear)
 
-    pub none_more : NoneFailsBefore number → (standing : Standing) → IsStanding c limits smaller standing → NoneFailsBefore (number + 1)
-    none_more before standing stands =
-        let there : Settles c (cut matrix at.lengths) = settles_too c matrix (cut matrix at.lengths) settles refl in
-        this_or_before (λ other. Fails c limits (cut matrix other) → ⊥) before
-        (standing_never_fails c (cut matrix at.lengths) limits there standing (subst (λ (m : Matrix). IsStanding c limits m standing) at.is stands))
+    pub none_more : NoneFailsBefore number → (Fails c limits smaller → ⊥) → NoneFailsBefore (number + 1)
+    none_more before none =
+        this_or_before (λ other. Fails c limits (cut matrix other) → ⊥) before (subst (λ (m : Matrix). Fails c limits m → ⊥) at.is none)
 
     -- the first that fails
     pub first_here : (r : Report) → NoneFailsBefore number → IsFailingReport c limits smaller r → IsFirstFailing c matrix limits smaller r
@@ -164,7 +162,7 @@ module _ (c : Component) (matrix : Matrix) (limits : Limits) where
 
   -- what is concluded is the certificate
   pub concluded : (number : ℕ) (so_far : SoFar) → cut_count matrix ≤ number → NoneFailsBefore number → IsKnown number so_far → (certificate : Certificate) → IsConcluded c matrix so_far certificate → IsCertificate c matrix limits certificate
-  concluded number Clear all before known (Linearizable members) is = (all_known number all known, none_lost_all number all known.1, is)
+  concluded number Clear all before known (Linearizable members) is = (all_known number all known, is)
   concluded number Clear all before known (NotLinearizable smaller r) is = absurd is
   concluded number Clear all before known (Livelock smaller u) is = absurd is
   concluded number Clear all before known (Undecided smaller r) is = absurd is

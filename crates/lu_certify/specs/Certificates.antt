@@ -9,7 +9,7 @@ use Rattle.lu_machine.specs.Starts.{FromEachStart}
 use Rattle.lu_history.specs.declared.serial.SerialOp.{SerialOp}
 use Rattle.lu_serial.specs.Offences.{NoOffence}
 use Rattle.lu_serial.specs.Serial.{IsSerialHistory}
-use Rattle.lu_graph.specs.Hopeless.{HasFewStates, IsFirstLost}
+use Rattle.lu_graph.specs.Hopeless.{HasFewStates, IsFirstLost, NeverLosesHope}
 use Rattle.lu_graph.specs.Nodes.{EndsWellOnFewNodes, HasFewNodes, IsShortestBad}
 use Rattle.lu_report.specs.declared.report.Finding.{Finding}
 use Rattle.lu_report.specs.declared.report.Report.{Report}
@@ -38,15 +38,22 @@ AllCuts Kind c matrix bound serial =
 
 -- No serial run offends, there are no more nodes than the limit, and each ended schedule, of any
 -- length, is good for the serial histories.
-abbrev pub IsProved : Component → Matrix → Limits → Type 0
-IsProved c matrix limits =
+abbrev pub IsProvedGood : Component → Limits → Matrix → Type 0
+IsProvedGood c limits matrix =
     FromEachStart c matrix (λ s. NoOffence s limits.serial
     × EndsWellOnFewNodes (IsSerialHistory s) s limits.nodes)
 
--- its report is a pass, and no schedule was cut; or it is proved so
+-- There are no more states than the limit, and no schedule, of any length, leads to a state from
+-- which none ends.
+abbrev pub IsProvedLive : Component → Limits → Matrix → Type 0
+IsProvedLive c limits matrix =
+    FromEachStart c matrix (λ s. HasFewStates s limits.nodes × NeverLosesHope s)
+
+-- its report is a pass, and no schedule was cut; or all of its schedules are proved good, and live
 abbrev pub IsClear : Component → Limits → Matrix → Type 0
 IsClear c limits matrix =
-    HasReport IsFullPass c limits.bound limits.serial matrix ⊎ IsProved c matrix limits
+    HasReport IsFullPass c limits.bound limits.serial matrix
+    ⊎ (IsProvedGood c limits matrix × IsProvedLive c limits matrix)
 
 -- No serial run offends, there are no more nodes than the limit, and the shortest schedule that
 -- ends badly has this many moves: more than the bound, and at most 256.
@@ -85,11 +92,11 @@ IsLivelock c limits matrix u =
     FromEachStart c matrix (λ s. NoOffence s limits.serial × HasFewStates s limits.nodes
     × IsFirstLost s u)
 
--- there is none
+-- none is found
 abbrev pub HasNoLivelock : Component → Limits → Matrix → Type 0
 HasNoLivelock c limits matrix = (u : List Move) → IsLivelock c limits matrix u → ⊥
 
--- no cut of the matrix has one
+-- nor of any cut of the matrix
 abbrev pub NoLivelocks : Component → Matrix → Limits → Type 0
 NoLivelocks c matrix limits =
     (lengths : List ℕ) → AreLengths matrix lengths
@@ -117,7 +124,7 @@ pub record IsFirstUnclear (c : Component) (matrix : Matrix) (limits : Limits)
   pub before : (other : List ℕ) → AreLengths matrix other → IsBefore other lengths
       → IsClear c limits (cut matrix other)
 
--- u is the livelock of this cut; no cut before it has one
+-- u is the livelock of this cut; none is found of any cut before it
 pub record IsFirstLivelock (c : Component) (matrix : Matrix) (limits : Limits)
     (smaller : Matrix) (u : List Move) : Type 0 where
   pub lengths : List ℕ
@@ -135,13 +142,12 @@ AreBeginnings s members =
     (q : List SerialOp)
     → Has members q ↔ ((h : List SerialOp) × Begins q h × IsSerialHistory s h)
 
--- Each cut is clear, none has a livelock, and these are the beginnings of the matrix's serial
--- histories; or this is the first cut that fails; or none fails, and this is the first that has a
--- livelock; or none fails, none has a livelock, and this is the first that is not clear.
+-- Each cut is clear, and these are the beginnings of the matrix's serial histories; or this is the
+-- first cut that fails; or none fails, and this is the first that has a livelock; or none fails, no
+-- livelock is found, and this is the first that is not clear.
 abbrev pub IsCertificate : Component → Matrix → Limits → Certificate → Type 0
 IsCertificate c matrix limits (Linearizable members) =
-    AllClear c matrix limits × NoLivelocks c matrix limits
-    × FromEachStart c matrix (λ s. AreBeginnings s members)
+    AllClear c matrix limits × FromEachStart c matrix (λ s. AreBeginnings s members)
 IsCertificate c matrix limits (NotLinearizable smaller r) =
     IsFirstFailing c matrix limits smaller r
 IsCertificate c matrix limits (Livelock smaller u) =

@@ -7,24 +7,29 @@ use Rattle.lu_test.specs.declared.schedule.Move.{Move}
 use Rattle.lu_test.specs.Matrix.{Matrix, cut}
 use Rattle.lu_machine.specs.Starts.{FromEachStart, Settles}
 use Rattle.lu_serial.specs.Offences.{NoOffence}
-use Rattle.lu_graph.specs.Hopeless.{IsFirstLostIfAny}
+use Rattle.lu_graph.specs.Hopeless.{FindsFirstLost}
+use Rattle.lu_graph.specs.declared.lost.FirstLost.{FirstLost}
+use Rattle.lu_graph.specs.declared.lost.FirstLost.TheVariants.{First, Never, Unknown}
 use Rattle.lu_graph.specs.declared.ending.Ending.{Ending}
 use Rattle.lu_graph.specs.declared.ending.Ending.TheVariants.{Badly, TooMany, Well}
+use Rattle.lu_report.specs.declared.report.Report.{Report}
 use Rattle.lu_report.specs.Limits.{most_moves}
 use Rattle.lu_replay.specs.Reports.{IsReport}
 use Rattle.lu_serial.specs.Cuts.{AreLengths}
 use Rattle.lu_certify.specs.declared.certificate.Certificate.{Certificate}
 use Rattle.lu_certify.specs.declared.certificate.Certificate.TheVariants.{Linearizable, Livelock, NotLinearizable, Undecided}
 use Rattle.lu_certify.specs.declared.limits.Limits.{Limits}
+use Rattle.lu_certify.specs.declared.asked.Asked.{Asked}
+use Rattle.lu_certify.specs.declared.asked.Asked.TheVariants.{Clearness, FailureOnly, LivelockOnly}
 use Rattle.lu_certify.specs.declared.so_far.SoFar.{SoFar}
 use Rattle.lu_certify.specs.declared.so_far.SoFar.TheVariants.{Clear, Lost, Unclear}
 use Rattle.lu_certify.specs.declared.judged.Judged.{Judged}
 use Rattle.lu_certify.specs.declared.judged.Judged.TheVariants.{Failing, Stands}
 use Rattle.lu_certify.specs.declared.judged.Standing.{Standing}
-use Rattle.lu_certify.specs.declared.judged.Standing.TheVariants.{FullPass, Open, Proved}
+use Rattle.lu_certify.specs.declared.judged.Standing.TheVariants.{FullPass, Good, Open}
 use Rattle.lu_certify.specs.declared.by_nodes.ByNodes.{ByNodes}
 use Rattle.lu_certify.specs.declared.by_nodes.ByNodes.TheVariants.{AllGood, BadAfter, Nothing}
-use Rattle.lu_certify.specs.Certificates.{AreBeginnings, Fails, FailsAfter, HasNoLivelock, HasReport, IsClear, IsFailingReport, IsFullPass, IsLivelock, IsProved}
+use Rattle.lu_certify.specs.Certificates.{AreBeginnings, Fails, FailsAfter, HasNoLivelock, HasReport, IsClear, IsFailingReport, IsFullPass, IsLivelock, IsProvedGood, IsProvedLive}
 
 -- how many lengths a cut can have of each thread: 0 to all of its calls
 abbrev pub length_counts : Matrix → List ℕ
@@ -47,21 +52,21 @@ pub record IsCutAt (matrix : Matrix) (number : ℕ) (smaller : Matrix) : Type 0 
 
 -- ---- one cut
 
--- neither is it proved clear, nor does it fail after the bound
+-- neither are its schedules proved good, nor does it fail after the bound
 pub record IsLeftOpen (c : Component) (limits : Limits) (matrix : Matrix) : Type 0 where
-  pub unproved : IsProved c matrix limits → ⊥
+  pub unproved : IsProvedGood c limits matrix → ⊥
   pub unfailing : (moves : ℕ) → FailsAfter c limits matrix moves → ⊥
 
 -- what its nodes show
 abbrev pub IsShownByNodes : Component → Limits → Matrix → ByNodes → Type 0
-IsShownByNodes c limits matrix AllGood = IsProved c matrix limits
+IsShownByNodes c limits matrix AllGood = IsProvedGood c limits matrix
 IsShownByNodes c limits matrix (BadAfter moves) = FailsAfter c limits matrix moves
 IsShownByNodes c limits matrix Nothing = IsLeftOpen c limits matrix
 
 -- how it stands, where it does not fail
 abbrev pub IsStanding : Component → Limits → Matrix → Standing → Type 0
 IsStanding c limits matrix FullPass = HasReport IsFullPass c limits.bound limits.serial matrix
-IsStanding c limits matrix Proved = IsProved c matrix limits
+IsStanding c limits matrix Good = IsProvedGood c limits matrix
 IsStanding c limits matrix (Open r) =
     IsReport c matrix limits.bound limits.serial r × (IsClear c limits matrix → ⊥)
     × (Fails c limits matrix → ⊥)
@@ -76,33 +81,39 @@ abbrev pub IsJudgedFirst : Bool → Component → Limits → Matrix → Option J
 IsJudgedFirst tried c limits matrix (Some judged) = IsJudged c limits matrix judged
 IsJudgedFirst tried c limits matrix None = tried ≡ true → IsLeftOpen c limits matrix
 
--- its livelock, or none where there is none
+-- the report of one that stands so, if it is not clear by what is known of its ended schedules
+abbrev pub report_of : Standing → Option Report
+report_of FullPass = None
+report_of Good = None
+report_of (Open r) = Some r
+
+-- its livelock, or none where none is found
 abbrev pub IsLivelockIfAny : Component → Limits → Matrix → Option (List Move) → Type 0
 IsLivelockIfAny c limits matrix None = HasNoLivelock c limits matrix
 IsLivelockIfAny c limits matrix (Some u) = IsLivelock c limits matrix u
 
--- its first schedule that leads to a state from which none ends, or none where there is none
-abbrev pub IsFirstLostOf : Component → Limits → Matrix → Option (List Move) → Type 0
+-- what is found of its schedules that lead to a state from which none ends
+abbrev pub IsFirstLostOf : Component → Limits → Matrix → FirstLost → Type 0
 IsFirstLostOf c limits matrix lost =
-    FromEachStart c matrix (λ s. IsFirstLostIfAny limits.nodes s lost)
+    FromEachStart c matrix (λ s. FindsFirstLost limits.nodes s lost)
 
 -- ---- the cuts so far
 
-abbrev pub IsLost : SoFar → Type 0
-IsLost Clear = ⊥
-IsLost (Unclear smaller r) = ⊥
-IsLost (Lost smaller u) = Unit {0}
+-- what is asked of the next one
+abbrev pub asked_by : SoFar → Asked
+asked_by Clear = Clearness
+asked_by (Unclear smaller r) = LivelockOnly
+asked_by (Lost smaller u) = FailureOnly
 
--- After one cut more, with this livelock or none, and how it stands: the first livelock stays, and
--- else the first that is not clear.
-abbrev pub so_far_after : SoFar → Matrix → Option (List Move) → Standing → SoFar
-so_far_after (Lost smaller u) matrix livelock standing = Lost smaller u
-so_far_after (Unclear smaller q) matrix None standing = Unclear smaller q
-so_far_after (Unclear smaller q) matrix (Some u) standing = Lost matrix u
-so_far_after Clear matrix None FullPass = Clear
-so_far_after Clear matrix None Proved = Clear
-so_far_after Clear matrix None (Open r) = Unclear matrix r
-so_far_after Clear matrix (Some u) standing = Lost matrix u
+-- After one cut more, with this livelock or none, and with this report where it is not clear: the
+-- first livelock stays, and else the first that is not clear.
+abbrev pub so_far_after : SoFar → Matrix → Option (List Move) → Option Report → SoFar
+so_far_after (Lost smaller u) matrix livelock unclear = Lost smaller u
+so_far_after (Unclear smaller q) matrix None unclear = Unclear smaller q
+so_far_after (Unclear smaller q) matrix (Some u) unclear = Lost matrix u
+so_far_after Clear matrix None None = Clear
+so_far_after Clear matrix None (Some r) = Unclear matrix r
+so_far_after Clear matrix (Some u) unclear = Lost matrix u
 
 -- `new` is known after this cut, where `old` was before it
 abbrev pub IsNext : Component → Limits → SoFar → Matrix → SoFar → Type 0
@@ -134,7 +145,8 @@ IsByNodesOf bound (Badly moves) (BadAfter n) =
 IsByNodesOf bound (Badly moves) Nothing = bound < moves → most_moves < moves
 IsByNodesOf bound TooMany shown = shown ≡ Nothing
 
--- a cut that stands so has no serial run that offends; or, where it asks for none, no livelock
+-- a cut that stands so has no serial run that offends; or, where it asks for no lost schedule, no
+-- livelock
 abbrev pub AsksForLost : Standing → Bool → Type 0
 AsksForLost standing true =
     (c : Component) (limits : Limits) (matrix : Matrix) → Settles c matrix
@@ -143,11 +155,20 @@ AsksForLost standing false =
     (c : Component) (limits : Limits) (matrix : Matrix) → Settles c matrix
     → IsStanding c limits matrix standing → HasNoLivelock c limits matrix
 
--- the cut that stands so has this livelock, or none
+-- What is found of the livelock of a cut that stands so: that no schedule leads to a state from
+-- which none ends; or its livelock; or that none is found. Then, where its schedules are proved
+-- good, they are not proved live.
+abbrev pub IsLivelockOf : Component → Limits → Matrix → Standing → FirstLost → Type 0
+IsLivelockOf c limits matrix standing Never = IsProvedLive c limits matrix
+IsLivelockOf c limits matrix standing (First u) = IsLivelock c limits matrix u
+IsLivelockOf c limits matrix standing Unknown =
+    HasNoLivelock c limits matrix × (standing ≡ Good → IsProvedLive c limits matrix → ⊥)
+
+-- so it is of the result, if there is one, where the cut stands so
 abbrev pub SeeksLivelock : {E : Type 0} → Component → Limits → Matrix → Standing
-    → Result (Option (List Move)) E → Type 0
+    → Result FirstLost E → Type 0
 SeeksLivelock c limits matrix standing result =
-    IsStanding c limits matrix standing → IfOk result (IsLivelockIfAny c limits matrix)
+    IsStanding c limits matrix standing → IfOk result (IsLivelockOf c limits matrix standing)
 
 -- ---- at the end
 

@@ -1,6 +1,6 @@
 -- What is found of a component and a matrix that it can run, within the limits to which both are
 -- gone through.
-use Rattle.std.specs.Prelude.{ℕ, Bool, List, Vec}
+use Rattle.std.specs.Prelude.{ℕ, List, Vec}
 use Rattle.lu_component.specs.Component.{Component}
 use Rattle.lu_test.specs.Matrix.{Matrix}
 use Rattle.lu_machine.specs.declared.test.Test.{Test}
@@ -9,6 +9,7 @@ use Rattle.lu_history.specs.declared.serial.SerialOp.{SerialOp}
 use Rattle.lu_report.specs.declared.report.Report.{Report}
 use Rattle.lu_replay.specs.Reports.{IsReport}
 use Rattle.lu_parallel.specs.Ranges.{Options}
+use Rattle.lu_certify.specs.declared.asked.Asked.{Asked}
 use Rattle.lu_certify.specs.declared.certificate.Certificate.{Certificate}
 use Rattle.lu_certify.specs.declared.limits.Limits.{Limits}
 use Rattle.lu_certify.specs.declared.limited.LimitedTest.{LimitedTest}
@@ -66,9 +67,9 @@ AreKnownIn test known =
 -- ---- within the bounds of a check's options
 
 -- a cut is looked at so
-abbrev pub IsLookedWithin : Test → Bool → Options → ℕ → Looked → Type 0
-IsLookedWithin cut sought choice nodes looked =
-    IsLooked sought cut.component.now (limits_of choice nodes) cut.matrix.now looked
+abbrev pub IsLookedWithin : Test → Asked → Options → ℕ → Looked → Type 0
+IsLookedWithin cut asked choice nodes looked =
+    IsLooked asked cut.component.now (limits_of choice nodes) cut.matrix.now looked
 
 -- and a matrix certified so
 abbrev pub IsCertifiedWithin : Test → Options → ℕ → Certificate → Type 0

@@ -1,23 +1,47 @@
 -- What is found of cuts that are looked at, in any order.
-use Rattle.std.specs.Prelude.{◌≡◌, ℕ, Bool, true, List, All, Some, IfSome, Vec}
+use Rattle.std.specs.Prelude.{◌≡◌, ℕ, List, All, Option, None, Some, IfSome, Vec}
 use Rattle.std.specs.List.{slice_get}
 use Rattle.lu_component.specs.Component.{Component}
+use Rattle.lu_test.specs.declared.schedule.Move.{Move}
 use Rattle.lu_test.specs.Matrix.{Matrix}
+use Rattle.lu_report.specs.declared.report.Report.{Report}
+use Rattle.lu_replay.specs.Reports.{IsReport}
+use Rattle.lu_certify.specs.declared.asked.Asked.{Asked}
+use Rattle.lu_certify.specs.declared.asked.Asked.TheVariants.{Clearness, FailureOnly, LivelockOnly}
 use Rattle.lu_certify.specs.declared.limits.Limits.{Limits}
 use Rattle.lu_certify.specs.declared.looked.Looked.{Looked}
 use Rattle.lu_certify.specs.declared.looked.Looked.TheVariants.{Failing, Stands}
 use Rattle.lu_certify.specs.declared.looked.Found.{Found}
 use Rattle.lu_certify.specs.declared.looked.FoundAt.{FoundAt}
-use Rattle.lu_certify.specs.Certificates.{IsFailingReport}
-use Rattle.lu_certify.specs.Cuts.{IsCutAt, IsFirstLostOf, IsJudged, IsLivelockIfAny, IsStanding}
+use Rattle.lu_certify.specs.Certificates.{Fails, IsClear, IsFailingReport}
+use Rattle.lu_certify.specs.Cuts.{IsCutAt, IsFirstLostOf, IsJudged, IsLivelockIfAny}
 
--- the report that shows that the cut fails; or how it stands, and its livelock, or none, where one
--- was sought
-abbrev pub IsLooked : Bool → Component → Limits → Matrix → Looked → Type 0
-IsLooked sought c limits smaller (Failing r) = IsFailingReport c limits smaller r
-IsLooked sought c limits smaller (Stands standing livelock) =
-    IsStanding c limits smaller standing
-    × (sought ≡ true → IsLivelockIfAny c limits smaller livelock)
+-- it is clear, or this is its report, and it is not
+abbrev pub IsClearUnless : Component → Limits → Matrix → Option Report → Type 0
+IsClearUnless c limits smaller None = IsClear c limits smaller
+IsClearUnless c limits smaller (Some r) =
+    IsReport c smaller limits.bound limits.serial r × (IsClear c limits smaller → ⊥)
+
+-- so it is, where that is asked
+abbrev pub TellsUnclear : Asked → Component → Limits → Matrix → Option Report → Type 0
+TellsUnclear asked c limits smaller unclear =
+    asked ≡ Clearness → IsClearUnless c limits smaller unclear
+
+-- its livelock, or none; and, where it has none, whether it is clear: as far as this is asked
+abbrev pub IsAnswer : Asked → Component → Limits → Matrix → Option (List Move) → Option Report
+    → Type 0
+IsAnswer FailureOnly c limits smaller livelock unclear = Unit {0}
+IsAnswer LivelockOnly c limits smaller livelock unclear =
+    IsLivelockIfAny c limits smaller livelock
+IsAnswer Clearness c limits smaller livelock unclear =
+    IsLivelockIfAny c limits smaller livelock
+    × (livelock ≡ None → IsClearUnless c limits smaller unclear)
+
+-- the report that shows that the cut fails; or it does not fail, and what is asked of it besides
+abbrev pub IsLooked : Asked → Component → Limits → Matrix → Looked → Type 0
+IsLooked asked c limits smaller (Failing r) = IsFailingReport c limits smaller r
+IsLooked asked c limits smaller (Stands livelock unclear) =
+    (Fails c limits smaller → ⊥) × IsAnswer asked c limits smaller livelock unclear
 
 -- how the cut is judged, if that was found, and its first lost schedule, if that was sought
 abbrev pub IsFound : Component → Limits → Matrix → Found → Type 0

@@ -81,13 +81,13 @@ pub(crate) fn certify_knowing<P: Progress>(
             limits: test.limits,
         };
         let found = take(&mut known, number);
-        let is_sought = !so_far.is_lost();
-        match look_further(alloc, cut, found, spins, is_sought, progress)? {
+        let asked = so_far.asked();
+        match look_further(alloc, cut, found, spins, asked, progress)? {
             Looked::Failing(report) => {
                 return Ok(Certificate::NotLinearizable { matrix, report });
             }
-            Looked::Stands { standing, livelock } => {
-                so_far = so_far.after(matrix, livelock, standing);
+            Looked::Stands { livelock, unclear } => {
+                so_far = so_far.after(matrix, livelock, unclear);
             }
         }
     }
@@ -101,7 +101,8 @@ pub(crate) fn certify_knowing<P: Progress>(
 /// witnesses, where these are few: first where threads may spin, and else where the check leaves it
 /// open. They show too where the shortest schedule that ends badly has more moves than the bound;
 /// where it has at most 256, the cut fails by the report at that length. Where schedules are cut, a
-/// cut may have a livelock: a state from which no schedule ends. It stops at the first cut that
+/// cut may have a livelock: a state from which no schedule ends. Where the search for one stops at
+/// the limit of states, the cut is not clear. It stops at the first cut that
 /// fails, since that decides more than a livelock. The limits say how long schedules and serial
 /// runs are, and how many states are gone through. Asks for a matrix of the component, whose setup
 /// settles. All is done on the calling thread.

@@ -91,7 +91,7 @@ pub(crate) fn judge_first<W: Watch, E: Expanders>(
         return Ok(None);
     }
     match search_nodes(alloc, cut, watch, expanders)? {
-        ByNodes::AllGood => Ok(Some(Judged::Stands(Standing::Proved))),
+        ByNodes::AllGood => Ok(Some(Judged::Stands(Standing::Good))),
         ByNodes::BadAfter(moves) => {
             let serial = cut.limits.serial;
             let report = check_one(alloc, alloc, cut.component, cut.matrix, moves, serial)?;

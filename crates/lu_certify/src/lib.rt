@@ -15,6 +15,7 @@
 //! options say. [`certify_with_progress`] reports meanwhile how far it has come.
 #![tactic(auto)]
 
+mod asked;
 mod by_nodes;
 mod certificate;
 mod certifying;

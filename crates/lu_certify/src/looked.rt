@@ -2,7 +2,8 @@
 
 ghost use Rattle.std.specs.Prelude.{◌≡◌, None};
 
-use crate::judged::{Judged, Standing};
+use crate::judged::Judged;
+use lu_graph::FirstLost;
 use lu_report::Report;
 use lu_test::Schedule;
 
@@ -12,10 +13,11 @@ pub(crate) enum Looked {
     /// It fails, as this report shows.
     Failing(Report),
 
-    /// It does not fail, and stands so. Its livelock is this, or it has none, where one was sought.
+    /// It does not fail. This is its livelock, or none was found, where that was asked. This is its
+    /// report, or it is clear, where that was asked and it has no livelock.
     Stands {
-        standing: Standing,
         livelock: Option<Schedule>,
+        unclear: Option<Report>,
     },
 }
 
@@ -25,9 +27,8 @@ pub(crate) struct Found {
     /// How it is judged, if it is judged already.
     pub(crate) judged: Option<Judged>,
 
-    /// The first schedule that leads to a state from which none ends, or none where there is none;
-    /// if it was sought.
-    pub(crate) lost: Option<Option<Schedule>>,
+    /// The first schedule that leads to a state from which none ends, if it was sought.
+    pub(crate) lost: Option<FirstLost>,
 }
 
 /// The same, with the number of the cut.

@@ -3,47 +3,116 @@
 ghost use Rattle.std.specs.Prelude.{◌≡◌, ◌<◌, IfErr, IfOk, IfSome, OnOk, false, true};
 ghost use Rattle.lu_graph.specs.declared.halted.Halted.TheVariants.{Stopped};
 ghost use Rattle.lu_certify.specs.Limited.{AreFoundIn, IsFoundIn, IsReportAtBounds, OfTest};
-ghost use Rattle.lu_certify.specs.Looking.{IsFound, IsLooked};
-ghost use Rattle.lu_certify.specs.Cuts.{IsFirstLostOf, IsJudged, cut_count};
+ghost use Rattle.lu_certify.specs.declared.judged.Standing.TheVariants.{Good};
+ghost use Rattle.lu_certify.specs.Certificates.{IsProvedLive};
+ghost use Rattle.lu_certify.specs.Looking.{IsFound, IsLooked, TellsUnclear};
+ghost use Rattle.lu_certify.specs.Cuts.{IsFirstLostOf, IsJudged, IsStanding, cut_count};
 
+use crate::asked::Asked;
 use crate::claims::{Claims, End, Part, Task};
 use crate::cut_watch::{CutWatch, NodeCount};
 use crate::cuts::{count_cuts, cut_at};
-use crate::judged::Judged;
+use crate::judged::{Judged, Standing};
 use crate::judging::{judge, judge_checked};
 use crate::limited::LimitedTest;
 use crate::livelock::{find_lost, seek_livelock};
 use crate::looked::{Found, FoundAt, Looked};
 use crate::progress::Progress;
-use lu_graph::{Alone, Expanders, Halted, Watch, unhalted};
+use lu_graph::{Alone, Expanders, FirstLost, Halted, Watch, unhalted};
+use lu_parallel::check_one;
 use lu_report::Report;
-use lu_test::Schedule;
 use std::alloc::{AllocError, Global};
 
-/// What was found of the cut that is judged so: its livelock too, where one is to be sought.
-fn with_livelock<W: Watch>(
+/// The report of the cut that stands so, if it is not clear, where that is asked: it is not known
+/// whether a schedule leads to a state from which none ends. A cut whose ended schedules are good is
+/// clear then only where no schedule is cut at the bound.
+fn unclear_report(
+    alloc: Global,
+    cut: LimitedTest<'_>,
+    standing: Standing,
+    asked: Asked,
+) -> Result<Option<Report>, AllocError>
+    requires standing { OfTest IsStanding cut standing }
+    requires unknown { standing ≡ Good → OfTest IsProvedLive cut → ⊥ }
+    ensures { IfOk result (OfTest (TellsUnclear asked) cut.entry) }
+{
+    match standing {
+        Standing::FullPass => Ok(None),
+        Standing::Open(report) => Ok(Some(report)),
+        Standing::Good => match asked {
+            Asked::Clearness => {
+                let (bound, serial) = (cut.limits.bound, cut.limits.serial);
+                let report = check_one(alloc, alloc, cut.component, cut.matrix, bound, serial)?;
+                if report.is_full_pass() {
+                    return Ok(None);
+                }
+                Ok(Some(report))
+            }
+            Asked::LivelockOnly => Ok(None),
+            Asked::FailureOnly => Ok(None),
+        },
+    }
+}
+
+/// What was found of the cut that stands so, which does not fail: its livelock, and whether it is
+/// clear, where these are asked.
+fn look_standing<W: Watch>(
+    alloc: Global,
+    cut: LimitedTest<'_>,
+    standing: Standing,
+    lost: Option<FirstLost>,
+    asked: Asked,
+    watch: &mut W,
+) -> Result<Looked, Halted>
+    requires standing { OfTest IsStanding cut standing }
+    requires lost { IfSome lost (OfTest IsFirstLostOf cut) }
+    requires running { W.is_stopped watch.old ≡ false }
+    ensures looked { IfOk result (OfTest (IsLooked asked) cut.entry) }
+    ensures stopped { IfErr result (λ halted. halted ≡ Stopped → W.is_stopped watch.new ≡ true) }
+{
+    match seek_livelock(alloc, cut, &standing, lost, watch)? {
+        FirstLost::First(schedule) => Ok(Looked::Stands {
+            livelock: Some(schedule),
+            unclear: None,
+        }),
+        FirstLost::Never => Ok(Looked::Stands {
+            livelock: None,
+            unclear: standing.report(),
+        }),
+        FirstLost::Unknown => {
+            let unclear = unclear_report(alloc, cut, standing, asked)?;
+            Ok(Looked::Stands {
+                livelock: None,
+                unclear,
+            })
+        }
+    }
+}
+
+/// What was found of the cut that is judged so, as far as it is asked.
+fn look_judged<W: Watch>(
     alloc: Global,
     cut: LimitedTest<'_>,
     judged: Judged,
-    lost: Option<Option<Schedule>>,
-    is_sought: bool,
+    lost: Option<FirstLost>,
+    asked: Asked,
     watch: &mut W,
 ) -> Result<Looked, Halted>
     requires judged { OfTest IsJudged cut judged }
     requires lost { IfSome lost (OfTest IsFirstLostOf cut) }
     requires running { W.is_stopped watch.old ≡ false }
-    ensures looked { IfOk result (OfTest (IsLooked is_sought) cut.entry) }
+    ensures looked { IfOk result (OfTest (IsLooked asked) cut.entry) }
     ensures stopped { IfErr result (λ halted. halted ≡ Stopped → W.is_stopped watch.new ≡ true) }
 {
     match judged {
         Judged::Failing(report) => Ok(Looked::Failing(report)),
-        Judged::Stands(standing) => {
-            let mut livelock = None;
-            if is_sought {
-                livelock = seek_livelock(alloc, cut, &standing, lost, watch)?;
-            }
-            Ok(Looked::Stands { standing, livelock })
-        }
+        Judged::Stands(standing) => match asked {
+            Asked::FailureOnly => Ok(Looked::Stands {
+                livelock: None,
+                unclear: None,
+            }),
+            _ => look_standing(alloc, cut, standing, lost, asked, watch),
+        },
     }
 }
 
@@ -75,18 +144,18 @@ fn look<W: Watch, E: Expanders>(
     cut: LimitedTest<'_>,
     found: Found,
     nodes_first: bool,
-    is_sought: bool,
+    asked: Asked,
     watch: &mut W,
     expanders: &E,
 ) -> Result<Looked, Halted>
     requires found { OfTest IsFound cut found }
     requires running { W.is_stopped watch.old ≡ false }
-    ensures looked { IfOk result (OfTest (IsLooked is_sought) cut.entry) }
+    ensures looked { IfOk result (OfTest (IsLooked asked) cut.entry) }
     ensures stopped { IfErr result (λ halted. halted ≡ Stopped → W.is_stopped watch.new ≡ true) }
 {
     let Found { judged, lost } = found;
     let judged = found_or_judge(alloc, cut, judged, nodes_first, watch, expanders)?;
-    with_livelock(alloc, cut, judged, lost, is_sought, watch)
+    look_judged(alloc, cut, judged, lost, asked, watch)
 }
 
 /// Looks at a cut that has this report at the bounds.
@@ -94,17 +163,17 @@ fn look_checked<W: Watch, E: Expanders>(
     alloc: Global,
     cut: LimitedTest<'_>,
     report: Report,
-    is_sought: bool,
+    asked: Asked,
     watch: &mut W,
     expanders: &E,
 ) -> Result<Looked, Halted>
     requires report { OfTest IsReportAtBounds cut report }
     requires running { W.is_stopped watch.old ≡ false }
-    ensures looked { IfOk result (OfTest (IsLooked is_sought) cut.entry) }
+    ensures looked { IfOk result (OfTest (IsLooked asked) cut.entry) }
     ensures stopped { IfErr result (λ halted. halted ≡ Stopped → W.is_stopped watch.new ≡ true) }
 {
     let judged = judge_checked(alloc, cut, report, false, watch, expanders)?;
-    with_livelock(alloc, cut, judged, None, is_sought, watch)
+    look_judged(alloc, cut, judged, None, asked, watch)
 }
 
 /// Looks at a cut of which this was found already, on the calling thread.
@@ -113,23 +182,15 @@ pub(crate) fn look_further<P: Progress>(
     cut: LimitedTest<'_>,
     found: Found,
     nodes_first: bool,
-    is_sought: bool,
+    asked: Asked,
     progress: &P,
 ) -> Result<Looked, AllocError>
     requires found { OfTest IsFound cut found }
-    ensures { IfOk result (OfTest (IsLooked is_sought) cut.entry) }
+    ensures { IfOk result (OfTest (IsLooked asked) cut.entry) }
 {
     let was_judged = found.judged.is_some();
     let mut count = NodeCount::new(progress);
-    let result = look(
-        alloc,
-        cut,
-        found,
-        nodes_first,
-        is_sought,
-        &mut count,
-        &Alone,
-    );
+    let result = look(alloc, cut, found, nodes_first, asked, &mut count, &Alone);
     count.report_done(was_judged);
     unhalted(result)
 }
@@ -139,14 +200,14 @@ pub(crate) fn look_after_check<P: Progress>(
     alloc: Global,
     cut: LimitedTest<'_>,
     report: Report,
-    is_sought: bool,
+    asked: Asked,
     progress: &P,
 ) -> Result<Looked, AllocError>
     requires report { OfTest IsReportAtBounds cut report }
-    ensures { IfOk result (OfTest (IsLooked is_sought) cut.entry) }
+    ensures { IfOk result (OfTest (IsLooked asked) cut.entry) }
 {
     let mut count = NodeCount::new(progress);
-    let result = look_checked(alloc, cut, report, is_sought, &mut count, &Alone);
+    let result = look_checked(alloc, cut, report, asked, &mut count, &Alone);
     count.report_done(false);
     unhalted(result)
 }

@@ -1,18 +1,18 @@
 //! What is known of the cuts so far.
 
-ghost use Rattle.std.specs.Prelude.{◌≡◌, ◌↔◌, IsTrue};
+ghost use Rattle.std.specs.Prelude.{◌≡◌};
 
-use crate::judged::Standing;
+use crate::asked::Asked;
 use lu_report::Report;
 use lu_test::{Matrix, Schedule};
 
 /// What is known of the cuts so far, none of which fails.
 #[derive(Drop)]
 pub(crate) enum SoFar {
-    /// Each is clear, and none has a livelock.
+    /// Each is clear.
     Clear,
 
-    /// None has a livelock, and this is the first that is not clear, with its report.
+    /// No livelock was found, and this is the first that is not clear, with its report.
     Unclear { matrix: Matrix, report: Report },
 
     /// This is the first that has a livelock, with its schedule.
@@ -20,23 +20,28 @@ pub(crate) enum SoFar {
 }
 
 impl SoFar {
-    ghost use Rattle.lu_certify.specs.Cuts.{IsLost, so_far_after};
+    ghost use Rattle.lu_certify.specs.Cuts.{asked_by, so_far_after};
 
-    /// Whether one has a livelock.
-    pub(crate) fn is_lost(&self) -> bool
-        ensures { IsTrue result ↔ IsLost self.now }
+    /// What is asked of the next cut.
+    pub(crate) fn asked(&self) -> Asked
+        ensures { result ≡ asked_by self.now }
     {
         match self {
-            SoFar::Clear => false,
-            SoFar::Unclear { .. } => false,
-            SoFar::Lost { .. } => true,
+            SoFar::Clear => Asked::Clearness,
+            SoFar::Unclear { .. } => Asked::LivelockOnly,
+            SoFar::Lost { .. } => Asked::FailureOnly,
         }
     }
 
-    /// The same after one cut more: with this schedule as its livelock, or none, and how it
-    /// stands.
-    pub(crate) fn after(self, cut: Matrix, livelock: Option<Schedule>, standing: Standing) -> SoFar
-        ensures { result ≡ so_far_after self cut livelock standing }
+    /// The same after one cut more: with this schedule as its livelock, or none, and with this
+    /// report where it is not clear.
+    pub(crate) fn after(
+        self,
+        cut: Matrix,
+        livelock: Option<Schedule>,
+        unclear: Option<Report>,
+    ) -> SoFar
+        ensures { result ≡ so_far_after self cut livelock unclear }
     {
         match self {
             SoFar::Lost { matrix, schedule } => SoFar::Lost { matrix, schedule },
@@ -52,10 +57,9 @@ impl SoFar {
                     matrix: cut,
                     schedule,
                 },
-                None => match standing {
-                    Standing::FullPass => SoFar::Clear,
-                    Standing::Proved => SoFar::Clear,
-                    Standing::Open(report) => SoFar::Unclear {
+                None => match unclear {
+                    None => SoFar::Clear,
+                    Some(report) => SoFar::Unclear {
                         matrix: cut,
                         report,
                     },

@@ -7,6 +7,7 @@ ghost use Rattle.lu_certify.specs.Certificates.{IsCertificateWithin, NamesCutOf}
 ghost use Rattle.lu_certify.specs.Laws.{Decides};
 ghost use Rattle.lu_certify.specs.Limited.{IsCertifiedWithin, IsLookedWithin};
 
+use crate::asked::Asked;
 use crate::certificate::Certificate;
 use crate::certifying::{certify_knowing, conclude};
 use crate::cuts::{count_cuts, cut_at};
@@ -33,11 +34,11 @@ fn check_cut<R: Threads + Wait, G: Gate, P: Progress>(
     gate: &G,
     progress: &P,
     cut: Test<'_>,
-    is_sought: bool,
+    asked: Asked,
     options: Options,
     nodes: u32,
 ) -> Result<Looked, CheckFault>
-    ensures { IfOk result (IsLookedWithin cut.entry is_sought options nodes) }
+    ensures { IfOk result (IsLookedWithin cut.entry asked options nodes) }
 {
     let Test { component, matrix } = cut;
     let report = check(rt, alloc, gate, component, matrix, options)?;
@@ -46,7 +47,7 @@ fn check_cut<R: Threads + Wait, G: Gate, P: Progress>(
         matrix,
         limits: Limits::of(options, nodes),
     };
-    Ok(look_after_check(alloc, cut, report, is_sought, progress)?)
+    Ok(look_after_check(alloc, cut, report, asked, progress)?)
 }
 
 /// The certificate, by as many workers as the options say.
@@ -84,13 +85,13 @@ fn certify_cuts<R: Threads + Wait, G: Gate, P: Progress>(
             component: test.component,
             matrix: &matrix,
         };
-        let is_sought = !so_far.is_lost();
-        match check_cut(rt, alloc, gate, progress, cut, is_sought, options, nodes)? {
+        let asked = so_far.asked();
+        match check_cut(rt, alloc, gate, progress, cut, asked, options, nodes)? {
             Looked::Failing(report) => {
                 return Ok(Certificate::NotLinearizable { matrix, report });
             }
-            Looked::Stands { standing, livelock } => {
-                so_far = so_far.after(matrix, livelock, standing);
+            Looked::Stands { livelock, unclear } => {
+                so_far = so_far.after(matrix, livelock, unclear);
             }
         }
     }

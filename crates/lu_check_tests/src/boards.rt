@@ -1,9 +1,8 @@
 ghost use Rattle.std.specs.Prelude.{◌≡◌, ◌<◌, ◌≤◌, [], ◌∷◌, length};
 ghost use Rattle.lu_check_tests.specs.Boards.{HoldsNone, IsSpentSeat};
 
-use lu_board::board::{Board, Seat};
 use lu_board::board_core::{CoreEvent, CoreFault, run};
-use lu_board::view::{Kind, Look};
+use lu_board::{Board, Kind, Look, Seat};
 use std::alloc::Global;
 use std::process::Abort;
 use std::test::*;

@@ -4,8 +4,7 @@ ghost use Rattle.std.specs.Prelude.{◌≡◌, ◌≤◌, IfOk, IfSome, All, len
 ghost use Rattle.lu_machine.specs.Starts.{CanRun};
 ghost use Rattle.lu_parallel.specs.Works.{ArePieces, IsFresh, IsSpentWork};
 
-use lu_board::board::{Board, Seat};
-use lu_board::view::Kind;
+use lu_board::{Board, Kind, Seat};
 use lu_fixtures::{Fixture, ROWS, fixture_of};
 use lu_machine::Counts;
 use lu_parallel::{CheckFault, Gate, OpenGate, Options, Work, check, conclude, work};

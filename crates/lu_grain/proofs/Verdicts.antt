@@ -21,7 +21,7 @@ use Rattle.lu_refute.proofs.Every.{failing_is_not_linearizable}
 use Rattle.lu_certify.specs.declared.certificate.Certificate.{Certificate}
 use Rattle.lu_certify.specs.declared.certificate.Certificate.TheVariants.{Linearizable, Livelock, NotLinearizable, Undecided}
 use Rattle.lu_certify.specs.Certificates.{AreBeginnings, IsCertificate}
-use Rattle.lu_certify.specs.Laws.{Decides, LosesHopeOnCut}
+use Rattle.lu_certify.specs.Laws.{Decides, LosesHopeOnCut, NoCutLosesHope}
 use Rattle.lu_certify.proofs.Fitted.{reaches_more}
 use Rattle.lu_certify.proofs.Linear.{full_at}
 use Rattle.lu_certify.proofs.One.{decided}
@@ -116,8 +116,24 @@ loses_with c n matrix smaller u settles (is, lost) = (
       subst (λ x. (v : List Move) × LosesHope x v) (sym same) (loses_hope_too there.0 n u (lost there.0 there.1))),
 )
 
+never_with : (c : Component) (n : ℕ) (matrix : Matrix) → Settles c matrix → NoCutLosesHope c matrix → NoCutLosesHope (with_local c n) matrix
+never_with c n matrix settles never smaller is r from u lost =
+    let setup : smaller.setup ≡ matrix.setup = ap (λ (x : Matrix). x.setup) is.2 in
+    let there = start_there c smaller (settles_too c matrix smaller settles setup) in
+    let same : r ≡ grained there.0 n = same_start c n smaller there.0 r there.1 from in
+    let back = loses_hope_too (grained there.0 n) there.0.component.local u (subst (λ x. LosesHope x u) same lost) in
+    never smaller is there.0 there.1 back.0 back.1
+
+-- a livelock and its absence
+never_both : (c : Component) (matrix smaller : Matrix) → Settles c matrix → NoCutLosesHope c matrix → SomeLosesHope c matrix smaller → ⊥
+never_both c matrix smaller settles never (is, lost) =
+    let setup : smaller.setup ≡ matrix.setup = ap (λ (x : Matrix). x.setup) is.2 in
+    let there = start_there c smaller (settles_too c matrix smaller settles setup) in
+    let found = lost there.0 there.1 in
+    never smaller is there.0 there.1 found.0 found.1
+
 decides_with : (c : Component) (n : ℕ) (matrix : Matrix) → Settles c matrix → Settles (with_local c n) matrix → (certificate : Certificate) → Decides c matrix certificate → DecidesAlike (with_local c n) matrix certificate
-decides_with c n matrix settles other (Linearizable members) h = (h.0, linearizable_too c n matrix (contains members) settles h.1)
+decides_with c n matrix settles other (Linearizable members) h = ((h.0.0, linearizable_too c n matrix (contains members) settles h.0.1), never_with c n matrix settles h.1)
 decides_with c n matrix settles other (NotLinearizable smaller r) h =
     λ spec serves. h spec (serves.0, linearizable_too (with_local c n) c.local matrix spec other serves.1)
 decides_with c n matrix settles other (Livelock smaller u) h = loses_with c n matrix smaller u settles h
@@ -135,21 +151,27 @@ certificates_agree c n matrix limits within a b settles other x y = by_kind a b 
         let there = start_there c matrix settles in
         let from = start_there (with_local c n) matrix other in
         let same : from.0 ≡ grained there.0 n = same_start c n matrix there.0 from.0 there.1 from.1 in
-        let one = beginnings_alike there.0 n members (x.2 there.0 there.1) in
-        let two = subst (λ z. AreBeginnings z others) same (y.2 from.0 from.1) in
+        let one = beginnings_alike there.0 n members (x.1 there.0 there.1) in
+        let two = subst (λ z. AreBeginnings z others) same (y.1 from.0 from.1) in
         λ q. ((λ has. (two q).1 ((one q).0 has)), (λ has. (one q).1 ((two q).0 has)))
     by_kind (Linearizable members) (NotLinearizable smaller r) x y =
         decided (with_local c n) matrix within other (NotLinearizable smaller r) y (contains members)
-        (decides_too c n matrix limits (Linearizable members) settles other x)
-    by_kind (Linearizable members) (Livelock smaller u) x y = tt
+        (decides_too c n matrix limits (Linearizable members) settles other x).0
+    by_kind (Linearizable members) (Livelock smaller u) x y =
+        let lost = decided (with_local c n) matrix within other (Livelock smaller u) y in
+        never_both (with_local c n) matrix smaller other (decides_too c n matrix limits (Linearizable members) settles other x).1 (lost.0, (λ s at. (u, lost.1 s at)))
     by_kind (Linearizable members) (Undecided smaller r) x y = tt
     by_kind (NotLinearizable smaller r) (Linearizable others) x y =
         decides_too c n matrix limits (NotLinearizable smaller r) settles other x (contains others)
-        (decided (with_local c n) matrix within other (Linearizable others) y)
+        (decided (with_local c n) matrix within other (Linearizable others) y).0
     by_kind (NotLinearizable smaller r) (NotLinearizable at q) x y = tt
     by_kind (NotLinearizable smaller r) (Livelock at u) x y = tt
     by_kind (NotLinearizable smaller r) (Undecided at q) x y = tt
-    by_kind (Livelock smaller u) b x y = tt
+    by_kind (Livelock smaller u) (Linearizable others) x y =
+        never_both (with_local c n) matrix smaller other (decided (with_local c n) matrix within other (Linearizable others) y).1 (decides_too c n matrix limits (Livelock smaller u) settles other x)
+    by_kind (Livelock smaller u) (NotLinearizable at q) x y = tt
+    by_kind (Livelock smaller u) (Livelock at v) x y = tt
+    by_kind (Livelock smaller u) (Undecided at q) x y = tt
     by_kind (Undecided smaller r) b x y = tt
 
 -- what a certificate by longer moves decides, if there is one, it decides of the component as it is

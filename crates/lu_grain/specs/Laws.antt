@@ -197,19 +197,23 @@ DecidesToo =
     IsCertificate c matrix limits certificate
     → DecidesAlike (with_local c n) matrix certificate
 
--- Two certificates don't contradict: those of sets have the same members. A livelock goes with
--- each: the limit of states and the bounds may hide it from the other.
+-- Two certificates don't contradict: those of sets have the same members, and where one has a set,
+-- the other neither fails nor has a livelock. Limits and bounds may hide a failure or a livelock from
+-- the other, which then has a livelock or is undecided.
 abbrev pub Agree : Certificate → Certificate → Type 0
 Agree (Linearizable members) (Linearizable others) =
     (q : List SerialOp) → Has members q ↔ Has others q
 Agree (Linearizable members) (NotLinearizable smaller r) = ⊥
-Agree (Linearizable members) (Livelock smaller u) = Unit {0}
+Agree (Linearizable members) (Livelock smaller u) = ⊥
 Agree (Linearizable members) (Undecided smaller r) = Unit {0}
 Agree (NotLinearizable smaller r) (Linearizable others) = ⊥
 Agree (NotLinearizable smaller r) (NotLinearizable other q) = Unit {0}
 Agree (NotLinearizable smaller r) (Livelock other u) = Unit {0}
 Agree (NotLinearizable smaller r) (Undecided other q) = Unit {0}
-Agree (Livelock smaller u) b = Unit {0}
+Agree (Livelock smaller u) (Linearizable others) = ⊥
+Agree (Livelock smaller u) (NotLinearizable other q) = Unit {0}
+Agree (Livelock smaller u) (Livelock other v) = Unit {0}
+Agree (Livelock smaller u) (Undecided other q) = Unit {0}
 Agree (Undecided smaller r) b = Unit {0}
 
 -- A certificate and one with `local n` never contradict, whatever their limits.

@@ -16,9 +16,10 @@ use Rattle.lu_graph.specs.declared.edge.Edge.{Edge}
 use Rattle.lu_graph.specs.declared.exploring_states.StateGraph.{StateGraph}
 use Rattle.lu_graph.specs.Discovering.{Entry, IsMoveAlong, IsReachedSo}
 use Rattle.lu_graph.specs.Exploring.{AreInOrder, ArePaths, IsExplored, IsPathTo}
-use Rattle.lu_graph.specs.Hopeless.{IsFirstLostIfAny}
+use Rattle.lu_graph.specs.declared.lost.FirstLost.TheVariants.{First, Never, Unknown}
+use Rattle.lu_graph.specs.Hopeless.{FindsFirstLost}
 use Rattle.lu_graph.specs.Marking.{AreMarkedBack, IsWithin}
-use Rattle.lu_graph.proofs.Hopeful.{all_longer, are_paths, first_lost, in_order, many, none_lost, path_of}
+use Rattle.lu_graph.proofs.Hopeful.{all_longer, are_paths, first_lost, in_order, many, none_lost, path_of, some_lost}
 use Rattle.lu_graph.proofs.Spread.{first_is}
 
 -- a slice of a list of that length that was written
@@ -64,11 +65,14 @@ module _ (c : Component) (matrix : Matrix) (settles : Settles c matrix) (most : 
     are : AreMarkedBack graph.found.edges.items graph.ended.items hopeful
     are = subst (λ (xs : List Bool). AreMarkedBack graph.found.edges.items xs hopeful) old_are (subst (λ (es : List Edge). AreMarkedBack es old hopeful) edges_are back)
 
-    pub none_found : None ≡ position not hopeful → (s : State) → IsStart c matrix s → IsFirstLostIfAny most s None
-    none_found is s at few u moves r = none_lost s graph (told s at).1 hopeful sized are (first_is hopeful None is) u r
+    pub none_found : None ≡ position not hopeful → (s : State) → IsStart c matrix s → FindsFirstLost most s Never
+    none_found is s at = ((told s at).0, none_lost s graph (told s at).1 hopeful sized are (first_is hopeful None is))
 
     abbrev paths : (s : State) → IsStart c matrix s → List (List Move)
     paths s at = map path_of (told s at).1.searched.entries
+
+    paths_at : (ways : List Discovery) → ways ≡ graph.found.discoveries.items → (s : State) (at : IsStart c matrix s) → ArePaths ways (paths s at)
+    paths_at ways same s at = subst (λ (xs : List Discovery). ArePaths xs (paths s at)) (sym same) (are_paths s graph (told s at).1)
 
     module _ (place : ℕ) (is : Some place ≡ position not hopeful) where
       pub place_within : (ways : List Discovery) → ways ≡ graph.found.discoveries.items → place < length ways
@@ -84,14 +88,19 @@ module _ (c : Component) (matrix : Matrix) (settles : Settles c matrix) (most : 
           ap (λ (xs : List Discovery). length xs) (same ∙ graph_is.searched.discoveries) ∙ length-map graph_is.searched.entries (λ (entry : Entry). entry.way) in
           omega (arith, within, whole, ended, keys, all)
 
-      by_path : (s : State) (at : IsStart c matrix s) (found : Option (List Move)) → IsPathTo (paths s at) place found → IsFirstLostIfAny most s found
-      by_path s at None path = λ few v moves r.
-          (let x = told s at in
-          all_longer s graph x.1 hopeful sized are place (first_is hopeful (Some place) is) path.0 path.1 path.2 v moves r)
-      by_path s at (Some u) path =
+      -- its path is longer than a schedule
+      pub longer_path : (ways : List Discovery) → ways ≡ graph.found.discoveries.items → ((paths : List (List Move)) → ArePaths ways paths → IsPathTo paths place None) → (s : State) → IsStart c matrix s → FindsFirstLost most s Unknown
+      longer_path ways same path s at few =
           let x = told s at in
-          (x.0, first_lost s graph x.1 hopeful sized are place (first_is hopeful (Some place) is) u path.0 path.1)
+          let first = first_is hopeful (Some place) is in
+          let found = path (paths s at) (paths_at ways same s at) in (
+            some_lost s graph x.1 hopeful sized are place first,
+            (λ v lost. all_longer s graph x.1 hopeful sized are place first found.0 found.1 found.2 v lost.moves lost.lost),
+          )
 
-      pub found_by_path : {E : Type 0} (ways : List Discovery) → ways ≡ graph.found.discoveries.items → (result : Result (Option (List Move)) E) → ((paths : List (List Move)) → ArePaths ways paths → IfOk result (IsPathTo paths place)) → (s : State) → IsStart c matrix s → IfOk result (IsFirstLostIfAny most s)
-      found_by_path ways same (Ok found) path s at = by_path s at found (path (paths s at) (subst (λ (xs : List Discovery). ArePaths xs (paths s at)) (sym same) (are_paths s graph (told s at).1)))
-      found_by_path ways same (Err e) path s at = tt
+      -- its path is this schedule
+      pub found_by_path : (ways : List Discovery) → ways ≡ graph.found.discoveries.items → (u : List Move) → ((paths : List (List Move)) → ArePaths ways paths → IsPathTo paths place (Some u)) → (s : State) → IsStart c matrix s → FindsFirstLost most s (First u)
+      found_by_path ways same u path s at =
+          let x = told s at in
+          let found = path (paths s at) (paths_at ways same s at) in
+          (x.0, first_lost s graph x.1 hopeful sized are place (first_is hopeful (Some place) is) u found.0 found.1)

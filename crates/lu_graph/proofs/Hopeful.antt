@@ -18,7 +18,7 @@ use Rattle.lu_graph.specs.declared.edge.Edge.{Edge}
 use Rattle.lu_graph.specs.declared.exploring_states.StateGraph.{StateGraph}
 use Rattle.lu_graph.specs.Discovering.{Entry, IsMoveAlong, IsNoLater, IsReachedSo, IsSearched, LeadsOn, edge, state_of}
 use Rattle.lu_graph.specs.Exploring.{AreInOrder, ArePaths, IsStateGraph}
-use Rattle.lu_graph.specs.Hopeless.{IsFirstLost, IsHopeless, LosesHope}
+use Rattle.lu_graph.specs.Hopeless.{IsFirstLost, IsHopeless, LosesHope, NeverLosesHope}
 use Rattle.lu_graph.specs.Marking.{AreMarkedBack, IsMarked, LeadsToMark}
 use Rattle.lu_graph.proofs.Among.{all_at, at_image, image_at}
 use Rattle.lu_graph.proofs.Earlier.{no_later_push, no_later_trans, not_longer, not_smaller}
@@ -165,6 +165,10 @@ module _ (s : State) (graph : StateGraph) (is : IsStateGraph s graph) where
             shortest = λ v less r. not_longer there.0.path v (no_later v r) less;
             least = λ v long smaller r. not_smaller there.0.path v (no_later v r) long smaller;
           })
+
+      -- so some schedule does
+      pub some_lost : NeverLosesHope s → ⊥
+      some_lost never = never there.0.path lost
 
       -- where its path is longer than a schedule, no schedule does
       pub all_longer : (u : List Move) → slice_get (map path_of known.entries) place ≡ Some u → 4112 < length u → (v : List Move) → AreMoves v → LosesHope s v → ⊥

@@ -1,5 +1,5 @@
 -- States from which no schedule ends: the livelock of threads that spin.
-use Rattle.std.specs.Prelude.{◌≡◌, ℕ, ◌<◌, ◌≤◌, IfOk, Result, List, length, Option, Some, None}
+use Rattle.std.specs.Prelude.{◌≡◌, ℕ, ◌<◌, ◌≤◌, IfOk, Result, List, length, Option}
 use Rattle.lu_component.specs.Component.{Component}
 use Rattle.lu_test.specs.declared.schedule.Move.{Move}
 use Rattle.lu_test.specs.Matrix.{Matrix}
@@ -11,6 +11,8 @@ use Rattle.lu_machine.specs.Schedules.{Reaches}
 use Rattle.lu_machine.specs.Starts.{FromEachStart}
 use Rattle.lu_machine.specs.States.{State}
 use Rattle.lu_machine.specs.Steps.{Step}
+use Rattle.lu_graph.specs.declared.lost.FirstLost.{FirstLost}
+use Rattle.lu_graph.specs.declared.lost.FirstLost.TheVariants.{First, Never, Unknown}
 use Rattle.lu_graph.specs.Nodes.{IsAmong}
 
 -- ---- states, without the histories that led there
@@ -41,6 +43,10 @@ IsHopeless s = (u : List Move) → Reaches s u (λ end _. IsEnded end) → ⊥
 abbrev pub LosesHope : State → List Move → Type 0
 LosesHope s u = Reaches s u (λ end _. IsHopeless end)
 
+-- no schedule leads to one
+abbrev pub NeverLosesHope : State → Type 0
+NeverLosesHope s = (u : List Move) → LosesHope s u → ⊥
+
 -- u leads to a hopeless state, none shorter does, and no lesser one of its length; and it has no
 -- more moves than a schedule's text
 pub record IsFirstLost (s : State) (u : List Move) : Type 0 where
@@ -49,18 +55,20 @@ pub record IsFirstLost (s : State) (u : List Move) : Type 0 where
   pub shortest : (v : List Move) → length v < length u → LosesHope s v → ⊥
   pub least : (v : List Move) → length v ≡ length u → IsSmaller v u → LosesHope s v → ⊥
 
--- What is found of s: the first schedule that leads to a hopeless state, where there are no more
--- than this many states; none where there are more, or no schedule as short as a text leads to one.
-abbrev pub IsFirstLostIfAny : ℕ → State → Option (List Move) → Type 0
-IsFirstLostIfAny most s None =
-    HasFewStates s most → (u : List Move) → AreMoves u → LosesHope s u → ⊥
-IsFirstLostIfAny most s (Some u) = HasFewStates s most × IsFirstLost s u
+-- What is found of s, where there are no more than this many states: that no schedule leads to a
+-- hopeless state, or the first that does. It is unknown only where there are more states, or where
+-- schedules lead to one and each has more moves than a text.
+abbrev pub FindsFirstLost : ℕ → State → FirstLost → Type 0
+FindsFirstLost most s Never = HasFewStates s most × NeverLosesHope s
+FindsFirstLost most s (First u) = HasFewStates s most × IsFirstLost s u
+FindsFirstLost most s Unknown =
+    HasFewStates s most
+    → (NeverLosesHope s → ⊥) × ((u : List Move) → IsFirstLost s u → ⊥)
 
 -- so it is of the result, if there is one, from each start
-abbrev pub TellsFirstLost : {E : Type 0} → Component → Matrix → ℕ → Result (Option (List Move)) E
-    → Type 0
+abbrev pub TellsFirstLost : {E : Type 0} → Component → Matrix → ℕ → Result FirstLost E → Type 0
 TellsFirstLost c matrix most result =
-    FromEachStart c matrix (λ s. IfOk result (IsFirstLostIfAny most s))
+    FromEachStart c matrix (λ s. IfOk result (FindsFirstLost most s))
 
 -- ---- a law
 

@@ -19,8 +19,10 @@
 //!     Ending::Badly(moves) => ..,
 //!     Ending::TooMany => ..,
 //! }
-//! if let Some(schedule) = first_lost(alloc, &component, &matrix, DEFAULT_NODES)? {
-//!     ..
+//! match first_lost(alloc, &component, &matrix, DEFAULT_NODES)? {
+//!     FirstLost::Never => ..,
+//!     FirstLost::First(schedule) => ..,
+//!     FirstLost::Unknown => ..,
 //! }
 //! ```
 #![tactic(auto)]
@@ -46,6 +48,7 @@ mod laws;
 mod level;
 mod listing;
 mod losing;
+mod lost;
 mod marking;
 mod members;
 mod possibilities;
@@ -61,4 +64,5 @@ pub use exploring::{ends_well, ends_well_watched};
 pub use halted::{Halted, unhalted};
 pub use laws::{alike_laws, alive_laws, first_law, guard_law, hopeless_law};
 pub use losing::{first_lost, first_lost_watched};
+pub use lost::FirstLost;
 pub use lu_tree::{Unwatched, Watch};

@@ -5,11 +5,12 @@ ghost use Rattle.lu_test.specs.Schedule.{IsMove};
 ghost use Rattle.lu_machine.specs.Starts.{CanRun, FromEachStart};
 ghost use Rattle.lu_graph.specs.declared.halted.Halted.TheVariants.{Stopped};
 ghost use Rattle.lu_graph.specs.Exploring.{AreInOrder, FindsPath};
-ghost use Rattle.lu_graph.specs.Hopeless.{IsFirstLostIfAny, TellsFirstLost};
+ghost use Rattle.lu_graph.specs.Hopeless.{FindsFirstLost, TellsFirstLost};
 
 use crate::discovering::Discovery;
 use crate::exploring_states::explore;
 use crate::halted::{Halted, unhalted};
+use crate::lost::FirstLost;
 use crate::marking::{first_unmarked, mark_back};
 use lu_component::Component;
 use lu_test::{MOST_LISTED_MOVES, Matrix, Schedule};
@@ -55,7 +56,7 @@ pub fn first_lost_watched<W: Watch>(
     matrix: &Matrix,
     most: u32,
     watch: &mut W,
-) -> Result<Option<Schedule>, Halted>
+) -> Result<FirstLost, Halted>
     requires runs { CanRun component.now matrix.now }
     requires running { W.is_stopped watch.old ≡ false }
     ensures first { TellsFirstLost component.now matrix.now most result }
@@ -64,21 +65,24 @@ pub fn first_lost_watched<W: Watch>(
     ensures running { OnOk result (W.is_stopped watch.new ≡ false) }
 {
     let mut graph = match explore(alloc, component, matrix, most as usize, watch)? {
-        None => return Ok(None),
+        None => return Ok(FirstLost::Unknown),
         Some(graph) => graph,
     };
     mark_back(&graph.found.edges, &mut graph.ended);
     match first_unmarked(&graph.ended) {
-        None => Ok(None),
-        Some(number) => Ok(schedule_to(alloc, &graph.found.discoveries, number)?),
+        None => Ok(FirstLost::Never),
+        Some(number) => match schedule_to(alloc, &graph.found.discoveries, number)? {
+            None => Ok(FirstLost::Unknown),
+            Some(schedule) => Ok(FirstLost::First(schedule)),
+        },
     }
 }
 
 /// The first schedule that leads to a state from which no schedule ends: the shortest one, and the
-/// least of that length (some thread goes on for ever there, whatever moves are made). None where
-/// no schedule of up to 4,112 moves leads to one, and where the component has more than `most`
-/// states on the matrix. Histories play no part. Asks for a matrix of the component, whose setup
-/// settles.
+/// least of that length (some thread goes on for ever there, whatever moves are made). It is
+/// [`FirstLost::Never`] only where no schedule of any length leads to one. It is unknown where the
+/// component has more than `most` states on the matrix, and where that schedule has more than 4,112
+/// moves. Histories play no part. Asks for a matrix of the component, whose setup settles.
 ///
 /// # Errors
 ///
@@ -88,9 +92,9 @@ pub fn first_lost(
     component: &Component,
     matrix: &Matrix,
     most: u32,
-) -> Result<Option<Schedule>, AllocError>
+) -> Result<FirstLost, AllocError>
     requires { CanRun component.now matrix.now }
-    ensures { FromEachStart component.now matrix.now (λ s. IfOk result (IsFirstLostIfAny most s)) }
+    ensures { FromEachStart component.now matrix.now (λ s. IfOk result (FindsFirstLost most s)) }
 {
     unhalted(first_lost_watched(alloc, component, matrix, most, &mut Unwatched))
 }

@@ -16,7 +16,7 @@ use crate::one_thread::{finding_of, search_all};
 use crate::options::Options;
 use crate::worker::{Job, REMEMBERED};
 use crate::worker_threads::run_workers;
-use lu_board::board::Board;
+use lu_board::Board;
 use lu_component::Component;
 use lu_machine::Test;
 use lu_replay::graph_or_offence;

@@ -7,7 +7,7 @@ ghost use Rattle.lu_parallel.specs.Works.{IsSpentWork, found_pieces};
 ghost use Rattle.lu_parallel.specs.Conclusions.{IsConclusion, SkipsAbove, seats_of, counts_of_works, founds_of};
 
 use crate::works::{FoundPiece, Work};
-use lu_board::board::{Board, Seat};
+use lu_board::{Board, Seat};
 use lu_machine::Counts;
 use lu_tree::Found;
 use std::alloc::{AllocError, Global};

@@ -4,8 +4,8 @@ ghost use Rattle.std.specs.Prelude.{◌≡◌, ◌∷◌, [], true, false};
 ghost use Rattle.lu_board.specs.Pieces.{is_in};
 ghost use Rattle.lu_parallel.specs.Watches.{held_piece, rest_of};
 
-use lu_board::board::{Board, Seat};
-use lu_board::view::{Look, View};
+use lu_board::view::View;
+use lu_board::{Board, Look, Seat};
 use lu_tree::Watch;
 
 /// What a watch leaves as it is: the board, the piece, and what the seat knows of other pieces. No

@@ -12,8 +12,7 @@ ghost use Rattle.lu_parallel.specs.Works.{ArePieces, AreTablesFor, IsNoted, IsFr
 use crate::gate::Gate;
 use crate::seat_watch::SeatWatch;
 use crate::works::{FoundPiece, Work};
-use lu_board::board::{Board, Seat};
-use lu_board::view::{Kind, Look};
+use lu_board::{Board, Kind, Look, Seat};
 use lu_component::Component;
 use lu_machine::{Counts, Test};
 use lu_test::{Matrix, Schedule};

@@ -8,7 +8,7 @@ use crate::fault::CheckFault;
 use crate::gate::Gate;
 use crate::worker::{Job, work};
 use crate::works::Work;
-use lu_board::board::Seat;
+use lu_board::Seat;
 use lu_machine::Test;
 use lu_tree::SearchSpace;
 use lu_trie::SerialTree;

@@ -1,6 +1,6 @@
 //! What a worker hands back.
 
-use lu_board::board::Seat;
+use lu_board::Seat;
 use lu_machine::Counts;
 use lu_test::Schedule;
 use lu_witness::Why;

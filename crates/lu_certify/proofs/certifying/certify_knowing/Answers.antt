@@ -1,9 +1,9 @@
-use Rattle.std.proofs.Common.{arith, ◌≤◌, not, sym, subst}
+use Rattle.std.proofs.Common.{arith, ◌≤◌, sym, subst}
 use Rattle.lu_certify.specs.declared.certificate.Certificate.TheVariants.{NotLinearizable}
 use Rattle.lu_certify.specs.Certificates.{IsFailingReport}
-use Rattle.lu_certify.specs.Looking.{IsLooked}
+use Rattle.lu_certify.specs.Looking.{IsAnswer, IsLooked}
 use Rattle.lu_certify.specs.Cuts.{IsNext, cut_count}
-use Rattle.lu_certify.proofs.Livelocks.{next_sought}
+use Rattle.lu_certify.proofs.Livelocks.{next_cut}
 use Rattle.lu_certify.proofs.One.{decided, decides_where}
 use Rattle.lu_certify.proofs.Rounds.{concluded_where, cut_runs, first_here, known_next, names_where, none_known, none_more, none_offends, none_yet}
 use Rattle.lu_certify.proofs.certifying.certify_knowing.Goals as goal
@@ -27,12 +27,12 @@ look_further-requires-clause-found g c = λ κs lives.
 
 pub returns-in-Failing-clause-certificate : goal.returns-in-Failing-clause-certificate
 returns-in-Failing-clause-certificate g c =
-    let fails : IsFailingReport c.args.test.component.now c.args.test.limits c.in_ok-matrix.matrix c.in-Failing.report = subst (IsLooked (not c.is_lost-is_sought.result) c.args.test.component.now c.args.test.limits c.in_ok-matrix.matrix) c.in-Failing.is c.in_ok-report.ensures in
+    let fails : IsFailingReport c.args.test.component.now c.args.test.limits c.in_ok-matrix.matrix c.in-Failing.report = subst (IsLooked c.asked-asked.result c.args.test.component.now c.args.test.limits c.in_ok-matrix.matrix) c.in-Failing.is c.in_ok-report.ensures in
     first_here c.args.test.component.now c.args.test.matrix.now c.args.test.limits c.args.test.can_run.settles c.loop-number.number c.in_ok-matrix.matrix c.in_ok-matrix.ensures c.in-Failing.report c.loop-number.invariant.none fails
 
 pub returns-in-Failing-clause-decides : goal.returns-in-Failing-clause-decides
 returns-in-Failing-clause-decides g c =
-    let fails : IsFailingReport c.args.test.component.now c.args.test.limits c.in_ok-matrix.matrix c.in-Failing.report = subst (IsLooked (not c.is_lost-is_sought.result) c.args.test.component.now c.args.test.limits c.in_ok-matrix.matrix) c.in-Failing.is c.in_ok-report.ensures in
+    let fails : IsFailingReport c.args.test.component.now c.args.test.limits c.in_ok-matrix.matrix c.in-Failing.report = subst (IsLooked c.asked-asked.result c.args.test.component.now c.args.test.limits c.in_ok-matrix.matrix) c.in-Failing.is c.in_ok-report.ensures in
     decided c.args.test.component.now c.args.test.matrix.now c.args.test.limits c.args.test.can_run.settles (NotLinearizable c.in_ok-matrix.matrix c.in-Failing.report)
     (first_here c.args.test.component.now c.args.test.matrix.now c.args.test.limits c.args.test.can_run.settles c.loop-number.number c.in_ok-matrix.matrix c.in_ok-matrix.ensures c.in-Failing.report c.loop-number.invariant.none fails)
 
@@ -41,12 +41,13 @@ returns-in-Failing-clause-of g c = (cut_runs c.args.test.component.now c.args.te
 
 pub loop-number-preserved : goal.loop-number-preserved
 loop-number-preserved g c =
-    let is = subst (IsLooked (not c.is_lost-is_sought.result) c.args.test.component.now c.args.test.limits c.in_ok-matrix.matrix) c.in-Stands.is c.in_ok-report.ensures in
+    let is = subst (IsLooked c.asked-asked.result c.args.test.component.now c.args.test.limits c.in_ok-matrix.matrix) c.in-Stands.is c.in_ok-report.ensures in
     let next : IsNext c.args.test.component.now c.args.test.limits c.loop-number.so_far c.in_ok-matrix.matrix c.after-so_far.result =
     subst (IsNext c.args.test.component.now c.args.test.limits c.loop-number.so_far c.in_ok-matrix.matrix) (sym c.after-so_far.ensures)
-    (next_sought c.args.test.component.now c.args.test.limits c.in_ok-matrix.matrix c.loop-number.so_far c.is_lost-is_sought.result c.in-Stands.livelock c.in-Stands.standing c.is_lost-is_sought.ensures is.1 is.0) in
+    (next_cut c.args.test.component.now c.args.test.limits c.in_ok-matrix.matrix c.loop-number.so_far c.in-Stands.livelock c.in-Stands.unclear
+    (subst (λ x. IsAnswer x c.args.test.component.now c.args.test.limits c.in_ok-matrix.matrix c.in-Stands.livelock c.in-Stands.unclear) c.asked-asked.ensures is.1)) in
     record {
-      none = none_more c.args.test.component.now c.args.test.matrix.now c.args.test.limits c.args.test.can_run.settles c.loop-number.number c.in_ok-matrix.matrix c.in_ok-matrix.ensures c.loop-number.invariant.none c.in-Stands.standing is.0;
+      none = none_more c.args.test.component.now c.args.test.matrix.now c.args.test.limits c.args.test.can_run.settles c.loop-number.number c.in_ok-matrix.matrix c.in_ok-matrix.ensures c.loop-number.invariant.none is.0;
       known = known_next c.args.test.component.now c.args.test.matrix.now c.args.test.limits c.args.test.can_run.settles c.loop-number.number c.in_ok-matrix.matrix c.in_ok-matrix.ensures c.loop-number.so_far c.after-so_far.result next c.loop-number.invariant.known;
       others = c.take-found.ensures.known c.args.test.component.now c.args.test.matrix.now c.args.test.limits c.loop-number.invariant.others;
     }
