@@ -30,14 +30,16 @@ fn graph_of(
     }
 }
 
-/// The graph has this many nodes.
-fn assert_nodes(
+/// The graph has this many members and nodes.
+fn assert_counts(
     rt: &(impl AllocGlobal + Abort),
     component: &[u8],
     matrix: &[u8],
+    members: u64,
     nodes: usize,
 ) -> Result<(), Fail> {
     let graph = graph_of(rt, component, matrix)?;
+    assert!(rt; graph.member_count() == members, "{members}");
     assert!(rt; graph.node_count() == nodes, "{nodes}");
     Ok(())
 }
@@ -92,24 +94,28 @@ return r0
 end
 ";
 
+const FOUR_OF_FOUR: &[u8] = b"thread inc;inc;inc;inc
+thread inc;inc;inc;inc
+thread inc;inc;inc;inc
+thread inc;inc;inc;inc
+";
+
+const EIGHT_OF_TWO: &[u8] = b"thread inc;inc
+thread inc;inc
+thread inc;inc
+thread inc;inc
+thread inc;inc
+thread inc;inc
+thread inc;inc
+thread inc;inc
+";
+
 #[test]
 fn histories_that_continue_alike_share_a_node(rt: HostRuntime) -> Result<(), Fail> {
-    // 63,063,000 histories.
-    assert_nodes(
-        &rt,
-        COMPONENT,
-        b"thread inc;inc;inc;inc\nthread inc;inc;inc;inc\nthread inc;inc;inc;inc\nthread inc;inc;inc;inc\n",
-        625,
-    )?;
-    // 81,729,648,000 histories.
-    assert_nodes(
-        &rt,
-        COMPONENT,
-        b"thread inc;inc\nthread inc;inc\nthread inc;inc\nthread inc;inc\nthread inc;inc\nthread inc;inc\nthread inc;inc\nthread inc;inc\n",
-        6561,
-    )?;
+    assert_counts(&rt, COMPONENT, FOUR_OF_FOUR, 63_063_000, 625)?;
+    assert_counts(&rt, COMPONENT, EIGHT_OF_TWO, 81_729_648_000, 6_561)?;
     // After both calls the rests are found in two orders.
-    assert_nodes(&rt, COMPONENT, b"thread up\nthread down\n", 4)
+    assert_counts(&rt, COMPONENT, b"thread up\nthread down\n", 2, 4)
 }
 
 #[test]

@@ -1,5 +1,5 @@
 -- Sets of histories in a flat list of nodes, each after its children.
-use Rattle.std.specs.Prelude.{◌≡◌, ℕ, ◌+◌, ◌<◌, ◌≤◌, Bool, List, [], ◌∷◌, ◌++◌, length, map, take, drop, slice_index_or}
+use Rattle.std.specs.Prelude.{◌≡◌, ℕ, ◌+◌, ◌-◌, ◌^◌, ◌<◌, ◌≤◌, min, Bool, List, [], ◌∷◌, ◌++◌, length, map, take, drop, slice_index_or}
 use Rattle.lu_history.specs.declared.serial.SerialOp.{SerialOp}
 use Rattle.lu_serial_graph.specs.declared.graph.GraphNode.{GraphNode}
 use Rattle.lu_trie.specs.Members.{AllSerial}
@@ -32,6 +32,10 @@ AllBelow n (link ∷ links) = (link.1 < n) × AllBelow n links
 abbrev pub members_at : List Link → List (List (List SerialOp)) → GraphNode → List (List SerialOp)
 members_at links table node = members_from node.ends (resolve table (links_of links node))
 
+-- the number of these histories, or the greatest number of 64 bits where there are more
+abbrev pub count_of : List (List SerialOp) → ℕ
+count_of histories = min (length histories) (2 ^ 64 - 1)
+
 -- the table with the members below each further node
 abbrev pub table_from : List Link → List (List (List SerialOp)) → List GraphNode
     → List (List (List SerialOp))
@@ -39,13 +43,15 @@ table_from links table [] = table
 table_from links table (node ∷ nodes) =
     table_from links (table ++ members_at links table node ∷ []) nodes
 
--- the node's links are in the list, lead to earlier nodes, and make branches in order
+-- the node's links are in the list, lead to earlier nodes, and make branches in order; and the node
+-- has the number of members below it
 pub record IsLinked (links : List Link) (table : List (List (List SerialOp)))
     (node : GraphNode) : Type 0 where
   pub in_range : node.first + node.count ≤ length links
   pub below : AllBelow (length table) (links_of links node)
   pub branches : AreBranches (resolve table (links_of links node))
   pub serial : AllSerial (members_at links table node)
+  pub counted : node.member_count ≡ count_of (members_at links table node)
 
 abbrev pub AreLinked : List Link → List (List (List SerialOp)) → List GraphNode → Type 0
 AreLinked links table [] = Unit {0}

@@ -2,9 +2,10 @@
 
 ghost use Rattle.std.specs.Prelude.{◌≡◌, ◌<◌, ◌++◌, List, [], length, slice_index_or, IfOk};
 ghost use Rattle.lu_history.specs.declared.serial.SerialOp.{SerialOp};
-ghost use Rattle.lu_trie.specs.Members.{AllSerial};
+ghost use Rattle.std.specs.List.Sorted.{IsStrictlySortedBy};
+ghost use Rattle.lu_trie.specs.Members.{AllSerial, history_cmp};
 ghost use Rattle.lu_trie.specs.Branches.{AreBranches, members_from};
-ghost use Rattle.lu_serial_graph.specs.Graphs.{AllBelow, HoldsFrom, IsPlaceIn, members_of, node_count_of, resolve};
+ghost use Rattle.lu_serial_graph.specs.Graphs.{AllBelow, HoldsFrom, IsPlaceIn, count_of, members_of, node_count_of, resolve};
 
 use lu_history::SerialOp;
 use lu_trie::SerialTree;
@@ -22,6 +23,9 @@ struct GraphNode {
 
     /// The number of its links.
     count: usize,
+
+    /// The number of members below it, or `u64::MAX` where there are more.
+    member_count: u64,
 }
 
 /// Nodes, each after its children, which it may share with other nodes. In clauses it is the list of
@@ -66,6 +70,18 @@ impl<A: Allocator> Table<A> {
         self.nodes.len()
     }
 
+    /// The number of members of a node with these links, or `u64::MAX` where there are more.
+    fn count(&self, ends: bool, links: &[(SerialOp, usize)]) -> u64
+        requires { AllBelow (length self.now) links.now }
+        ensures { result ≡ count_of (members_from ends (resolve self.now links.now)) }
+    {
+        let mut count = u64::from(ends);
+        for (_, place) in links {
+            count = count.saturating_add(self.nodes[*place].member_count);
+        }
+        count
+    }
+
     /// Adds a node that has these links, and returns its place.
     pub(crate) fn push_node(
         &mut self,
@@ -79,6 +95,7 @@ impl<A: Allocator> Table<A> {
         ensures place { IfOk result (λ place. place < length self.new) }
         ensures members { IfOk result (HoldsFrom self.old ends links.now self.new) }
     {
+        let member_count = self.count(ends, links);
         let first = self.links.len();
         self.links.extend_from_slice(links)?;
         let place = self.nodes.len();
@@ -86,6 +103,7 @@ impl<A: Allocator> Table<A> {
             ends,
             first,
             count: links.len(),
+            member_count,
         })?;
         Ok(place)
     }
@@ -117,6 +135,15 @@ impl<A: Allocator> SerialGraph<A> {
         ensures { members_of result ≡ slice_index_or table root [] }
     {
         SerialGraph { table, root }
+    }
+
+    /// The number of members, or `u64::MAX` where there are more.
+    pub fn member_count(&self) -> u64
+        ensures count { result ≡ count_of (members_of self.now) }
+        ensures sorted { IsStrictlySortedBy history_cmp (members_of self.now) }
+    {
+        let table = &self.table;
+        table.nodes[self.root].member_count
     }
 
     /// The number of nodes.
