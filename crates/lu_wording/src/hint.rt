@@ -5,11 +5,9 @@ use lu_report::{Finding, read_report};
 use std::alloc::{AllocError, Global};
 use std::str;
 
-/// The meaning of a refusal with this code.
-fn meaning_of(code: &str) -> Option<&'static str> {
+/// The meaning of a refusal of a component, a matrix or a schedule.
+fn meaning_of_case(code: &str) -> Option<&'static str> {
     Some(match code {
-        "command" =>
-            "these words are not a command; `lineup help` lists the commands and their options",
         "L1" | "M1" | "H1" | "O1" => "invalid byte; only ASCII, tabs and line ends are allowed",
         "L2" => "this is not a line of a component",
         "L3" => "a name that is not declared, or is declared twice",
@@ -23,6 +21,13 @@ fn meaning_of(code: &str) -> Option<&'static str> {
         "M6" => "no thread, or too many threads or calls",
         "C1" => "not a schedule",
         "C3" => "the schedule is too long, or a thread or a pick is above 7",
+        _ => return None,
+    })
+}
+
+/// The meaning of a refusal of a report, a specification or a history.
+fn meaning_of_finding(code: &str) -> Option<&'static str> {
+    Some(match code {
         "E1" => "this line does not belong to a report",
         "S1" =>
             "not a line of a specification, or out of order; `lineup spec` puts lines in order, and `--marks` allows `?`",
@@ -31,6 +36,13 @@ fn meaning_of(code: &str) -> Option<&'static str> {
         "H2" => "expected `call`, `return` or `stuck`",
         "H4" => "the matrix has no such call",
         "H5" => "this call or return cannot come next",
+        _ => return None,
+    })
+}
+
+/// The meaning of a refusal of a source.
+fn meaning_of_source(code: &str) -> Option<&'static str> {
+    Some(match code {
         "O2" => "unexpected word or sign (docs/SOURCE.md)",
         "O3" => "a name that is already taken, or that is not declared",
         "O4" => "expected a number or a constant",
@@ -39,6 +51,15 @@ fn meaning_of(code: &str) -> Option<&'static str> {
             "unreachable statement, a `break` or `continue` outside of a loop, or an `await` that reads more than its cell",
         "O7" => "expected `object` first, and `}` after each operation",
         "O8" => "more than 8 registers are needed; use fewer locals or shorter expressions",
+        _ => return None,
+    })
+}
+
+/// The meaning of a refusal of a command line, a bundle or a run.
+fn meaning_of_request(code: &str) -> Option<&'static str> {
+    Some(match code {
+        "command" =>
+            "these words are not a command; `lineup commands` lists the commands and their options",
         "B1" =>
             "wrong number of parts; parts are separated by lines that are exactly `---`, without a carriage return",
         "B2" => "the input is longer than 1,048,576 bytes",
@@ -50,6 +71,14 @@ fn meaning_of(code: &str) -> Option<&'static str> {
         "G4" => "the trusted component has other operations, or has them in another order",
         _ => return None,
     })
+}
+
+/// The meaning of a refusal with this code.
+fn meaning_of(code: &str) -> Option<&'static str> {
+    meaning_of_case(code)
+        .or(meaning_of_finding(code))
+        .or(meaning_of_source(code))
+        .or(meaning_of_request(code))
 }
 
 /// The word after `refused`, where the text begins with that.
