@@ -1,14 +1,16 @@
 -- Components that are held against a trusted one.
-use Rattle.std.specs.Prelude.{◌≡◌, ℕ, List, Option, Some, None}
+use Rattle.std.specs.Prelude.{◌≡◌, ◌⊎◌, ℕ, List, Option, Some, None}
 use Rattle.std.specs.List.{AllZip}
 use Rattle.lu_component.specs.declared.component.Op.{Op}
 use Rattle.lu_component.specs.Component.{Component}
 use Rattle.lu_test.specs.declared.schedule.Move.{Move}
 use Rattle.lu_test.specs.Matrix.{IsOf, Matrix}
 use Rattle.lu_machine.specs.Schedules.{IsLeast}
+use Rattle.lu_machine.specs.States.{State}
 use Rattle.lu_machine.specs.Starts.{AllEnd, FromEachStart}
 use Rattle.lu_history.specs.declared.serial.SerialOp.{SerialOp}
-use Rattle.lu_serial.specs.Offences.{IsFirstConflict, IsFirstCut, IsOutside, IsSetOf}
+use Rattle.lu_serial.specs.Offences.{IsFirstConflict, IsFirstCut, IsSetOf}
+use Rattle.lu_serial.specs.Serial.{IsSerialHistory, IsSeriallyCut, IsSeriallyEnded}
 use Rattle.lu_witness.specs.Witnesses.{IsMember}
 use Rattle.lu_report.specs.declared.report.Report.{Report}
 use Rattle.lu_report.specs.Parts.{IsPass}
@@ -44,24 +46,43 @@ pub record CanCompare (asked : Asked) (trusted : Component) : Type 0 where
 abbrev pub AreHistories : Component → Matrix → ℕ → List (List SerialOp) → Type 0
 AreHistories c matrix serial members = FromEachStart c matrix (λ s. IsSetOf s serial members)
 
--- the component agrees with this set: none of its serial runs has a history outside (after no
--- smaller one that is cut), and its report against the set is a pass
+-- each serial run of the component ends within the bound, and each of its serial histories is one
+-- of these
+pub record AgreesSerially (members : List (List SerialOp)) (c : Component) (matrix : Matrix)
+    (serial : ℕ) : Type 0 where
+  pub ends : FromEachStart c matrix (λ s. (u : List Move) → IsSeriallyCut s serial u → ⊥)
+  pub within : FromEachStart c matrix (λ s. (q : List SerialOp) → IsSerialHistory s q
+      → IsMember members q)
+
+-- the component agrees with this set: it agrees serially, and its report against the set is a pass
 pub record AgreesWith (members : List (List SerialOp)) (c : Component) (matrix : Matrix)
     (bound serial : ℕ) : Type 0 where
-  pub within : FromEachStart c matrix (λ s. (u : List Move) → IsOutside s serial members u → ⊥)
+  pub serially : AgreesSerially members c matrix serial
   pub report : Report
   pub is : IsReportAgainst (IsMember members) c matrix bound report
   pub passes : IsPass report.finding
 
--- u is the least serial run with a history outside the set
+-- u is a serial run that does not end within the bound, or one with a history outside the set
+abbrev pub IsOtherRun : State → ℕ → List (List SerialOp) → List Move → Type 0
+IsOtherRun s serial members u =
+    IsSeriallyCut s serial u
+    ⊎ ((q : List SerialOp) × IsSeriallyEnded s u q × (IsMember members q → ⊥))
+
+-- u is the least such run
 abbrev pub IsFirstSerially : List (List SerialOp) → Component → Matrix → ℕ → List Move → Type 0
 IsFirstSerially members c matrix serial u =
-    FromEachStart c matrix (λ s. IsLeast (IsOutside s serial members) u)
+    FromEachStart c matrix (λ s. IsLeast (IsOtherRun s serial members) u)
 
--- no serial run has a history outside, but r is the report against the set, and no pass
+-- the least such run, or none where the component agrees serially
+abbrev pub IsFirstOtherRun : List (List SerialOp) → Component → Matrix → ℕ → Option (List Move)
+    → Type 0
+IsFirstOtherRun members c matrix serial None = AgreesSerially members c matrix serial
+IsFirstOtherRun members c matrix serial (Some u) = IsFirstSerially members c matrix serial u
+
+-- it agrees serially, but r is the report against the set, and no pass
 pub record DiffersConcurrently (members : List (List SerialOp)) (c : Component)
     (matrix : Matrix) (bound serial : ℕ) (r : Report) : Type 0 where
-  pub within : FromEachStart c matrix (λ s. (u : List Move) → IsOutside s serial members u → ⊥)
+  pub serially : AgreesSerially members c matrix serial
   pub is : IsReportAgainst (IsMember members) c matrix bound r
   pub no_pass : IsPass r.finding → ⊥
 
@@ -83,8 +104,8 @@ Agrees trusted c matrix bound serial =
     × AgreesWith members c matrix bound serial
 
 -- How it does not: the least serial offence of the trusted component, where one of its serial runs
--- is cut or conflicts with another; else the component's least serial run with another history; or
--- the report, which is no pass.
+-- is cut or conflicts with another; else the component's least serial run that does not end, or ends
+-- with another history; or the report, which is no pass.
 abbrev pub IsDifference : Component → Component → Matrix → ℕ → ℕ → Difference → Type 0
 IsDifference trusted c matrix bound serial (TrustedCut u) =
     FromEachStart trusted matrix (λ t. IsFirstCut t serial u)

@@ -3,20 +3,23 @@
 ghost use Rattle.std.specs.Prelude.{◌≤◌, ◌↔◌, IfOk, IfErr};
 ghost use Rattle.lu_machine.specs.Starts.{CanRun};
 ghost use Rattle.lu_report.specs.Limits.{IsSerialBound, most_moves};
+ghost use Rattle.lu_trie.specs.Conflicts.{IsDeterministic};
 ghost use Rattle.lu_refine.specs.ByThread.{IsRolesFault, asked_of};
 ghost use Rattle.lu_survey.specs.Comparing.{CanCompare, IsCompared, IsComparedOf, IsDifferenceBy, IsDifferenceIfAny};
 
 use crate::comparison::{Comparison, Difference};
+use crate::serially::first_other_run;
 use lu_component::Component;
 use lu_parallel::check_one_against;
 use lu_refine::{CampaignFault, Roles, count_matrices, matrix_at};
 use lu_report::{Finding, Report};
-use lu_serial::{Learnt, first_outside, learn};
+use lu_serial::{Learnt, learn};
 use lu_test::Matrix;
 use lu_trie::Trie;
 use std::alloc::{AllocError, Global};
 
-/// How the component differs on the matrix from this set, or none where it agrees.
+/// How the component differs on the matrix from this set, or none where it agrees. Asks for a
+/// deterministic set.
 fn differ_from(
     alloc: Global,
     set: &Trie<Global>,
@@ -28,9 +31,10 @@ fn differ_from(
     requires of { CanRun component.now matrix.now }
     requires bound { bound ≤ most_moves }
     requires serial { IsSerialBound serial }
+    requires deterministic { IsDeterministic set.now }
     ensures { IfOk result (IsDifferenceBy set.now component.now matrix.now bound serial) }
 {
-    match first_outside(alloc, component, matrix, serial, set)? {
+    match first_other_run(alloc, set, component, matrix, serial)? {
         Some(schedule) => Ok(Some(Difference::Serially(schedule))),
         None => {
             let report = check_one_against(alloc, component, matrix, &set, bound)?;
@@ -74,9 +78,9 @@ fn differ(
 }
 
 /// Holds the component of the roles against a trusted one, on the matrices with the numbers `from`
-/// to `to - 1`, as [`certify_slice`](crate::certify_slice) takes them: each of its serial histories
-/// on a matrix has to be one of the trusted component, and each schedule within the bound has to
-/// have its witnesses among these. Returns the first matrix on which that does not hold, and what
+/// to `to - 1`, as [`certify_slice`](crate::certify_slice) takes them: on a matrix each of its serial
+/// runs has to end within the serial bound, with a history of the trusted component, and each
+/// schedule within the bound has to have its witnesses among these. Returns the first matrix on which that does not hold, and what
 /// shows it; or, where it holds of all, how many they are. Where a serial run of the trusted
 /// component offends, that is shown. Asks that both have the same operations
 /// ([`have_same_operations`](crate::have_same_operations)), and that the calls of the setup end

@@ -24,7 +24,8 @@ pub enum Difference {
         earlier: SerialOutcome,
     },
 
-    /// The component's least serially ended schedule whose history the trusted one has not.
+    /// The component's least serial run that the trusted one does not have: its history is another,
+    /// or it does not end within the serial bound.
     Serially(Schedule),
 
     /// The component's report against the serial histories of the trusted one, a failure.

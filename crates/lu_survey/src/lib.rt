@@ -21,6 +21,7 @@ mod comparing;
 mod comparison;
 pub mod laws;
 mod operations;
+mod serially;
 mod survey;
 mod surveying;
 

@@ -1,4 +1,5 @@
 use Rattle.std.proofs.Common.{subst}
+use Rattle.lu_machine.proofs.Starting.{start_there}
 use Rattle.lu_serial.specs.Offences.{IsLearnt}
 use Rattle.lu_survey.proofs.InComparisons.{differs_where}
 use Rattle.lu_survey.proofs.comparing.differ.Goals as goal
@@ -11,6 +12,11 @@ differ_from-requires-clause-bound c = c.requires.bound
 
 pub differ_from-requires-clause-serial : goal.differ_from-requires-clause-serial
 differ_from-requires-clause-serial c = c.requires.serial
+
+pub differ_from-requires-clause-deterministic : goal.differ_from-requires-clause-deterministic
+differ_from-requires-clause-deterministic c =
+    let there = start_there c.args.trusted.now c.args.matrix.now c.requires.trusted.settles in
+    (subst (IsLearnt there.0 c.args.serial) c.in-Set.is (c.in_ok-set.ensures.learnt there.0 there.1)).deterministic
 
 pub returns-in-Set : goal.returns-in-Set
 returns-in-Set c =
