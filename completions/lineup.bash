@@ -1,10 +1,10 @@
-# Completion of `lineup` for bash.
+# Completion of `lineup` for bash. The script passes --source and --hints by itself.
 _lineup() {
     local word="${COMP_WORDS[COMP_CWORD]}" before="${COMP_WORDS[COMP_CWORD-1]}" options
     COMPREPLY=()
     if [ "$COMP_CWORD" -eq 1 ]; then
-        COMPREPLY=($(compgen -W 'compile lint serial check certify judge conform explain draw trace replay shrink campaign spec refute
-            help --help --version --build --install' -- "$word"))
+        COMPREPLY=($(compgen -W 'compile lint serial check certify witness conform explain draw trace replay shrink campaign spec refute
+            commands test --help --version --build --install' -- "$word"))
         return
     fi
     case "$before" in
@@ -19,13 +19,13 @@ _lineup() {
         --install) compopt -o dirnames; return ;;
         *)
             case "${COMP_WORDS[1]}" in
-                check) options='--bound --serial --workers --depth --spec' ;;
-                certify) options='--bound --serial --workers --depth --local --nodes' ;;
+                check) options='--bound --serial --workers --depth --spec --marks' ;;
+                certify | test) options='--bound --serial --workers --depth --local --nodes' ;;
                 serial | shrink) options='--bound --serial' ;;
-                judge) options='--bound --serial --spec' ;;
+                witness) options='--bound --serial --spec --marks' ;;
                 conform) options='--show' ;;
-                lint) options='--serial' ;;
-                explain) options='--serial --spec' ;;
+                lint) options='--serial --marks' ;;
+                explain) options='--serial --spec --marks' ;;
                 draw) options='--serial --explain' ;;
                 trace) options='--setup' ;;
                 campaign) options='--bound --serial --threads --calls --by-thread --from --upto --count --certify --all --spec' ;;
@@ -35,4 +35,4 @@ _lineup() {
     esac
     COMPREPLY=($(compgen -W "$options" -- "$word"))
 }
-complete -o default -F _lineup lineup      # file names behind < and >
+complete -o default -F _lineup lineup      # file names, also after < and >

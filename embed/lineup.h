@@ -28,7 +28,7 @@ extern "C" {
 /* How many bytes of stack a command takes at most: 128 KiB, and 2 KiB for each move of a schedule up
  * to the bound, or half a KiB for each move of 16 operations that run alone, each with its call and
  * up to `serial` moves. certify and campaign take that of 256 and their own serial bound; explain,
- * trace, draw and refute that of 256 and 256; replay, spec, conform, and explain and judge with --spec
+ * trace, draw and refute that of 256 and 256; replay, spec, conform, and explain and witness with --spec
  * LINEUP_STACK(0, 0). */
 #define LINEUP_STACK(bound, serial) \
     (131072 + (2048 * (size_t)(bound) > 8192 * ((size_t)(serial) + 1) ? 2048 * (size_t)(bound) : 8192 * ((size_t)(serial) + 1)))

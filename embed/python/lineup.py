@@ -9,6 +9,7 @@
 import ctypes
 import os
 import pathlib
+import re
 import resource
 import threading
 from typing import Iterator, NamedTuple
@@ -114,7 +115,7 @@ class Case:
     @classmethod
     def of_bundle(cls, bundle: str) -> "Case":
         """The first two parts of a bundle."""
-        component, matrix = bundle.split("---\n")[:2]
+        component, matrix = re.split(r"(?m)^---$\n?", bundle)[:2]
         return cls(component, matrix)
 
     def ask(self, words: str, *parts: str) -> Answer:

@@ -8,9 +8,9 @@ import { open, wait } from './browser.mjs';
 
 const [page, program, root, folder] = process.argv.slice(2);
 const LIMIT = 3000;    // milliseconds for the program; what takes longer is left out, and counted
-const COMMANDS = ['lint', 'serial', 'check', 'check --bound 60', 'check --bound 12 --serial 9', 'check --spec', 'certify --bound 30',
-    'explain', 'explain --spec', 'draw', 'draw --explain', 'trace', 'trace --setup', 'replay', 'shrink', 'spec', 'refute', 'judge',
-    'conform', 'campaign --count', 'compile', '', 'nonsense'];
+const COMMANDS = ['lint', 'serial', 'check', 'check --bound 60', 'check --bound 12 --serial 9', 'check --spec', 'check --source', 'certify --bound 30', 'certify --bound 30 --source',
+    'explain', 'explain --spec', 'draw', 'draw --explain', 'trace', 'trace --setup', 'replay', 'shrink', 'spec', 'refute', 'witness',
+    'conform', 'campaign --count', 'compile', 'commands', 'help', 'judge', '', 'nonsense'];
 const faults = [];
 const tell = fault => { faults.push(fault); console.log(fault); };
 
@@ -53,7 +53,12 @@ async function try_page(shown) {
     };
     const click = name => shown.evaluate(`document.getElementById('${name}').click()`);
     const example = name => shown.evaluate(`document.getElementById('example').value = '${name}', choose()`);
+    const is_shown_as = async (wanted, what) => {
+        const kind = await shown.evaluate(`document.getElementById('verdict').className`);
+        if (kind !== wanted) tell(`${what} is shown as ${kind || 'nothing'} in place of ${wanted}`);
+    };
     await is('pass', 'the example of the address, locked-counter');
+    await is_shown_as('good', 'a pass that cuts nothing');
     await example('examples/broken-counter');
     await shown.until(IDLE);
     await is('fail complete', 'broken-counter');
@@ -68,7 +73,37 @@ async function try_page(shown) {
     await shown.until(IDLE);
     await is('refused L2 line 7', 'a word that is misspelt while one types');
     if (await shown.evaluate(`document.getElementById('box-lint').hidden`)) tell('a misspelt word is not linted');
-    // a source is compiled first, and a fault of it is told by its own line
+    // a pass that cut schedules is not green; a certificate speaks of all of them
+    for (const name of ['examples/spin-order', 'sources/spin-order']) {
+        await example(name);
+        await shown.until(IDLE);
+        await is('pass, but 99.99 % of the schedules were cut', name);
+        await is_shown_as('part', `a pass of ${name} that cuts schedules`);
+        await click('certify');
+        await shown.until(IDLE);
+        await is('livelock', `${name}, certified`);
+        await is_shown_as('bad', 'a livelock');
+    }
+    await example('sources/cas-counter');
+    await shown.until(IDLE);
+    await click('certify');
+    await shown.until(IDLE);
+    await is('linearizable', 'cas-counter, certified');
+    await is_shown_as('good', 'a linearizable component');
+    // what was said of another text, or with other bounds, is not left standing
+    await click('live');
+    for (const change of [`$('bundle').value += ' '`, `$('bound').value = 30`]) {
+        await click('check');
+        await shown.until(IDLE);
+        const field = change.includes('bound') ? 'bound' : 'bundle';
+        await shown.evaluate(`${change}, $('${field}').dispatchEvent(new Event('input'))`);
+        await is('not checked yet', `after ${change}`);
+        const left = await shown.evaluate(`BOXES.filter(name => !$('box-' + name).hidden).join(' ')`);
+        if (left) tell(`after ${change} there is still ${left}`);
+    }
+    await shown.evaluate(`$('bound').value = ''`);
+    await click('live');
+    // a fault of a source is told by its own line
     await example('sources/broken-counter');
     await shown.until(IDLE);
     await is('fail complete', 'the source of broken-counter');
@@ -90,7 +125,7 @@ async function try_page(shown) {
     await shown.evaluate(`$('bound').value = '', $('serial').value = ''`);
     await click('check');
     await shown.until(IDLE);
-    await is('pass', 'peterson behind what was stopped');
+    await is('pass', 'peterson after what was stopped');
     for (const fault of shown.faults) tell(`the page: ${fault}`);
 }
 

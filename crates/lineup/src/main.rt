@@ -1,8 +1,12 @@
 //! The program `lineup`: its arguments, standard input and output, and the exit status. On a
-//! terminal it shows on standard error how far a certificate has come.
+//! terminal it shows on standard error how far a certificate has come. With `--hints` it says there
+//! what a refusal means, and how many schedules a check left out.
 #![tactic(auto)]
 
-use lu_cli::{Counted, Terminal, run_with_progress};
+mod head;
+
+use head::Head;
+use lu_cli::{Counted, Terminal, hint_on, run_with_progress};
 use std::io;
 use std::io::IsTerminal;
 use std::process::ExitCode;
@@ -12,6 +16,19 @@ fn refuse(rt: &impl Print, text: &str, status: u8) -> ExitCode {
     match rt.print(text) {
         Ok(()) => ExitCode::from(status),
         Err(_) => ExitCode::from(4),
+    }
+}
+
+/// Whether one of the words asks for hints.
+fn asks_for_hints(words: &[String]) -> bool {
+    words.iter().any(|word| word.as_str() == "--hints")
+}
+
+/// Says on standard error what there is to add to an answer that begins with these bytes. What
+/// can't be shown is left out.
+fn show_hint(rt: &(impl AllocGlobal + Eprint), answer: &[u8]) {
+    if let Ok(Some(hint)) = hint_on(rt.alloc(), answer) {
+        drop(eprint!(rt; "{hint}"));
     }
 }
 
@@ -29,6 +46,11 @@ fn main(rt: HostRuntime) -> ExitCode {
     };
     let terminal = Terminal::new(&rt, !rt.stderr().is_terminal());
     let mut input = Counted::new(rt.reader());
-    let mut output = Counted::new(io::writer(&rt));
-    ExitCode::from(run_with_progress(&rt, &terminal, &words, &mut input, &mut output))
+    let mut output = Counted::new(Head::new(io::writer(&rt)));
+    let status = run_with_progress(&rt, &terminal, &words, &mut input, &mut output);
+    if asks_for_hints(&words) {
+        let head = output.into_inner();
+        show_hint(&rt, head.bytes());
+    }
+    ExitCode::from(status)
 }

@@ -1,11 +1,12 @@
 -- What the calls answer.
-use Rattle.std.specs.Prelude.{◌≡◌, ◌⊎◌, ℕ, List, length, take, All, Option, Some, None, Result, IfOk, MatchBool, Vec, codes, nat_lt}
+use Rattle.std.specs.Prelude.{◌≡◌, ◌⊎◌, ◌==◌, ℕ, List, [], ◌∷◌, length, take, filter, not, All, Option, Some, None, Result, IfOk, IfErr, MatchBool, MatchOption, Vec, codes, nat_lt, slice_get}
+use Rattle.std.specs.List.{slice_split}
 use Rattle.std.specs.Str.{IsUtf8}
 use denote.Ref.{Bor}
-use Rattle.lu_text.specs.Lines.{texts, words_of}
+use Rattle.lu_text.specs.Lines.{texts}
 use Rattle.lu_cli.specs.declared.request.Request.{Request}
 use Rattle.lu_cli.specs.Args.{request_of}
-use Rattle.lu_cli.specs.Outcomes.{Answer, no_memory, refused}
+use Rattle.lu_cli.specs.Outcomes.{Answer, no_command, no_memory, refused}
 use Rattle.lu_cli.specs.Program.{IsAnswerToInput}
 use Rattle.lu_cli.specs.Shown.{IsTextOfSchedule}
 use Rattle.lu_cli.specs.Texts.{AreSettled}
@@ -15,8 +16,12 @@ use Rattle.lu_test.specs.Matrix.{Matrix}
 use Rattle.lu_machine.specs.declared.event.Event.{Event}
 use Rattle.lu_machine.specs.declared.event.Status.{Status}
 use Rattle.lu_machine.specs.Ends.{HasStatus}
-use Rattle.lu_machine.specs.Plays.{Plays}
+use Rattle.lu_machine.specs.Plays.{IsInfeasibleAt, Plays}
+use Rattle.lu_machine.specs.Runs.{Leads}
+use Rattle.lu_machine.specs.Steps.{IsFeasible}
 use Rattle.lu_machine.specs.States.{State}
+use Rattle.lineup_c.specs.declared.playing.StateFault.{StateFault}
+use Rattle.lineup_c.specs.declared.playing.StateFault.TheVariants.{Infeasible, Refused, Memory}
 use Rattle.lineup_c.specs.Numbers.{number_of, run_numbers}
 use Rattle.lineup_c.specs.Rooms.{filled}
 use Rattle.lineup_c.specs.Stack.{stack_for}
@@ -37,16 +42,21 @@ IsAnswerWithin request bundle stack answer =
     MatchBool (nat_lt stack (stack_for request)) (answer ≡ no_stack)
     (IsAnswerToInput request bundle answer)
 
--- so it is where the words ask for something
+-- the answer to what the words ask for; where they ask for nothing, they are refused
 abbrev pub IsAnswerToWords : List (List ℕ) → List ℕ → ℕ → Answer → Type 0
 IsAnswerToWords words bundle stack answer =
-    (request : Request) → request_of words ≡ Some request
-    → IsAnswerWithin request bundle stack answer
+    MatchOption (request_of words) (answer ≡ no_command)
+    (λ request. IsAnswerWithin request bundle stack answer)
 
--- and where each word of the line is UTF-8
+-- the words of a line: what spaces separate, and nothing else
+abbrev pub spaced_words : List ℕ → List (List ℕ)
+spaced_words line = filter (λ word. not (length word == 0)) (slice_split (λ b. b == 32) line)
+
+-- the answer to the words of the line; where one of them is not UTF-8, they are refused
 abbrev pub IsAnswerToLine : List ℕ → List ℕ → ℕ → Answer → Type 0
 IsAnswerToLine line bundle stack answer =
-    All IsUtf8 (words_of line) → IsAnswerToWords (words_of line) bundle stack answer
+    (All IsUtf8 (spaced_words line) → IsAnswerToWords (spaced_words line) bundle stack answer)
+    × ((All IsUtf8 (spaced_words line) → ⊥) → answer ≡ no_command)
 
 -- The answer to the line, by a stack of this many bytes, or that memory was refused: its text fills
 -- the room, and its length and its status are reported.
@@ -82,10 +92,31 @@ TellsState component matrix schedule most old new count =
     (numbers : List ℕ) × IsStateOf component matrix schedule most numbers
     × (new ≡ filled numbers old) × (count ≡ length numbers)
 
--- with the status 0 these are reported of the run
+-- among the first moves of the schedule, at most this many, move number i is the first that is not
+-- feasible
+abbrev pub IsInfeasibleIn : List ℕ → List ℕ → List ℕ → ℕ → ℕ → Type 0
+IsInfeasibleIn component matrix schedule most i =
+    (c : Component) × (m : Matrix) × (u : List Move)
+    × AreSettled component matrix c m × IsTextOfSchedule schedule u
+    × IsInfeasibleAt c m (take most u) i
+
+-- the number of that move is the one number
+abbrev pub TellsInfeasible : List ℕ → List ℕ → List ℕ → ℕ → List ℕ → List ℕ → ℕ → Type 0
+TellsInfeasible component matrix schedule most old new count =
+    (i : ℕ) × IsInfeasibleIn component matrix schedule most i
+    × (new ≡ filled (number_of i ∷ []) old) × (count ≡ 1)
+
+-- the room is left as it was, and no number is reported
+abbrev pub TellsNothing : List ℕ → List ℕ → ℕ → Type 0
+TellsNothing old new count = (new ≡ old) × (count ≡ 0)
+
+-- What is reported of the run: with the status 0 the state, with 1 the move that is not feasible,
+-- and with 2 or 4 nothing.
 abbrev pub TellsRun : ℕ → List ℕ → List ℕ → List ℕ → ℕ → List ℕ → List ℕ → ℕ → Type 0
 TellsRun status component matrix schedule most old new count =
-    status ≡ 0 → TellsState component matrix schedule most old new count
+    ((status ≡ 0) × TellsState component matrix schedule most old new count)
+    ⊎ ((status ≡ 1) × TellsInfeasible component matrix schedule most old new count)
+    ⊎ (((status ≡ 2) ⊎ (status ≡ 4)) × TellsNothing old new count)
 
 -- ---- in memory, unless they are refused
 
@@ -98,3 +129,31 @@ abbrev pub TellsStateOf : {E Z : Type 0} → List ℕ → List ℕ → List ℕ 
     → Type 0
 TellsStateOf component matrix schedule most result =
     IfOk result (λ numbers. IsStateOf component matrix schedule most numbers.items)
+
+-- why moves from here have no numbers: the first i moves lead somewhere, and there move i is not
+-- feasible; or memory was refused
+abbrev pub IsFaultFrom : State → List Move → StateFault → Type 0
+IsFaultFrom start u (Infeasible i) =
+    (end : State) × (history : List Event) × (move : Move)
+    × Leads start (take i u) end history × (slice_get u i ≡ Some move)
+    × (IsFeasible end move → ⊥)
+IsFaultFrom start u Refused = ⊥
+IsFaultFrom start u Memory = Unit {0}
+
+-- why a run of these moves has no numbers: one of them is not feasible, or memory was refused
+abbrev pub IsFaultAfter : Component → Matrix → List Move → StateFault → Type 0
+IsFaultAfter c matrix u (Infeasible i) = IsInfeasibleAt c matrix u i
+IsFaultAfter c matrix u Refused = ⊥
+IsFaultAfter c matrix u Memory = Unit {0}
+
+-- why texts have none: a move is not feasible, a text is refused, or memory was refused
+abbrev pub IsStateFault : List ℕ → List ℕ → List ℕ → ℕ → StateFault → Type 0
+IsStateFault component matrix schedule most (Infeasible i) =
+    IsInfeasibleIn component matrix schedule most i
+IsStateFault component matrix schedule most _ = Unit {0}
+
+-- no move is to blame
+abbrev pub IsNoInfeasible : StateFault → Type 0
+IsNoInfeasible (Infeasible i) = ⊥
+IsNoInfeasible Refused = Unit {0}
+IsNoInfeasible Memory = Unit {0}

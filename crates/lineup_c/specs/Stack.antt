@@ -1,9 +1,9 @@
 -- How much stack a command takes.
 use Rattle.std.specs.Prelude.{ℕ, ◌+◌, ◌*◌, max}
 use Rattle.lu_cli.specs.declared.request.BundleCommand.{BundleCommand}
-use Rattle.lu_cli.specs.declared.request.BundleCommand.TheVariants.{Replay, Trace, Draw, DrawExplained, Explain, ExplainAgainst, Serial, Judge, JudgeAgainst, Conform, Spec, Check, CheckAgainst, Certify, Refute, Shrink, Campaign, CampaignAgainst, Compile}
+use Rattle.lu_cli.specs.declared.request.BundleCommand.TheVariants.{Replay, Trace, Draw, DrawExplained, Explain, ExplainAgainst, Serial, Witness, WitnessAgainst, Conform, Spec, Check, CheckAgainst, Certify, Refute, Shrink, Campaign, CampaignAgainst, Compile}
 use Rattle.lu_cli.specs.declared.request.Request.{Request}
-use Rattle.lu_cli.specs.declared.request.Request.TheVariants.{Help, Lint, Bundle}
+use Rattle.lu_cli.specs.declared.request.Request.TheVariants.{Commands, Lint, Bundle, BundleWithSource}
 use Rattle.lu_report.specs.Limits.{most_moves}
 
 -- how many bytes of stack a search takes at most: 128 KiB, and 2 KiB for each move of a schedule up
@@ -19,14 +19,14 @@ stack_of_command (Trace start) = stack_within most_moves most_moves
 stack_of_command Draw = stack_within most_moves most_moves
 stack_of_command (DrawExplained limits) = stack_within most_moves most_moves
 stack_of_command (Explain limits) = stack_within most_moves most_moves
-stack_of_command ExplainAgainst = stack_within 0 0
+stack_of_command (ExplainAgainst marks) = stack_within 0 0
 stack_of_command (Serial limits) = stack_within 0 limits.serial
-stack_of_command (Judge limits) = stack_within 0 limits.serial
-stack_of_command JudgeAgainst = stack_within 0 0
+stack_of_command (Witness limits) = stack_within 0 limits.serial
+stack_of_command (WitnessAgainst marks) = stack_within 0 0
 stack_of_command (Conform showing) = stack_within 0 0
 stack_of_command Spec = stack_within 0 0
 stack_of_command (Check choice) = stack_within choice.bound choice.serial
-stack_of_command (CheckAgainst choice) = stack_within choice.bound 0
+stack_of_command (CheckAgainst choice marks) = stack_within choice.bound 0
 stack_of_command (Certify asked) = stack_within most_moves asked.options.serial
 stack_of_command Refute = stack_within most_moves most_moves
 stack_of_command (Shrink limits) = stack_within limits.bound limits.serial
@@ -35,6 +35,7 @@ stack_of_command (CampaignAgainst options) = stack_within options.bounds.bound o
 stack_of_command Compile = stack_within most_moves 0
 
 abbrev pub stack_for : Request → ℕ
-stack_for Help = stack_within 0 0
-stack_for (Lint limits) = stack_within 0 limits.serial
+stack_for Commands = stack_within 0 0
+stack_for (Lint asked) = stack_within 0 asked.bounds.serial
 stack_for (Bundle command) = stack_of_command command
+stack_for (BundleWithSource command) = max (stack_of_command Compile) (stack_of_command command)

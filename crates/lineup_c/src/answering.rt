@@ -2,11 +2,12 @@
 
 ghost use Rattle.std.specs.Prelude.{◌≡◌, IfOk};
 ghost use Rattle.lu_text.specs.Lines.{texts};
+ghost use Rattle.lu_cli.specs.Outcomes.{no_command};
+ghost use Rattle.lineup_c.specs.Calls as spec;
 ghost use Rattle.lineup_c.specs.Calls.{AreStrings, IsAnswerToLine, IsAnswerToWords, IsAnswerWithin, no_stack};
 
 use crate::stack::stack_for;
 use lu_cli::{Answer, ArgsFault, Request, answer_request, read_request};
-use lu_text::words_of;
 use std::alloc::{AllocError, Global};
 use std::str;
 
@@ -24,8 +25,19 @@ fn strings_of<'a>(alloc: Global, words: &[&'a [u8]]) -> Result<Option<Vec<&'a st
     Ok(Some(strings))
 }
 
+/// The words of a line, which spaces separate.
+fn spaced_words(alloc: Global, line: &[u8]) -> Result<Vec<&[u8]>, AllocError>
+    ensures { IfOk result (λ words. texts words.items ≡ spec.spaced_words line.now) }
+{
+    line.split(|byte| *byte == b' ')
+        .filter(|word| !word.is_empty())
+        .collect(alloc)
+}
+
 /// That the command line is refused.
-fn refuse_line(alloc: Global) -> Result<Answer, AllocError> {
+fn refuse_line(alloc: Global) -> Result<Answer, AllocError>
+    ensures { IfOk result (λ answer. answer ≡ no_command) }
+{
     Ok(Answer {
         text: String::from_str(alloc, "refused command line\n")?,
         status: 2,
@@ -84,7 +96,7 @@ pub(crate) fn answer_line(
 ) -> Result<Answer, AllocError>
     ensures { IfOk result (IsAnswerToLine line.now bundle.now stack) }
 {
-    let words = words_of(alloc, line)?;
+    let words = spaced_words(alloc, line)?;
     match strings_of(alloc, &words)? {
         Some(strings) => answer_words(alloc, &strings, bundle, stack),
         None => refuse_line(alloc),

@@ -1,10 +1,10 @@
 //! Where a schedule leads, from texts.
 
-ghost use Rattle.std.specs.Prelude.{◌≡◌, ◌++◌, [], IfOk, OnOk};
+ghost use Rattle.std.specs.Prelude.{◌≡◌, ◌≢◌, ◌++◌, [], IfErr, IfOk, OnOk};
 ghost use Rattle.lu_machine.specs.Runs.{Leads, with_event};
 ghost use Rattle.lu_machine.specs.Starts.{CanRun};
 ghost use Rattle.lu_cli.specs.Shown.{IsOfReport, IsTextOfSchedule};
-ghost use Rattle.lineup_c.specs.Calls.{TellsNumbersAfter, TellsStateOf};
+ghost use Rattle.lineup_c.specs.Calls.{IsFaultAfter, IsFaultFrom, IsNoInfeasible, IsStateFault, TellsNumbersAfter, TellsStateOf};
 ghost use Rattle.lineup_c.specs.Numbers.{TellsRun};
 
 use crate::numbers::{number_of, push_events, push_shape, push_state};
@@ -29,12 +29,20 @@ pub(crate) enum StateFault {
 }
 
 impl From<AllocError> for StateFault {
+    ghost use Rattle.lineup_c.specs.declared.playing.StateFault.TheVariants.{Memory};
+
+    ghost from_gives = { λ _ e. e ≡ Memory };
+
     fn from(_refused: AllocError) -> StateFault {
         StateFault::Memory
     }
 }
 
 impl From<ScheduleFault> for StateFault {
+    ghost use Rattle.lineup_c.specs.Calls.{IsNoInfeasible};
+
+    ghost from_gives = { λ _ e. IsNoInfeasible e };
+
     fn from(fault: ScheduleFault) -> StateFault {
         match fault {
             ScheduleFault::Memory => StateFault::Memory,
@@ -44,6 +52,10 @@ impl From<ScheduleFault> for StateFault {
 }
 
 impl From<TextsFault> for StateFault {
+    ghost use Rattle.lineup_c.specs.Calls.{IsNoInfeasible};
+
+    ghost from_gives = { λ _ e. IsNoInfeasible e };
+
     fn from(fault: TextsFault) -> StateFault {
         match fault {
             TextsFault::Component(Fault::Memory) | TextsFault::Matrix(Fault::Memory) => {
@@ -67,7 +79,8 @@ fn schedule_of_report(alloc: Global, text: &[u8]) -> Result<Option<Schedule>, Al
 
 /// The schedule that a text says, or that of the report that it spells.
 fn read_shown(alloc: Global, text: &[u8]) -> Result<Schedule, StateFault>
-    ensures { IfOk result (IsTextOfSchedule text.now) }
+    ensures read { IfOk result (IsTextOfSchedule text.now) }
+    ensures fault { IfErr result IsNoInfeasible }
 {
     match schedule_of_report(alloc, text)? {
         Some(schedule) => Ok(schedule),
@@ -90,7 +103,8 @@ fn extend(events: &mut Vec<Event>, event: Option<Event>) -> Result<(), AllocErro
 
 /// Makes the moves, and returns their events.
 fn play(alloc: Global, machine: &mut Machine<'_>, moves: &[Move]) -> Result<Vec<Event>, StateFault>
-    ensures { IfOk result (λ events. Leads machine.old moves.now machine.new events.items) }
+    ensures led { IfOk result (λ events. Leads machine.old moves.now machine.new events.items) }
+    ensures fault { IfErr result (IsFaultFrom machine.old moves.now) }
 {
     let mut events = Vec::new(alloc);
     for (number, next) in moves.iter().enumerate() {
@@ -129,7 +143,8 @@ fn numbers_after(
     all: usize,
 ) -> Result<Vec<u32>, StateFault>
     requires { CanRun case.now.component case.now.matrix }
-    ensures { TellsNumbersAfter case.now.component case.now.matrix moves.now all result }
+    ensures numbers { TellsNumbersAfter case.now.component case.now.matrix moves.now all result }
+    ensures fault { IfErr result (IsFaultAfter case.now.component case.now.matrix moves.now) }
 {
     let mut machine = Machine::start(alloc, &case.component, &case.matrix)?;
     let events = play(alloc, &mut machine, moves)?;
@@ -146,7 +161,8 @@ pub(crate) fn state_of(
     schedule: &[u8],
     most: usize,
 ) -> Result<Vec<u32>, StateFault>
-    ensures { TellsStateOf component.now matrix.now schedule.now most result }
+    ensures state { TellsStateOf component.now matrix.now schedule.now most result }
+    ensures fault { IfErr result (IsStateFault component.now matrix.now schedule.now most) }
 {
     let case = read_texts(alloc, component, matrix)?;
     let schedule = read_shown(alloc, schedule)?;

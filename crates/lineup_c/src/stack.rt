@@ -21,8 +21,8 @@ fn stack_of_command(command: &BundleCommand) -> usize
 {
     match command {
         BundleCommand::Replay
-        | BundleCommand::ExplainAgainst
-        | BundleCommand::JudgeAgainst
+        | BundleCommand::ExplainAgainst(_)
+        | BundleCommand::WitnessAgainst(_)
         | BundleCommand::Conform(_)
         | BundleCommand::Spec => stack_within(0, 0),
         BundleCommand::Trace(_)
@@ -30,11 +30,11 @@ fn stack_of_command(command: &BundleCommand) -> usize
         | BundleCommand::DrawExplained(_)
         | BundleCommand::Explain(_)
         | BundleCommand::Refute => stack_within(MOST_MOVES, MOST_MOVES),
-        BundleCommand::Serial(bounds) | BundleCommand::Judge(bounds) => {
+        BundleCommand::Serial(bounds) | BundleCommand::Witness(bounds) => {
             stack_within(0, bounds.serial())
         }
         BundleCommand::Check(options) => stack_within(options.bound(), options.serial()),
-        BundleCommand::CheckAgainst(options) => stack_within(options.bound(), 0),
+        BundleCommand::CheckAgainst(options, _) => stack_within(options.bound(), 0),
         BundleCommand::Certify(asked) => stack_within(MOST_MOVES, asked.options.serial()),
         BundleCommand::Shrink(bounds) => stack_within(bounds.bound(), bounds.serial()),
         BundleCommand::Campaign(options) => stack_within(MOST_MOVES, options.bounds.serial()),
@@ -50,8 +50,11 @@ pub(crate) fn stack_for(request: &Request) -> usize
     ensures { result ≡ spec.stack_for request.now }
 {
     match request {
-        Request::Help => stack_within(0, 0),
-        Request::Lint(bounds) => stack_within(0, bounds.serial()),
+        Request::Commands => stack_within(0, 0),
+        Request::Lint(asked) => stack_within(0, asked.bounds.serial()),
         Request::Bundle(command) => stack_of_command(command),
+        Request::BundleWithSource(command) => {
+            stack_of_command(&BundleCommand::Compile).max(stack_of_command(command))
+        }
     }
 }

@@ -8,7 +8,7 @@ use Rattle.lu_choices.specs.Choices.{AreBases, IsChoiceIn, number_in}
 use Rattle.lu_choices.proofs.Numbered.{Compares, compare}
 use Rattle.lu_test.specs.declared.matrix.Call.{Call}
 use Rattle.lu_test.specs.Matrix.{IsMatrix, Matrix, cut}
-use Rattle.lu_refute.specs.Linearizable.{AreLengths}
+use Rattle.lu_serial.specs.Cuts.{AreLengths}
 use Rattle.lu_certify.specs.Cuts.{IsCutAt, cut_number, length_counts}
 
 abbrev counts : List (List Call) → List ℕ

@@ -20,10 +20,9 @@ use Rattle.lu_report.specs.Parts.{IsOfOffence}
 use Rattle.lu_replay.specs.Reports.{IsFinding, IsReport}
 use Rattle.lu_serial.specs.Offences.{IsSetOf, NoOffence}
 use Rattle.lu_spec.specs.Beginnings.{IsClosureOf}
-use Rattle.lu_refute.specs.Linearizable.{AreLengths}
-use Rattle.lu_refute.proofs.Core.{seats_start}
-use Rattle.lu_refute.proofs.Grounds.{ground_of, grounded, none_on, start_on}
-use Rattle.lu_refute.proofs.Ops.{HasSerialHistory, some_serial}
+use Rattle.lu_serial.specs.Cuts.{AreLengths}
+use Rattle.lu_serial.proofs.Grounds.{seats_start, ground_of, grounded, none_on, start_on}
+use Rattle.lu_serial.proofs.Ops.{HasSerialHistory, some_serial}
 use Rattle.lu_refute.proofs.Outside.{whole_cut}
 use Rattle.lu_certify.specs.declared.limits.Limits.{Limits}
 use Rattle.lu_certify.specs.declared.certificate.Certificate.{Certificate}

@@ -18,7 +18,7 @@ use Rattle.lu_replay.specs.Reports.{IsReport}
 pub use Rattle.lu_report.specs.Parts.{IsFailure, IsFullPass}
 use Rattle.lu_parallel.specs.Ranges.{Options}
 use Rattle.lu_spec.specs.Beginnings.{Begins, Has}
-use Rattle.lu_refute.specs.Linearizable.{AreLengths}
+use Rattle.lu_serial.specs.Cuts.{AreLengths}
 use Rattle.lu_certify.specs.declared.certificate.Certificate.{Certificate}
 use Rattle.lu_certify.specs.declared.limits.Limits.{Limits}
 use Rattle.lu_certify.specs.declared.certificate.Certificate.TheVariants.{Linearizable, Livelock, NotLinearizable, Undecided}

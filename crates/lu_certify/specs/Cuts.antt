@@ -15,7 +15,7 @@ use Rattle.lu_graph.specs.declared.ending.Ending.TheVariants.{Badly, TooMany, We
 use Rattle.lu_report.specs.declared.report.Report.{Report}
 use Rattle.lu_report.specs.Limits.{most_moves}
 use Rattle.lu_replay.specs.Reports.{IsReport}
-use Rattle.lu_refute.specs.Linearizable.{AreLengths}
+use Rattle.lu_serial.specs.Cuts.{AreLengths}
 use Rattle.lu_certify.specs.declared.certificate.Certificate.{Certificate}
 use Rattle.lu_certify.specs.declared.certificate.Certificate.TheVariants.{Linearizable, Livelock, NotLinearizable, Undecided}
 use Rattle.lu_certify.specs.declared.limits.Limits.{Limits}

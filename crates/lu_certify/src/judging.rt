@@ -12,7 +12,7 @@ use lu_component::{Component, Instr};
 use lu_graph::{Expanders, Halted, Watch, ends_well_watched};
 use lu_parallel::check_one;
 use lu_report::{Finding, Report};
-use lu_serial::{Learnt, learn};
+use lu_serial_graph::{LearntGraph, learn_graph};
 use std::alloc::Global;
 
 /// Whether an instruction leads back to one that stands before it, or to itself.
@@ -53,14 +53,14 @@ fn search_nodes<W: Watch, E: Expanders>(
     ensures stopped { IfErr result (λ halted. halted ≡ Stopped → W.is_stopped watch.new ≡ true) }
     ensures running { OnOk result (W.is_stopped watch.new ≡ false) }
 {
-    match learn(alloc, alloc, cut.component, cut.matrix, cut.limits.serial)? {
-        Learnt::Set(set) => {
+    match learn_graph(alloc, alloc, cut.component, cut.matrix, cut.limits.serial)? {
+        LearntGraph::Set(graph) => {
             let (bound, nodes) = (cut.limits.bound, cut.limits.nodes);
             let ending = ends_well_watched(
                 alloc,
                 cut.component,
                 cut.matrix,
-                &&set,
+                &&graph,
                 bound,
                 nodes,
                 watch,
@@ -68,8 +68,8 @@ fn search_nodes<W: Watch, E: Expanders>(
             )?;
             Ok(ByNodes::of(ending, bound))
         }
-        Learnt::Cut(_) => Ok(ByNodes::Nothing),
-        Learnt::Conflict { .. } => Ok(ByNodes::Nothing),
+        LearntGraph::Cut(_) => Ok(ByNodes::Nothing),
+        LearntGraph::Conflict { .. } => Ok(ByNodes::Nothing),
     }
 }
 

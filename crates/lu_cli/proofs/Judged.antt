@@ -11,7 +11,7 @@ use Rattle.lu_recorded.specs.declared.bundled.PartFault.{PartFault}
 use Rattle.lu_recorded.specs.declared.fault.RecordedFaultKind.{RecordedFaultKind}
 use Rattle.lu_recorded.specs.declared.recorded.Recorded.{Recorded}
 use Rattle.lu_recorded.specs.Bundled.{IsFirstRefused}
-use Rattle.lu_cli.specs.Judge.{four_parts, three_parts}
+use Rattle.lu_cli.specs.Witness.{four_parts, three_parts}
 use Rattle.lu_cli.specs.Reading.{ToRecorded}
 use Rattle.lu_cli.specs.Outcomes.{Answer}
 use Rattle.lu_cli.specs.Refusals.{history_answer}

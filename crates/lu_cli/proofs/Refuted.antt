@@ -16,6 +16,7 @@ use Rattle.lu_report.specs.Codes.{report_code_of}
 use Rattle.lu_report.specs.Forms.{IsFault}
 use Rattle.lu_spec.specs.declared.fault.SpecFaultKind.{SpecFaultKind}
 use Rattle.lu_spec.specs.Codes.{spec_code_of}
+use Rattle.lu_spec.specs.declared.given.Marks.{Marks}
 use Rattle.lu_spec.specs.FreeSpecs.{IsGivenFault}
 use Rattle.lu_spec.specs.SpecText.{IsSpecFault}
 use Rattle.lu_refute.specs.Linearizable.{IsCounterexample}
@@ -61,9 +62,9 @@ pub spec_refused : (matrix : Matrix) (text : List ℕ) (fault : Fault SpecFaultK
 spec_refused matrix text (At kind n) IsAnswer is = inr (kind, n, is, refl)
 spec_refused matrix text Memory IsAnswer is = tt
 
-pub given_refused : (matrix : Matrix) (text : List ℕ) (fault : Fault SpecFaultKind) (IsAnswer : List (List SerialOp) → Answer → Type 0) → IsGivenFault matrix text fault → IfSome (line_answer spec_code_of fault) (ToGiven matrix text IsAnswer)
-given_refused matrix text (At kind n) IsAnswer is = inr (kind, n, is, refl)
-given_refused matrix text Memory IsAnswer is = tt
+pub given_refused : (marks : Marks) (matrix : Matrix) (text : List ℕ) (fault : Fault SpecFaultKind) (IsAnswer : List (List SerialOp) → Answer → Type 0) → IsGivenFault marks matrix text fault → IfSome (line_answer spec_code_of fault) (ToGiven marks matrix text IsAnswer)
+given_refused marks matrix text (At kind n) IsAnswer is = inr (kind, n, is, refl)
+given_refused marks matrix text Memory IsAnswer is = tt
 
 -- what is said of the answer to a component and a matrix is said of that to their texts
 pub texts_answered : (component matrix : List ℕ) (c : Component) (m : Matrix) (IsAnswer : Component → Matrix → Answer → Type 0) → AreSettled component matrix c m → (result : Result Answer Refusal) → Answered (IsAnswer c m) result → Answered (ToTexts component matrix IsAnswer) result

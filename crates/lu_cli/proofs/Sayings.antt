@@ -31,6 +31,7 @@ use Rattle.lu_report.specs.declared.report.Finding.TheVariants.{SerialCut, Nonde
 use Rattle.lu_report.specs.Codes.{report_code_of}
 use Rattle.lu_report.specs.Parts.{Report, shown_schedule}
 use Rattle.lu_parallel.specs.Ranges.{Options}
+use Rattle.lu_spec.specs.declared.given.Marks.{Marks}
 use Rattle.lu_spec.specs.Codes.{spec_code_of}
 use Rattle.lu_refine.specs.declared.campaigns.Campaign.{Campaign}
 use Rattle.lu_refine.specs.ByThread.{Asked}
@@ -56,10 +57,11 @@ use Rattle.lu_cli.specs.declared.request.CampaignPart.{CampaignPart}
 use Rattle.lu_cli.specs.declared.request.CampaignPart.TheVariants.{Whole, Slice, Count}
 use Rattle.lu_cli.specs.declared.request.CampaignThreads.{CampaignThreads}
 use Rattle.lu_cli.specs.declared.request.CampaignThreads.TheVariants.{Alike, Own}
+use Rattle.lu_cli.specs.declared.request.LintRequest.{LintRequest}
 use Rattle.lu_cli.specs.declared.request.Request.{Request}
-use Rattle.lu_cli.specs.declared.request.Request.TheVariants.{Help, Lint, Bundle}
+use Rattle.lu_cli.specs.declared.request.Request.TheVariants.{Commands, Lint, Bundle, BundleWithSource}
 use Rattle.lu_cli.specs.declared.request.BundleCommand.{BundleCommand}
-use Rattle.lu_cli.specs.declared.request.BundleCommand.TheVariants.{Replay, Trace, Draw, DrawExplained, Explain, ExplainAgainst, Serial, Judge, JudgeAgainst, Conform, Spec, Check, CheckAgainst, Certify, Refute, Shrink, Campaign as Campaigning, CampaignAgainst, Compile}
+use Rattle.lu_cli.specs.declared.request.BundleCommand.TheVariants.{Replay, Trace, Draw, DrawExplained, Explain, ExplainAgainst, Serial, Witness, WitnessAgainst, Conform, Spec, Check, CheckAgainst, Certify, Refute, Shrink, Campaign as Campaigning, CampaignAgainst, Compile}
 use Rattle.lu_trace.specs.declared.wording.Wording.{Wording}
 use Rattle.lu_source_text.specs.Begins.{is_source}
 use Rattle.lu_source_text.specs.declared.fault.SourceFaultKind.{SourceFaultKind}
@@ -77,7 +79,7 @@ use Rattle.lu_cli.specs.Explain.{IsAnswerToExplainAgainst, IsExplainAfter, IsAns
 use Rattle.lu_cli.specs.Explanation.{IsExplainedTarget, IsExplainedHistory, IsExplainedSchedule, IsExplainedSerially, IsPicturedHistory, IsPresentedAs, IsPresentedHistory, ToEnded, ToFinding, status_by, unexplained}
 use Rattle.lu_recorded.specs.declared.recorded.Recorded.{Recorded}
 use Rattle.lu_recorded.specs.Codes.{recorded_code_of}
-use Rattle.lu_cli.specs.Judge.{IsAnswerToJudgeAgainst, IsAnswerToJudge, IsJudgedAgainstTexts, IsJudgedByMembers, IsJudgedSerially, IsJudgedTexts, four_parts, three_parts}
+use Rattle.lu_cli.specs.Witness.{IsAnswerToWitnessAgainst, IsAnswerToWitness, IsJudgedAgainstTexts, IsJudgedByMembers, IsJudgedSerially, IsJudgedTexts, four_parts, three_parts}
 use Rattle.lu_cli.specs.Reading.{ToComponent, ToGiven, ToMatrix, ToParts, ToRecorded, ToReport, ToSchedule, ToSettled, ToSpec, ToTexts, ToWorded, ToValue}
 use Rattle.lu_source_text.specs.Kinds.{code_of as source_code_of}
 use Rattle.lu_source_text.specs.Readers.{component_meant}
@@ -104,6 +106,7 @@ use Rattle.lu_cli.specs.Replay.{IsReplayed}
 use Rattle.lu_cli.specs.Serial.{IsRunSerially}
 use Rattle.lu_cli.specs.Shows.{ShowsCertificate, reported, status_of, two_texts, with_matrix, with_schedule}
 use Rattle.lu_cli.specs.Shrink.{ShowsShrunk}
+use Rattle.lu_cli.specs.Sources.{IsAnswerWithSource, bundle_meant}
 use Rattle.lu_cli.specs.Spec.{IsCollected, IsAnswerToSpec}
 use Rattle.lu_cli.specs.Trace.{IsTraced}
 use Rattle.lu_cli.specs.declared.request.TraceStart.{TraceStart}
@@ -137,13 +140,14 @@ answer_long IsAnswer (Some all) answer long is = (all, refl, refused_as_long IsA
 answer_long IsAnswer None answer long is = some_long IsAnswer answer (longer 1048576) is
 
 -- what is too long for a request that reads
-pub request_long : (request : Request) (known : Option (List ℕ)) (answer : Answer) → request ≢ Help → IfSome known (λ all. 1048576 < length all) → answer ≡ refused (codes "B2") → IsAnswerToRead request known answer
-request_long Help known answer reads long is = absurd (reads refl)
+pub request_long : (request : Request) (known : Option (List ℕ)) (answer : Answer) → request ≢ Commands → IfSome known (λ all. 1048576 < length all) → answer ≡ refused (codes "B2") → IsAnswerToRead request known answer
+request_long Commands known answer reads long is = absurd (reads refl)
 request_long (Lint limits) known answer reads long is = answer_long (IsLint limits) known answer long is
 request_long (Bundle command) known answer reads long is = answer_long (IsAnswerToBundle command) known answer long is
+request_long (BundleWithSource command) known answer reads long is = answer_long (IsAnswerWithSource command) known answer long is
 
 -- the help, whatever would be read
-pub help_from : (known : Option (List ℕ)) (answer : Answer) → answer ≡ help_answer → IsAnswerToRead Help known answer
+pub help_from : (known : Option (List ℕ)) (answer : Answer) → answer ≡ help_answer → IsAnswerToRead Commands known answer
 help_from (Some all) answer is = (all, refl, is)
 help_from None answer is = ([], tt, is)
 
@@ -320,20 +324,20 @@ spec_else : (m : Matrix) (text : List ℕ) (IsAnswer : List (List SerialOp) → 
 spec_else m text IsAnswer answer h (inl is) = h is.0 is.2
 spec_else m text IsAnswer answer h (inr is) = refused_else (spec_code_of is.0 ++ codes " line " ++ decimal is.1) answer is.3
 
-given_else : (m : Matrix) (text : List ℕ) (IsAnswer : List (List SerialOp) → Answer → Type 0) (answer : Answer) → ((members : List (List SerialOp)) → IsAnswer members answer → IsElse answer) → ToGiven m text IsAnswer answer → IsElse answer
-given_else m text IsAnswer answer h (inl is) = h is.0 is.2
-given_else m text IsAnswer answer h (inr is) = refused_else (spec_code_of is.0 ++ codes " line " ++ decimal is.1) answer is.3
+given_else : (marks : Marks) (m : Matrix) (text : List ℕ) (IsAnswer : List (List SerialOp) → Answer → Type 0) (answer : Answer) → ((members : List (List SerialOp)) → IsAnswer members answer → IsElse answer) → ToGiven marks m text IsAnswer answer → IsElse answer
+given_else marks m text IsAnswer answer h (inl is) = h is.0 is.2
+given_else marks m text IsAnswer answer h (inr is) = refused_else (spec_code_of is.0 ++ codes " line " ++ decimal is.1) answer is.3
 
 refute_else : (c : Component) (m : Matrix) (report spec : List ℕ) (answer : Answer) → IsRefutedTexts c m report spec answer → IsElse answer
 refute_else c m report spec answer is =
     report_else report (λ r. ToSpec m spec (IsRefuted c m r)) answer
     (λ r more. spec_else m spec (IsRefuted c m r) answer (λ members last. refuted_else c m r members answer last) more) is
 
-spec_parts_else : (choice : Options) (parts : List (List ℕ)) (answer : Answer) → IsAnswerToCheckAgainst choice parts answer → IsElse answer
-spec_parts_else choice parts answer is =
-    parts_else (exactly_three parts) (λ p. ToTexts p.0 p.1 (λ c m. IsCheckedAgainstText c m choice p.2)) answer
-    (λ p more. texts_else p.0 p.1 (λ c m. IsCheckedAgainstText c m choice p.2) answer
-    (λ c m from. given_else m p.2 (IsCheckedAgainst c m choice) answer (λ members last. against_else c m choice members answer last) from) more) is
+spec_parts_else : (choice : Options) (marks : Marks) (parts : List (List ℕ)) (answer : Answer) → IsAnswerToCheckAgainst choice marks parts answer → IsElse answer
+spec_parts_else choice marks parts answer is =
+    parts_else (exactly_three parts) (λ p. ToTexts p.0 p.1 (λ c m. IsCheckedAgainstText c m choice marks p.2)) answer
+    (λ p more. texts_else p.0 p.1 (λ c m. IsCheckedAgainstText c m choice marks p.2) answer
+    (λ c m from. given_else marks m p.2 (IsCheckedAgainst c m choice) answer (λ members last. against_else c m choice members answer last) from) more) is
 
 four_else : (parts : List (List ℕ)) (answer : Answer) → IsAnswerToRefute parts answer → IsElse answer
 four_else parts answer is =
@@ -400,12 +404,12 @@ explain_after_else by limits parts answer is =
 explain_else : (by : Presentation) (limits : Bounds) (parts : List (List ℕ)) (answer : Answer) → IsAnswerToExplain by limits parts answer → IsElse answer
 explain_else by limits parts answer is = alone_or_else (view_of by) (IsExplainAfter by limits) parts answer (explain_after_else by limits parts answer) is
 
-explain_against_else : (parts : List (List ℕ)) (answer : Answer) → IsAnswerToExplainAgainst parts answer → IsElse answer
-explain_against_else parts answer is =
-    parts_else (exactly_four parts) (λ p. ToWorded p.0 p.1 (λ how c m. IsExplainedAgainstText how c m p.2 p.3)) answer
-    (λ p more. worded_else p.0 p.1 (λ how c m. IsExplainedAgainstText how c m p.2 p.3) answer
-    (λ how c m from. target_else p.2 (λ t. ToGiven m p.3 (λ members. IsExplainedTarget (in_words Words how) members c m t)) answer
-    (λ t read. given_else m p.3 (λ members. IsExplainedTarget (in_words Words how) members c m t) answer (λ members last. explanation_else (in_words Words how) members c m t answer last) read) from) more) is
+explain_against_else : (marks : Marks) (parts : List (List ℕ)) (answer : Answer) → IsAnswerToExplainAgainst marks parts answer → IsElse answer
+explain_against_else marks parts answer is =
+    parts_else (exactly_four parts) (λ p. ToWorded p.0 p.1 (λ how c m. IsExplainedAgainstText how c m p.2 marks p.3)) answer
+    (λ p more. worded_else p.0 p.1 (λ how c m. IsExplainedAgainstText how c m p.2 marks p.3) answer
+    (λ how c m from. target_else p.2 (λ t. ToGiven marks m p.3 (λ members. IsExplainedTarget (in_words Words how) members c m t)) answer
+    (λ t read. given_else marks m p.3 (λ members. IsExplainedTarget (in_words Words how) members c m t) answer (λ members last. explanation_else (in_words Words how) members c m t answer last) read) from) more) is
 
 found_else : (c : Component) (found : Campaign) (answer : Answer) → answer ≡ found_answer c found → IsElse answer
 found_else c (AllPass count) answer is = status_else answer 0 (ap (λ (a : Answer). a.status) is) (λ e. omega arith)
@@ -522,17 +526,17 @@ judged_serially_else : (c : Component) (m : Matrix) (limits : Bounds) (all : Lis
 judged_serially_else c m limits all answer (inl is) = judged_else is.2 c m all answer is.7
 judged_serially_else c m limits all answer (inr is) = reported_else is.0 answer is.3
 
-judge_else : (limits : Bounds) (parts : List (List ℕ)) (answer : Answer) → IsAnswerToJudge limits parts answer → IsElse answer
-judge_else limits parts answer is =
+witness_else : (limits : Bounds) (parts : List (List ℕ)) (answer : Answer) → IsAnswerToWitness limits parts answer → IsElse answer
+witness_else limits parts answer is =
     parts_else (three_parts parts) (λ p. ToTexts p.0 p.1 (λ c m. IsJudgedTexts c m limits p.2)) answer
     (λ p more. texts_else p.0 p.1 (λ c m. IsJudgedTexts c m limits p.2) answer
     (λ c m from. recorded_else m p.2 (IsJudgedSerially c m limits) answer (λ all last. judged_serially_else c m limits all answer last) from) more) is
 
-judge_against_else : (parts : List (List ℕ)) (answer : Answer) → IsAnswerToJudgeAgainst parts answer → IsElse answer
-judge_against_else parts answer is =
-    parts_else (four_parts parts) (λ p. ToTexts p.0 p.1 (λ c m. IsJudgedAgainstTexts c m p.2 p.3)) answer
-    (λ p more. texts_else p.0 p.1 (λ c m. IsJudgedAgainstTexts c m p.2 p.3) answer
-    (λ c m from. given_else m p.2 (λ members. ToRecorded m p.3 (IsJudgedByMembers members c m)) answer
+witness_against_else : (marks : Marks) (parts : List (List ℕ)) (answer : Answer) → IsAnswerToWitnessAgainst marks parts answer → IsElse answer
+witness_against_else marks parts answer is =
+    parts_else (four_parts parts) (λ p. ToTexts p.0 p.1 (λ c m. IsJudgedAgainstTexts c m marks p.2 p.3)) answer
+    (λ p more. texts_else p.0 p.1 (λ c m. IsJudgedAgainstTexts c m marks p.2 p.3) answer
+    (λ c m from. given_else marks m p.2 (λ members. ToRecorded m p.3 (IsJudgedByMembers members c m)) answer
     (λ members read. recorded_else m p.3 (IsJudgedByMembers members c m) answer (λ all last. judged_else members c m all answer last) read) from) more) is
 
 conformed_else : (c : Component) (m : Matrix) (showing : Showing) (all : List Recorded) (answer : Answer) → IsConformed c m showing all answer → IsElse answer
@@ -586,14 +590,14 @@ command_else (Trace start) parts answer is = view_else (run.Trace start) parts a
 command_else Draw parts answer is = view_else run.Picture parts answer is
 command_else (DrawExplained limits) parts answer is = explain_else Picture limits parts answer is
 command_else (Explain limits) parts answer is = explain_else Words limits parts answer is
-command_else ExplainAgainst parts answer is = explain_against_else parts answer is
+command_else (ExplainAgainst marks) parts answer is = explain_against_else marks parts answer is
 command_else (Serial limits) parts answer is = two_else parts (λ c m. IsRunSerially c m limits) answer (λ c m more. serial_else c m limits answer more) is
-command_else (Judge limits) parts answer is = judge_else limits parts answer is
-command_else JudgeAgainst parts answer is = judge_against_else parts answer is
+command_else (Witness limits) parts answer is = witness_else limits parts answer is
+command_else (WitnessAgainst marks) parts answer is = witness_against_else marks parts answer is
 command_else (Conform showing) parts answer is = conform_else showing parts answer is
 command_else Spec parts answer is = collected_parts_else parts answer is
 command_else (Check choice) parts answer is = two_else parts (λ c m. IsChecked c m choice) answer (λ c m more. checked_else c m choice answer more) is
-command_else (CheckAgainst choice) parts answer is = spec_parts_else choice parts answer is
+command_else (CheckAgainst choice marks) parts answer is = spec_parts_else choice marks parts answer is
 command_else (Certify asked) parts answer is = two_else parts (λ c m. IsCertified c m asked) answer (λ c m more. certified_else c m asked answer more) is
 command_else Refute parts answer is = four_else parts answer is
 command_else (Shrink limits) parts answer is = two_else parts (λ c m. ShowsShrunk c m limits) answer (λ c m more. shrink_else c m limits answer more) is
@@ -605,17 +609,17 @@ marked_else : (answer : Answer) (b : Bool) → answer.status ≡ (if b then 2 el
 marked_else answer true e = status_else answer 2 e (λ f. omega arith)
 marked_else answer false e = status_else answer 0 e (λ f. omega arith)
 
-linted_else : (limits : Bounds) (bundle : List ℕ) (answer : Answer) → IsLinted limits bundle answer → IsElse answer
+linted_else : (limits : LintRequest) (bundle : List ℕ) (answer : Answer) → IsLinted limits bundle answer → IsElse answer
 linted_else limits bundle answer (remarks, are, e) = marked_else answer (have_fault remarks) (ap (λ (a : Answer). a.status) e)
 
-source_linted_else : (limits : Bounds) (source : List ℕ) (parts : List (List ℕ)) (answer : Answer) → IsSourceLinted limits source parts answer → IsElse answer
+source_linted_else : (limits : LintRequest) (source : List ℕ) (parts : List (List ℕ)) (answer : Answer) → IsSourceLinted limits source parts answer → IsElse answer
 source_linted_else limits source parts answer is = go (component_meant source) is
   where
     go : (meant : Result Component (Fault SourceFaultKind)) → MatchResult meant (λ c. IsLintedAfter limits source parts c answer) (λ fault. IsFaulted source answer) → IsElse answer
     go (Ok c) (said, remarks, tells, are, e) = marked_else answer (have_fault (below_source source c remarks)) (ap (λ (a : Answer). a.status) e)
     go (Err fault) (text, tells, e) = status_else answer 2 (ap (λ (a : Answer). a.status) e) (λ f. omega arith)
 
-lint_else : (limits : Bounds) (bundle : List ℕ) (answer : Answer) → IsLint limits bundle answer → IsElse answer
+lint_else : (limits : LintRequest) (bundle : List ℕ) (answer : Answer) → IsLint limits bundle answer → IsElse answer
 lint_else limits bundle answer is = go (bundle_parts bundle) is
   where
     by : (first : List ℕ) (parts : List (List ℕ)) (b : Bool) → MatchBool b (IsSourceLinted limits first parts answer) (IsLinted limits bundle answer) → IsElse answer
@@ -629,6 +633,11 @@ lint_else limits bundle answer is = go (bundle_parts bundle) is
 bundle_else : (command : BundleCommand) (input : List ℕ) (answer : Answer) → IsAnswerToBundle command input answer → IsElse answer
 bundle_else command input answer is = command_else command (bundle_parts input) answer is
 
+source_else : (command : BundleCommand) (input : List ℕ) (answer : Answer) → IsAnswerWithSource command input answer → IsElse answer
+source_else command input answer is =
+    value_else source_code_of (bundle_meant input) (λ meant. IsAnswerToCommand command (bundle_parts meant)) answer
+    (λ meant more. command_else command (bundle_parts meant) answer more) is
+
 input_else : (IsAnswer : List ℕ → Answer → Type 0) (long : Bool) (input : List ℕ) (answer : Answer) → (IsAnswer input answer → IsElse answer) → MatchBool long (answer ≡ refused (codes "B2")) (IsAnswer input answer) → IsElse answer
 input_else IsAnswer true input answer other is = refused_else (codes "B2") answer is
 input_else IsAnswer false input answer other is = other is
@@ -637,9 +646,10 @@ help_else : (answer : Answer) → answer ≡ help_answer → answer ≢ no_devic
 help_else answer is = status_else answer 0 (ap (λ (a : Answer). a.status) is) (λ e. omega arith)
 
 request_else : (request : Request) (input : List ℕ) (answer : Answer) → IsAnswerToInput request input answer → IsElse answer
-request_else Help input answer is = help_else answer is
+request_else Commands input answer is = help_else answer is
 request_else (Lint limits) input answer is = input_else (IsLint limits) (nat_lt 1048576 (length input)) input answer (lint_else limits input answer) is
 request_else (Bundle command) input answer is = input_else (IsAnswerToBundle command) (nat_lt 1048576 (length input)) input answer (bundle_else command input answer) is
+request_else (BundleWithSource command) input answer is = input_else (IsAnswerWithSource command) (nat_lt 1048576 (length input)) input answer (source_else command input answer) is
 
 answer_else : (request : Request) (known : Option (List ℕ)) (answer : Answer) → IsAnswerToRead request known answer → answer ≢ no_device
 answer_else request known answer is = request_else request is.0 answer is.2

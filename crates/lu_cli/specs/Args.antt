@@ -23,15 +23,17 @@ use Rattle.lu_cli.specs.declared.request.CertifyOptions.{CertifyOptions}
 use Rattle.lu_cli.specs.declared.request.Request.{Request}
 use Rattle.lu_cli.specs.declared.request.Showing.TheVariants as showing
 use Rattle.lu_cli.specs.declared.request.TraceStart.TheVariants.{FirstMove, Setup}
-use Rattle.lu_cli.specs.declared.request.Request.TheVariants.{Help, Lint, Bundle}
+use Rattle.lu_cli.specs.declared.request.Request.TheVariants.{Commands, Lint, Bundle, BundleWithSource}
 use Rattle.lu_cli.specs.declared.request.BundleCommand.{BundleCommand}
-use Rattle.lu_cli.specs.declared.request.BundleCommand.TheVariants.{Replay, Trace, Draw, DrawExplained, Explain, ExplainAgainst, Serial, Judge, JudgeAgainst, Conform, Spec, Check, CheckAgainst, Certify, Refute, Shrink, Campaign, CampaignAgainst, Compile}
+use Rattle.lu_cli.specs.declared.request.BundleCommand.TheVariants.{Replay, Trace, Draw, DrawExplained, Explain, ExplainAgainst, Serial, Witness, WitnessAgainst, Conform, Spec, Check, CheckAgainst, Certify, Refute, Shrink, Campaign, CampaignAgainst, Compile}
 use Rattle.lu_cli.specs.declared.table.CommandRow.{CommandRow}
 use Rattle.lu_cli.specs.declared.table.Kind.{Kind}
 use Rattle.lu_cli.specs.declared.table.Kind.TheVariants.{Flag, Number, Long}
 use Rattle.lu_cli.specs.declared.table.OptionRow.{OptionRow}
 use Rattle.lu_cli.specs.Table.{TableCommand, TableOption, command_said, commands, commands_said, option_said, options, options_said}
 use Rattle.lu_report.specs.Limits.{Bounds, lies, limits_of, most_moves}
+use Rattle.lu_spec.specs.declared.given.Marks.{Marks}
+use Rattle.lu_spec.specs.declared.given.Marks.TheVariants.{Refused, Allowed}
 use Rattle.lu_parallel.specs.Ranges.{Options, choice, with_head_start}
 
 -- the greatest number of 64 bits
@@ -183,10 +185,17 @@ choice_in rows =
     (number_named (codes "workers") rows)
     (number_named (codes "depth") rows)
 
+-- whether a specification may have marks
+abbrev pub marks_in : List Row → Marks
+marks_in rows = if flag_in (codes "marks") rows then Allowed else Refused
+
 -- a check against the serial runs, or one against a specification
 abbrev pub check_in : List Row → Option BundleCommand
 check_in rows =
-    option_map (if flag_in (codes "spec") rows then CheckAgainst else Check) (choice_in rows)
+    option_map
+    (λ choice. if flag_in (codes "spec") rows then CheckAgainst choice (marks_in rows)
+    else Check choice)
+    (choice_in rows)
 
 abbrev pub certify_with : Option Options → Option ℕ → Option ℕ → Option CertifyOptions
 certify_with (Some choice) (Some local) (Some nodes) =
@@ -198,9 +207,11 @@ certify_in rows =
     certify_with (choice_in rows) (number_named (codes "local") rows) (nodes_in rows)
 
 -- a judgement by the serial runs, or one by a specification
-abbrev pub judge_in : List Row → Option BundleCommand
-judge_in rows =
-    option_map (λ limits. if flag_in (codes "spec") rows then JudgeAgainst else Judge limits)
+abbrev pub witness_in : List Row → Option BundleCommand
+witness_in rows =
+    option_map
+    (λ limits. if flag_in (codes "spec") rows then WitnessAgainst (marks_in rows)
+    else Witness limits)
     (limits_in rows)
 
 -- how many histories are shown, or by which schedules too
@@ -221,7 +232,9 @@ draw_in rows =
 -- an explanation by the serial runs, or one by a specification; no schedule is bounded
 abbrev pub explain_in : List Row → Option BundleCommand
 explain_in rows =
-    option_map (λ limits. if flag_in (codes "spec") rows then ExplainAgainst else Explain limits)
+    option_map
+    (λ limits. if flag_in (codes "spec") rows then ExplainAgainst (marks_in rows)
+    else Explain limits)
     (limits_with (Some 0) (number_named (codes "serial") rows))
 
 -- this many threads, where the number is one of 8 bits
@@ -319,7 +332,7 @@ command_by name rows =
     else (if bytes_eq name (codes "serial") then option_map Serial (limits_in rows)
     else (if bytes_eq name (codes "spec") then Some Spec
     else (if bytes_eq name (codes "check") then check_in rows
-    else (if bytes_eq name (codes "judge") then judge_in rows
+    else (if bytes_eq name (codes "witness") then witness_in rows
     else (if bytes_eq name (codes "conform") then Some (conform_in rows)
     else (if bytes_eq name (codes "certify") then option_map Certify (certify_in rows)
     else (if bytes_eq name (codes "refute") then Some Refute
@@ -330,14 +343,21 @@ command_by name rows =
 
 -- no schedule is bounded
 abbrev pub lint_in : List Row → Option Request
-lint_in rows = option_map Lint (limits_with (Some 0) (number_named (codes "serial") rows))
+lint_in rows =
+    option_map (λ limits. Lint (record { bounds = limits; marks = marks_in rows }))
+    (limits_with (Some 0) (number_named (codes "serial") rows))
+
+-- a command over a bundle, which with `--source` may begin with a source
+abbrev pub over_bundle : List Row → BundleCommand → Request
+over_bundle rows command =
+    if flag_in (codes "source") rows then BundleWithSource command else Bundle command
 
 -- what a command with these rows asks for
 abbrev pub request_by : Text → List Row → Option Request
 request_by name rows =
-    if bytes_eq name (codes "help") then Some Help
+    if bytes_eq name (codes "commands") then Some Commands
     else (if bytes_eq name (codes "lint") then lint_in rows
-    else option_map Bundle (command_by name rows))
+    else option_map (over_bundle rows) (command_by name rows))
 
 abbrev pub request_in : Option (Text × List Row) → Option Request
 request_in entered = option_and_then (λ e. request_by e.0 e.1) entered

@@ -9,6 +9,7 @@ use Rattle.lu_witness.specs.Witnesses.{IsMember}
 use Rattle.lu_replay.specs.Reports.{IsReport, IsReportAgainst}
 use Rattle.lu_parallel.specs.Ranges.{Options}
 use Rattle.lu_machine.specs.declared.test.Test.{Test}
+use Rattle.lu_spec.specs.declared.given.Marks.{Marks}
 use Rattle.lu_cli.specs.declared.refusal.Refusal.{Refusal}
 use Rattle.lu_cli.specs.Refusals.{Answered}
 use Rattle.lu_cli.specs.Shows.{reported}
@@ -41,14 +42,15 @@ IsCheckedAgainst c matrix choice members answer =
     ⊎ ((choice.workers ≢ 1) × (answer ≡ no_worker))
 
 -- the specification is read, and then the matrix is checked against it
-abbrev pub IsCheckedAgainstText : Component → Matrix → Options → List ℕ → Answer → Type 0
-IsCheckedAgainstText c matrix choice spec = ToGiven matrix spec (IsCheckedAgainst c matrix choice)
+abbrev pub IsCheckedAgainstText : Component → Matrix → Options → Marks → List ℕ → Answer → Type 0
+IsCheckedAgainstText c matrix choice marks spec =
+    ToGiven marks matrix spec (IsCheckedAgainst c matrix choice)
 
-abbrev pub ChecksAgainst : Test → Options → List ℕ → Result Answer Refusal → Type 0
-ChecksAgainst test choice spec =
-    Answered (IsCheckedAgainstText test.component.now test.matrix.now choice spec)
+abbrev pub ChecksAgainst : Test → Options → Marks → List ℕ → Result Answer Refusal → Type 0
+ChecksAgainst test choice marks spec =
+    Answered (IsCheckedAgainstText test.component.now test.matrix.now choice marks spec)
 
-abbrev pub IsAnswerToCheckAgainst : Options → List (List ℕ) → Answer → Type 0
-IsAnswerToCheckAgainst choice parts =
+abbrev pub IsAnswerToCheckAgainst : Options → Marks → List (List ℕ) → Answer → Type 0
+IsAnswerToCheckAgainst choice marks parts =
     ToParts (exactly_three parts)
-    (λ p. ToTexts p.0 p.1 (λ c m. IsCheckedAgainstText c m choice p.2))
+    (λ p. ToTexts p.0 p.1 (λ c m. IsCheckedAgainstText c m choice marks p.2))

@@ -2,7 +2,7 @@
 use Rattle.std.specs.Prelude.{ℕ, List}
 use Rattle.lu_cli.specs.Explain.{IsAnswerToExplain, IsAnswerToExplainAgainst}
 use Rattle.lu_cli.specs.declared.failing.RunView.TheVariants as run
-use Rattle.lu_cli.specs.Judge.{IsAnswerToJudge, IsAnswerToJudgeAgainst}
+use Rattle.lu_cli.specs.Witness.{IsAnswerToWitness, IsAnswerToWitnessAgainst}
 use Rattle.lu_cli.specs.Compile.{IsAnswerToCompile}
 use Rattle.lu_cli.specs.Conform.{IsAnswerToConform}
 use Rattle.lu_cli.specs.Outcomes.{Answer}
@@ -18,7 +18,7 @@ use Rattle.lu_cli.specs.Shrink.{IsAnswerToShrink}
 use Rattle.lu_cli.specs.Spec.{IsAnswerToSpec}
 use Rattle.lu_cli.specs.declared.explanation.Presentation.TheVariants.{Words, Picture}
 use Rattle.lu_cli.specs.declared.request.BundleCommand.{BundleCommand}
-use Rattle.lu_cli.specs.declared.request.BundleCommand.TheVariants.{Replay, Trace, Draw, DrawExplained, Explain, ExplainAgainst, Serial, Judge, JudgeAgainst, Conform, Spec, Check, CheckAgainst, Certify, Refute, Shrink, Campaign as Campaigning, CampaignAgainst, Compile}
+use Rattle.lu_cli.specs.declared.request.BundleCommand.TheVariants.{Replay, Trace, Draw, DrawExplained, Explain, ExplainAgainst, Serial, Witness, WitnessAgainst, Conform, Spec, Check, CheckAgainst, Certify, Refute, Shrink, Campaign as Campaigning, CampaignAgainst, Compile}
 
 -- the answer to a command and the parts of the bundle
 abbrev pub IsAnswerToCommand : BundleCommand → List (List ℕ) → Answer → Type 0
@@ -27,14 +27,15 @@ IsAnswerToCommand (Trace start) parts = IsAnswerToTraceOrDraw (run.Trace start) 
 IsAnswerToCommand Draw parts = IsAnswerToTraceOrDraw run.Picture parts
 IsAnswerToCommand (DrawExplained limits) parts = IsAnswerToExplain Picture limits parts
 IsAnswerToCommand (Explain limits) parts = IsAnswerToExplain Words limits parts
-IsAnswerToCommand ExplainAgainst parts = IsAnswerToExplainAgainst parts
+IsAnswerToCommand (ExplainAgainst marks) parts = IsAnswerToExplainAgainst marks parts
 IsAnswerToCommand (Serial limits) parts = IsAnswerToSerial limits parts
-IsAnswerToCommand (Judge limits) parts = IsAnswerToJudge limits parts
-IsAnswerToCommand JudgeAgainst parts = IsAnswerToJudgeAgainst parts
+IsAnswerToCommand (Witness limits) parts = IsAnswerToWitness limits parts
+IsAnswerToCommand (WitnessAgainst marks) parts = IsAnswerToWitnessAgainst marks parts
 IsAnswerToCommand (Conform showing) parts = IsAnswerToConform showing parts
 IsAnswerToCommand Spec parts = IsAnswerToSpec parts
 IsAnswerToCommand (Check choice) parts = IsAnswerToCheck choice parts
-IsAnswerToCommand (CheckAgainst choice) parts = IsAnswerToCheckAgainst choice parts
+IsAnswerToCommand (CheckAgainst choice marks) parts =
+    IsAnswerToCheckAgainst choice marks parts
 IsAnswerToCommand (Certify asked) parts = IsAnswerToCertify asked parts
 IsAnswerToCommand Refute parts = IsAnswerToRefute parts
 IsAnswerToCommand (Shrink limits) parts = IsAnswerToShrink limits parts

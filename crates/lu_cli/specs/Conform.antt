@@ -13,7 +13,7 @@ use Rattle.lu_conform.specs.declared.shown.Conformance.{Conformance}
 use Rattle.lu_conform.specs.declared.shown.Conformance.TheVariants.{Conforms, NoneShows, Undecided}
 use Rattle.lu_conform.specs.Conforming.{IsConformance}
 use Rattle.lu_cli.specs.declared.refusal.Refusal.{Refusal}
-use Rattle.lu_cli.specs.Judge.{three_parts}
+use Rattle.lu_cli.specs.Witness.{three_parts}
 use Rattle.lu_cli.specs.Refusals.{Answered}
 use Rattle.lu_cli.specs.Outcomes.{Answer}
 use Rattle.lu_cli.specs.Reading.{ToRecorded, ToParts, ToTexts}

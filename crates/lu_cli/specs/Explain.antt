@@ -14,6 +14,7 @@ use Rattle.lu_report.specs.Forms.{Spells, IsFault}
 use Rattle.std.specs.List.{starts_with}
 use Rattle.lu_trace.specs.declared.wording.Wording.{Wording}
 use Rattle.lu_report.specs.Limits.{Bounds}
+use Rattle.lu_spec.specs.declared.given.Marks.{Marks}
 use Rattle.lu_cli.specs.declared.refusal.Refusal.{Refusal}
 use Rattle.lu_cli.specs.declared.refusal.Refusal.TheVariants as refusal
 use Rattle.lu_cli.specs.declared.failing.View.{View}
@@ -94,16 +95,17 @@ IsAnswerToExplain by limits = AloneOr (view_of by) (IsExplainAfter by limits)
 -- ---- by a specification
 
 -- the schedule or the report is read first, and then the specification
-abbrev pub IsExplainedAgainstText : Wording → Component → Matrix → List ℕ → List ℕ → Answer → Type 0
-IsExplainedAgainstText how c m text spec =
+abbrev pub IsExplainedAgainstText : Wording → Component → Matrix → List ℕ → Marks → List ℕ → Answer
+    → Type 0
+IsExplainedAgainstText how c m text marks spec =
     ToTarget text
-    (λ t. ToGiven m spec (λ members. IsExplainedTarget (in_words Words how) members c m t))
+    (λ t. ToGiven marks m spec (λ members. IsExplainedTarget (in_words Words how) members c m t))
 
-abbrev pub ExplainsAgainst : Wording → Test → List ℕ → List ℕ → Result Answer Refusal → Type 0
-ExplainsAgainst how test text spec =
-    Answered (IsExplainedAgainstText how test.component.now test.matrix.now text spec)
+abbrev pub ExplainsAgainst : Wording → Test → List ℕ → Marks → List ℕ → Result Answer Refusal → Type 0
+ExplainsAgainst how test text marks spec =
+    Answered (IsExplainedAgainstText how test.component.now test.matrix.now text marks spec)
 
-abbrev pub IsAnswerToExplainAgainst : List (List ℕ) → Answer → Type 0
-IsAnswerToExplainAgainst parts =
+abbrev pub IsAnswerToExplainAgainst : Marks → List (List ℕ) → Answer → Type 0
+IsAnswerToExplainAgainst marks parts =
     ToParts (exactly_four parts)
-    (λ p. ToWorded p.0 p.1 (λ how c m. IsExplainedAgainstText how c m p.2 p.3))
+    (λ p. ToWorded p.0 p.1 (λ how c m. IsExplainedAgainstText how c m p.2 marks p.3))

@@ -95,21 +95,19 @@ option_rows = flat_map (λ row. option_line (option_said row))
 
 -- ---- the text
 
--- what stands before the commands
+-- the text before the commands
 abbrev pub usage : Text
 usage =
     codes "usage: lineup COMMAND [OPTION..] < BUNDLE\n"
-    ++ codes "A bundle is its parts, in this order, with lines `---` between them. "
-    ++ codes "Statuses: 0 all is well, 1 a failure, 2 refused,\n"
-    ++ codes "3 not decided, 4 memory, a thread or a device failed.\n\n"
+    ++ codes "A bundle has the parts listed here, in this order, separated by lines `---`.\n"
+    ++ codes "Exit status: 0 success, 1 failure, 2 refused, 3 undecided, 4 out of memory or a failed device.\n\n"
 
--- what stands between the commands and the options
+-- the text between the commands and the options
 abbrev pub notes : Text
 notes =
-    codes "explain, draw and trace take a schedule in a report's place too, "
-    ++ codes "or what certify prints in place of matrix and report;\n"
-    ++ codes "of component and matrix alone they certify, and show what fails. "
-    ++ codes "These and lint take a source in the component's place.\n\n"
+    codes "explain, draw and trace also take a schedule in place of the report, or the output of certify in\n"
+    ++ codes "place of matrix and report. Given a component and a matrix alone, they certify and show what fails.\n"
+    ++ codes "They, lint and compile take a source in place of the component; other commands with --source.\n\n"
 
 -- the help text of a table: a line for each command, and one for each option
 abbrev pub help_of : List TableCommand → List TableOption → Text

@@ -13,7 +13,7 @@ pub mod Explanation
 pub mod Failing
 pub mod Help
 pub mod Inputs
-pub mod Judge
+pub mod Witness
 pub mod Lint
 pub mod Outcomes
 pub mod Program
@@ -25,6 +25,7 @@ pub mod Serial
 pub mod Shown
 pub mod Shows
 pub mod Shrink
+pub mod Sources
 pub mod Spec
 pub mod Table
 pub mod Worded

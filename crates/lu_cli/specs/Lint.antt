@@ -18,8 +18,9 @@ use Rattle.lu_lint.specs.declared.remark.Remark.{Remark}
 use Rattle.lu_lint.specs.Bundle.{IsSaidOf}
 use Rattle.lu_lint.specs.Messages.{remarks_text}
 use Rattle.lu_lint.specs.Said.{have_fault, line_below, said_of}
-use Rattle.lu_report.specs.Limits.{Bounds}
+use Rattle.lu_lint.specs.declared.linting.LintOptions.{LintOptions}
 use Rattle.lu_text.specs.Bundle.{bundle_parts}
+use Rattle.lu_cli.specs.declared.request.LintRequest.{LintRequest}
 use Rattle.lu_cli.specs.Compile.{parts_text}
 use Rattle.lu_cli.specs.Outcomes.{Answer}
 
@@ -32,14 +33,18 @@ remarked remarks = record {
   status = if have_fault remarks then 2 else 0;
 }
 
--- what there is to say of a bundle, in the order of its lines
-abbrev pub AreRemarksOn : Bounds → List ℕ → List Remark → Type 0
-AreRemarksOn limits bundle remarks =
-    IsSaidOf limits.serial bundle (said_of remarks) × IsNonDecreasingBy (λ r. r.said.line) remarks
+-- how a bundle is linted that is asked for so
+abbrev pub options_of : LintRequest → LintOptions
+options_of asked = record { serial = asked.bounds.serial; marks = asked.marks }
 
-abbrev pub IsLinted : Bounds → List ℕ → Answer → Type 0
-IsLinted limits bundle answer =
-    (remarks : List Remark) × AreRemarksOn limits bundle remarks × (answer ≡ remarked remarks)
+-- what there is to say of a bundle, in the order of its lines
+abbrev pub AreRemarksOn : LintRequest → List ℕ → List Remark → Type 0
+AreRemarksOn asked bundle remarks =
+    IsSaidOf (options_of asked) bundle (said_of remarks) × IsNonDecreasingBy (λ r. r.said.line) remarks
+
+abbrev pub IsLinted : LintRequest → List ℕ → Answer → Type 0
+IsLinted asked bundle answer =
+    (remarks : List Remark) × AreRemarksOn asked bundle remarks × (answer ≡ remarked remarks)
 
 -- ---- of a source
 
@@ -89,10 +94,10 @@ below_source source c remarks =
     remarks_below (length (lines_of (component_text c))) (length (lines_of source)) remarks
 
 -- what there is to say of these parts after a source of this many lines with this component
-abbrev pub AreRemarksAfter : {Z : Type 0} → Bounds → Component → ℕ → List (List ℕ)
+abbrev pub AreRemarksAfter : {Z : Type 0} → LintRequest → Component → ℕ → List (List ℕ)
     → Vec Remark Z → Type 0
-AreRemarksAfter limits c now parts remarks =
-    (all : List Remark) × AreRemarksOn limits (bundle_of c parts) all
+AreRemarksAfter asked c now parts remarks =
+    (all : List Remark) × AreRemarksOn asked (bundle_of c parts) all
     × (remarks.items ≡ remarks_below (length (lines_of (component_text c))) now all)
 
 -- remarks, with what is said of the source before them
@@ -100,26 +105,26 @@ abbrev pub remarked_after : List ℕ → List Remark → Answer
 remarked_after said remarks =
     record { text = said ++ remarks_text remarks; status = (remarked remarks).status }
 
-abbrev pub IsLintedAfter : Bounds → List ℕ → List (List ℕ) → Component → Answer → Type 0
-IsLintedAfter limits source parts c answer =
+abbrev pub IsLintedAfter : LintRequest → List ℕ → List (List ℕ) → Component → Answer → Type 0
+IsLintedAfter asked source parts c answer =
     (said : List ℕ) × (remarks : List Remark) × TellsEach (warnings_in source) said
-    × AreRemarksOn limits (bundle_of c parts) remarks
+    × AreRemarksOn asked (bundle_of c parts) remarks
     × (answer ≡ remarked_after said (below_source source c remarks))
 
-abbrev pub IsSourceLinted : Bounds → List ℕ → List (List ℕ) → Answer → Type 0
-IsSourceLinted limits source parts answer =
-    MatchResult (component_meant source) (λ c. IsLintedAfter limits source parts c answer)
+abbrev pub IsSourceLinted : LintRequest → List ℕ → List (List ℕ) → Answer → Type 0
+IsSourceLinted asked source parts answer =
+    MatchResult (component_meant source) (λ c. IsLintedAfter asked source parts c answer)
     (λ fault. IsFaulted source answer)
 
 -- of a bundle that begins with a source, and of another one
-abbrev pub IsLintedBy : List (List ℕ) → Bounds → List ℕ → Answer → Type 0
-IsLintedBy [] limits bundle answer = IsLinted limits bundle answer
-IsLintedBy (first ∷ parts) limits bundle answer =
-    MatchBool (is_source first) (IsSourceLinted limits first parts answer)
-    (IsLinted limits bundle answer)
+abbrev pub IsLintedBy : List (List ℕ) → LintRequest → List ℕ → Answer → Type 0
+IsLintedBy [] asked bundle answer = IsLinted asked bundle answer
+IsLintedBy (first ∷ parts) asked bundle answer =
+    MatchBool (is_source first) (IsSourceLinted asked first parts answer)
+    (IsLinted asked bundle answer)
 
-abbrev pub IsLint : Bounds → List ℕ → Answer → Type 0
-IsLint limits bundle answer = IsLintedBy (bundle_parts bundle) limits bundle answer
+abbrev pub IsLint : LintRequest → List ℕ → Answer → Type 0
+IsLint asked bundle answer = IsLintedBy (bundle_parts bundle) asked bundle answer
 
 -- ---- texts that grow
 

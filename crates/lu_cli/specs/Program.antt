@@ -10,9 +10,10 @@ use Rattle.lu_cli.specs.Help.{help_answer}
 use Rattle.lu_cli.specs.Inputs.{most_bytes}
 use Rattle.lu_cli.specs.Outcomes.{Answer, refused, no_memory, no_command, no_device}
 use Rattle.lu_cli.specs.Commands.{IsAnswerToCommand}
+use Rattle.lu_cli.specs.Sources.{IsAnswerWithSource}
 use Rattle.lu_cli.specs.declared.request.BundleCommand.{BundleCommand}
 use Rattle.lu_cli.specs.declared.request.Request.{Request}
-use Rattle.lu_cli.specs.declared.request.Request.TheVariants.{Help, Lint, Bundle}
+use Rattle.lu_cli.specs.declared.request.Request.TheVariants.{Commands, Lint, Bundle, BundleWithSource}
 
 -- such an answer to the input, where that is not too long
 abbrev pub ToInput : (List ℕ → Answer → Type 0) → List ℕ → Answer → Type 0
@@ -23,11 +24,14 @@ ToInput IsAnswer input answer =
 abbrev pub IsAnswerToBundle : BundleCommand → List ℕ → Answer → Type 0
 IsAnswerToBundle command input answer = IsAnswerToCommand command (bundle_parts input) answer
 
--- the answer to what is asked for and the whole input; the help is the same whatever the input is
+-- the answer to what is asked for and the whole input; the list of commands is the same whatever
+-- the input is
 abbrev pub IsAnswerToInput : Request → List ℕ → Answer → Type 0
-IsAnswerToInput Help input answer = answer ≡ help_answer
+IsAnswerToInput Commands input answer = answer ≡ help_answer
 IsAnswerToInput (Lint limits) input answer = ToInput (IsLint limits) input answer
 IsAnswerToInput (Bundle command) input answer = ToInput (IsAnswerToBundle command) input answer
+IsAnswerToInput (BundleWithSource command) input answer =
+    ToInput (IsAnswerWithSource command) input answer
 
 -- the answer to what is asked for and what was read: the whole input where it is known, and else
 -- some bytes

@@ -19,6 +19,7 @@ use Rattle.lu_report.specs.Codes.{report_code_of}
 use Rattle.lu_report.specs.Forms.{IsFault, Spells}
 use Rattle.lu_spec.specs.declared.fault.SpecFaultKind.{SpecFaultKind}
 use Rattle.lu_spec.specs.Codes.{spec_code_of}
+use Rattle.lu_spec.specs.declared.given.Marks.{Marks}
 use Rattle.lu_spec.specs.FreeSpecs.{IsGivenAs, IsGivenFault}
 use Rattle.lu_spec.specs.SpecText.{IsReadAs, IsSpecFault}
 use Rattle.lu_trace.specs.declared.wording.Wording.{Wording}
@@ -68,11 +69,13 @@ ToSpec matrix text IsAnswer answer =
     ⊎ ((kind : SpecFaultKind) × (n : ℕ) × IsSpecFault matrix text (At kind n)
     × (answer ≡ refused_on_line (spec_code_of kind) n))
 
--- the answer to the text of a specification to be judged by, with marks or without
-abbrev pub ToGiven : Matrix → List ℕ → (List (List SerialOp) → Answer → Type 0) → Answer → Type 0
-ToGiven matrix text IsAnswer answer =
-    ((members : List (List SerialOp)) × IsGivenAs matrix text members × IsAnswer members answer)
-    ⊎ ((kind : SpecFaultKind) × (n : ℕ) × IsGivenFault matrix text (At kind n)
+-- the answer to the text of a specification by which histories are judged
+abbrev pub ToGiven : Marks → Matrix → List ℕ → (List (List SerialOp) → Answer → Type 0) → Answer
+    → Type 0
+ToGiven marks matrix text IsAnswer answer =
+    ((members : List (List SerialOp)) × IsGivenAs marks matrix text members
+    × IsAnswer members answer)
+    ⊎ ((kind : SpecFaultKind) × (n : ℕ) × IsGivenFault marks matrix text (At kind n)
     × (answer ≡ refused_on_line (spec_code_of kind) n))
 
 -- the answer to texts of recorded histories: the fault of the first that has one, or what is

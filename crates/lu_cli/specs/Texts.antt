@@ -13,6 +13,8 @@ use Rattle.lu_replay.specs.Reports.{IsReport, IsReportAgainst}
 use Rattle.lu_report.specs.Text.{report_text}
 use Rattle.lu_parallel.specs.Ranges.{Options}
 use Rattle.lu_parallel.specs.declared.fault.CheckFault.TheVariants.{Memory}
+use Rattle.lu_spec.specs.declared.given.Marks.{Marks}
+use Rattle.lu_spec.specs.declared.given.Marks.TheVariants.{Refused}
 use Rattle.lu_spec.specs.FreeSpecs.{IsGivenAs, IsGivenFault}
 use Rattle.lu_cli.specs.declared.texts.Fault.{Fault as TextsFault}
 use Rattle.lu_cli.specs.declared.texts.Fault.TheVariants.{Component, Matrix, Setup, Spec, Check}
@@ -78,20 +80,20 @@ IsCheckFault component matrix choice (Check fault) =
 -- ---- against a specification
 
 -- the text lists histories of the matrix, and r is the one report against their set
-abbrev pub IsReportAgainstText : AComponent → AMatrix → List ℕ → Options → Report → Type 0
-IsReportAgainstText c m spec choice r =
-    (members : List (List SerialOp)) × IsGivenAs m spec members
+abbrev pub IsReportAgainstText : AComponent → AMatrix → Marks → List ℕ → Options → Report → Type 0
+IsReportAgainstText c m marks spec choice r =
+    (members : List (List SerialOp)) × IsGivenAs marks m spec members
     × IsReportAgainst (IsMember members) c m choice.bound r
 
 -- the fault of the specification's text; of the check, refused memory, or a thread that could not
 -- start
-abbrev pub IsFaultOfSpec : AComponent → AMatrix → List ℕ → Options → TextsFault → Type 0
-IsFaultOfSpec c m spec choice (Component fault) = ⊥
-IsFaultOfSpec c m spec choice (Matrix fault) = ⊥
-IsFaultOfSpec c m spec choice (Setup k) = ⊥
-IsFaultOfSpec c m spec choice (Spec fault) = IsGivenFault m spec fault
-IsFaultOfSpec c m spec choice (Check fault) =
-    (members : List (List SerialOp)) × IsGivenAs m spec members
+abbrev pub IsFaultOfSpec : AComponent → AMatrix → Marks → List ℕ → Options → TextsFault → Type 0
+IsFaultOfSpec c m marks spec choice (Component fault) = ⊥
+IsFaultOfSpec c m marks spec choice (Matrix fault) = ⊥
+IsFaultOfSpec c m marks spec choice (Setup k) = ⊥
+IsFaultOfSpec c m marks spec choice (Spec fault) = IsGivenFault marks m spec fault
+IsFaultOfSpec c m marks spec choice (Check fault) =
+    (members : List (List SerialOp)) × IsGivenAs marks m spec members
     × (choice.workers ≡ 1 → fault ≡ Memory)
 
 -- the text of the one report of the component and the matrix of two texts against the specification
@@ -100,7 +102,7 @@ abbrev pub IsReportTextAgainst : {Z : Type 0} → List ℕ → List ℕ → List
     → Type 0
 IsReportTextAgainst component matrix spec choice text =
     (c : AComponent) × (m : AMatrix) × AreSettled component matrix c m
-    × ((r : Report) × IsReportAgainstText c m spec choice r
+    × ((r : Report) × IsReportAgainstText c m Refused spec choice r
     × (string_bytes text ≡ report_text r))
 
 -- where the first two texts are those of a component and a matrix whose setup settles, this is the
@@ -108,7 +110,7 @@ IsReportTextAgainst component matrix spec choice text =
 abbrev pub IsFaultOnceSettled : List ℕ → List ℕ → List ℕ → Options → TextsFault → Type 0
 IsFaultOnceSettled component matrix spec choice fault =
     (c : AComponent) × (m : AMatrix) × AreSettled component matrix c m
-    × IsFaultOfSpec c m spec choice fault
+    × IsFaultOfSpec c m Refused spec choice fault
 
 -- the fault of the first text that has one, or of the setup; or that of the check
 abbrev pub IsCheckAgainstFault : List ℕ → List ℕ → List ℕ → Options → TextsFault → Type 0

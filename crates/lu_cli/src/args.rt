@@ -9,7 +9,7 @@ ghost use Rattle.lu_cli.specs.Table.{option_said};
 
 use crate::request::{
     ArgsFault, BundleCommand, CampaignOptions, CampaignPart, CampaignThreads, CampaignTrial,
-    CertifyOptions, Request, Showing, TraceStart,
+    CertifyOptions, LintRequest, Request, Showing, TraceStart,
 };
 use crate::table::{CommandRow, Kind, OptionRow, commands, options};
 use clap::builder::ValueParser;
@@ -17,6 +17,7 @@ use clap::error::ErrorKind;
 use clap::{Arg, ArgAction, ArgMatches, Command};
 use lu_parallel::Options;
 use lu_report::{Bounds, MOST_MOVES};
+use lu_spec::Marks;
 use std::alloc::{AllocError, Global};
 use std::convert::AsStr;
 
@@ -277,13 +278,24 @@ fn campaign_in(given: &ArgMatches<'_>) -> Option<BundleCommand>
     }
 }
 
+/// Whether a specification may have marks.
+fn marks_in(given: &ArgMatches<'_>) -> Marks
+    ensures { result ≡ spec.marks_in (rows_of (found_of given.now)) }
+{
+    if flag_in(given, "marks") {
+        Marks::Allowed
+    } else {
+        Marks::Refused
+    }
+}
+
 /// A check against the serial runs, or one against a specification.
 fn check_in(given: &ArgMatches<'_>) -> Option<BundleCommand>
     ensures { result ≡ spec.check_in (rows_of (found_of given.now)) }
 {
     let options = options_in(given)?;
     if flag_in(given, "spec") {
-        Some(BundleCommand::CheckAgainst(options))
+        Some(BundleCommand::CheckAgainst(options, marks_in(given)))
     } else {
         Some(BundleCommand::Check(options))
     }
@@ -303,14 +315,14 @@ fn certify_in(given: &ArgMatches<'_>) -> Option<CertifyOptions>
 }
 
 /// A judgement by the serial runs, or one by a specification.
-fn judge_in(given: &ArgMatches<'_>) -> Option<BundleCommand>
-    ensures { result ≡ spec.judge_in (rows_of (found_of given.now)) }
+fn witness_in(given: &ArgMatches<'_>) -> Option<BundleCommand>
+    ensures { result ≡ spec.witness_in (rows_of (found_of given.now)) }
 {
     let bounds = bounds_in(given)?;
     if flag_in(given, "spec") {
-        Some(BundleCommand::JudgeAgainst)
+        Some(BundleCommand::WitnessAgainst(marks_in(given)))
     } else {
-        Some(BundleCommand::Judge(bounds))
+        Some(BundleCommand::Witness(bounds))
     }
 }
 
@@ -356,7 +368,7 @@ fn explain_in(given: &ArgMatches<'_>) -> Option<BundleCommand>
     let serial = number_named(given, "serial")?;
     let bounds = Bounds::new(0, serial)?;
     if flag_in(given, "spec") {
-        Some(BundleCommand::ExplainAgainst)
+        Some(BundleCommand::ExplainAgainst(marks_in(given)))
     } else {
         Some(BundleCommand::Explain(bounds))
     }
@@ -374,7 +386,7 @@ fn command_by(name: &str, given: &ArgMatches<'_>) -> Option<BundleCommand>
         "serial" => bounds_in(given).map(BundleCommand::Serial),
         "spec" => Some(BundleCommand::Spec),
         "check" => check_in(given),
-        "judge" => judge_in(given),
+        "witness" => witness_in(given),
         "conform" => Some(conform_in(given)),
         "certify" => certify_in(given).map(BundleCommand::Certify),
         "refute" => Some(BundleCommand::Refute),
@@ -385,12 +397,25 @@ fn command_by(name: &str, given: &ArgMatches<'_>) -> Option<BundleCommand>
     }
 }
 
-/// The bounds of what lint runs: no schedule is bounded.
+/// How a bundle is linted. No schedule is bounded.
 fn lint_in(given: &ArgMatches<'_>) -> Option<Request>
     ensures { result ≡ spec.lint_in (rows_of (found_of given.now)) }
 {
     let serial = number_named(given, "serial")?;
-    Bounds::new(0, serial).map(Request::Lint)
+    let bounds = Bounds::new(0, serial)?;
+    let marks = marks_in(given);
+    Some(Request::Lint(LintRequest { bounds, marks }))
+}
+
+/// A command over a bundle, which may begin with a source where `--source` says so.
+fn over_bundle(given: &ArgMatches<'_>, command: BundleCommand) -> Request
+    ensures { result ≡ spec.over_bundle (rows_of (found_of given.now)) command }
+{
+    if flag_in(given, "source") {
+        Request::BundleWithSource(command)
+    } else {
+        Request::Bundle(command)
+    }
 }
 
 /// What a command's name and what is given to the command ask for.
@@ -398,9 +423,12 @@ fn request_by(name: &str, given: &ArgMatches<'_>) -> Option<Request>
     ensures { result ≡ spec.request_by name.now (rows_of (found_of given.now)) }
 {
     match name {
-        "help" => Some(Request::Help),
+        "commands" => Some(Request::Commands),
         "lint" => lint_in(given),
-        _ => command_by(name, given).map(Request::Bundle),
+        _ => {
+            let command = command_by(name, given)?;
+            Some(over_bundle(given, command))
+        }
     }
 }
 

@@ -10,7 +10,7 @@ use crate::refusal::Refusal;
 use crate::texts::read_texts;
 use lu_machine::Test;
 use lu_parallel::{OpenGate, Options, check, check_against, check_one, check_one_against};
-use lu_spec::read_given_spec;
+use lu_spec::{Marks, read_given_spec};
 use lu_text::{exactly_three, exactly_two};
 use std::alloc::Global;
 use std::sync::Wait;
@@ -58,11 +58,12 @@ fn check_test_against<X: AllocGlobal + Threads + Wait>(
     rt: &X,
     test: Test<'_>,
     options: Options,
+    marks: Marks,
     specification: &[u8],
 ) -> Result<Answer, Refusal>
-    ensures { ChecksAgainst test.entry options specification.now result }
+    ensures { ChecksAgainst test.entry options marks specification.now result }
 {
-    let specification = read_given_spec(rt.alloc(), test.matrix, specification)?;
+    let specification = read_given_spec(rt.alloc(), test.matrix, specification, marks)?;
     let tree = specification.tree();
     let report = check_against(
         rt,
@@ -80,9 +81,10 @@ fn check_test_against<X: AllocGlobal + Threads + Wait>(
 pub(crate) fn answer_check_against<X: AllocGlobal + Threads + Wait>(
     rt: &X,
     options: Options,
+    marks: Marks,
     parts: &[&[u8]],
 ) -> Result<Answer, Refusal>
-    ensures { Answered (spec.IsAnswerToCheckAgainst options (texts parts.now)) result }
+    ensures { Answered (spec.IsAnswerToCheckAgainst options marks (texts parts.now)) result }
 {
     let (component, matrix, specification) = exactly_three(parts).ok_or(Refusal::Parts)?;
     let case = read_texts(rt.alloc(), component, matrix)?;
@@ -90,7 +92,7 @@ pub(crate) fn answer_check_against<X: AllocGlobal + Threads + Wait>(
         component: &case.component,
         matrix: &case.matrix,
     };
-    check_test_against(rt, test, options, specification)
+    check_test_against(rt, test, options, marks, specification)
 }
 
 /// The report of a test, on the calling thread.
@@ -124,11 +126,12 @@ fn check_test_against_alone(
     alloc: Global,
     test: Test<'_>,
     options: Options,
+    marks: Marks,
     specification: &[u8],
 ) -> Result<Answer, Refusal>
-    ensures { ChecksAgainst test.entry options specification.now result }
+    ensures { ChecksAgainst test.entry options marks specification.now result }
 {
-    let specification = read_given_spec(alloc, test.matrix, specification)?;
+    let specification = read_given_spec(alloc, test.matrix, specification, marks)?;
     let (tree, bound) = (specification.tree(), options.bound());
     let report = check_one_against(alloc, test.component, test.matrix, &tree, bound)?;
     Ok(show_report(alloc, &report)?)
@@ -138,9 +141,10 @@ fn check_test_against_alone(
 pub(crate) fn answer_check_against_alone(
     alloc: Global,
     options: Options,
+    marks: Marks,
     parts: &[&[u8]],
 ) -> Result<Answer, Refusal>
-    ensures { Answered (spec.IsAnswerToCheckAgainst options (texts parts.now)) result }
+    ensures { Answered (spec.IsAnswerToCheckAgainst options marks (texts parts.now)) result }
 {
     let (component, matrix, specification) = exactly_three(parts).ok_or(Refusal::Parts)?;
     let case = read_texts(alloc, component, matrix)?;
@@ -148,5 +152,5 @@ pub(crate) fn answer_check_against_alone(
         component: &case.component,
         matrix: &case.matrix,
     };
-    check_test_against_alone(alloc, test, options, specification)
+    check_test_against_alone(alloc, test, options, marks, specification)
 }

@@ -16,7 +16,6 @@ use crate::conform::answer_conform;
 use crate::explain::{answer_explain, answer_explain_against};
 use crate::explanation::Presentation;
 use crate::failing::RunView;
-use crate::judge::{answer_judge, answer_judge_against};
 use crate::refusal::Refusal;
 use crate::refute::answer_refute;
 use crate::replay::answer_replay;
@@ -25,6 +24,7 @@ use crate::serial::answer_serial;
 use crate::shown::answer_shown;
 use crate::shrink::answer_shrink;
 use crate::spec::answer_spec;
+use crate::witness::{answer_witness, answer_witness_against};
 use lu_certify::Progress;
 use std::alloc::Global;
 use std::sync::Wait;
@@ -47,14 +47,16 @@ pub(crate) fn carry_out_alone(
             answer_explain(alloc, bounds, parts, Presentation::Picture)
         }
         BundleCommand::Explain(bounds) => answer_explain(alloc, bounds, parts, Presentation::Words),
-        BundleCommand::ExplainAgainst => answer_explain_against(alloc, parts),
+        BundleCommand::ExplainAgainst(marks) => answer_explain_against(alloc, marks, parts),
         BundleCommand::Serial(bounds) => answer_serial(alloc, bounds, parts),
-        BundleCommand::Judge(bounds) => answer_judge(alloc, bounds, parts),
-        BundleCommand::JudgeAgainst => answer_judge_against(alloc, parts),
+        BundleCommand::Witness(bounds) => answer_witness(alloc, bounds, parts),
+        BundleCommand::WitnessAgainst(marks) => answer_witness_against(alloc, marks, parts),
         BundleCommand::Conform(showing) => answer_conform(alloc, showing, parts),
         BundleCommand::Spec => answer_spec(alloc, parts),
         BundleCommand::Check(options) => answer_check_alone(alloc, options, parts),
-        BundleCommand::CheckAgainst(options) => answer_check_against_alone(alloc, options, parts),
+        BundleCommand::CheckAgainst(options, marks) => {
+            answer_check_against_alone(alloc, options, marks, parts)
+        },
         BundleCommand::Certify(asked) => answer_certify_alone(alloc, asked, parts),
         BundleCommand::Refute => answer_refute(alloc, parts),
         BundleCommand::Shrink(bounds) => answer_shrink(alloc, bounds, parts),
@@ -76,7 +78,9 @@ pub(crate) fn carry_out<X: AllocGlobal + Threads + Wait, P: Progress>(
 {
     match command {
         BundleCommand::Check(options) => answer_check(rt, options, parts),
-        BundleCommand::CheckAgainst(options) => answer_check_against(rt, options, parts),
+        BundleCommand::CheckAgainst(options, marks) => {
+            answer_check_against(rt, options, marks, parts)
+        },
         BundleCommand::Certify(asked) => answer_certify(rt, progress, asked, parts),
         _ => carry_out_alone(rt.alloc(), command, parts),
     }

@@ -7,10 +7,10 @@ ghost use Rattle.lu_cli.specs.Conform.{ConformsTexts, IsAnswerToConform, SaysCon
 ghost use Rattle.lu_cli.specs.Refusals.{Answered};
 
 use crate::answer::Answer;
-use crate::judge::three_parts;
 use crate::refusal::Refusal;
 use crate::request::Showing;
 use crate::texts::read_texts;
+use crate::witness::three_parts;
 use lu_conform::{Conformance, conformance};
 use lu_machine::Test;
 use lu_recorded::{Recorded, read_all, write_recorded};

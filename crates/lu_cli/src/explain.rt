@@ -14,7 +14,7 @@ use crate::shown::shown_parts;
 use crate::worded::read_worded;
 use lu_machine::Test;
 use lu_report::{Bounds, read_report};
-use lu_spec::read_given_spec;
+use lu_spec::{Marks, read_given_spec};
 use lu_test::read_schedule;
 use lu_text::{exactly_four, exactly_two};
 use lu_trace::Wording;
@@ -119,12 +119,13 @@ fn explain_against(
     how: Wording<'_>,
     test: Test<'_>,
     target: &[u8],
+    marks: Marks,
     spec: &[u8],
 ) -> Result<Answer, Refusal>
-    ensures { ExplainsAgainst how.entry test.entry target.now spec.now result }
+    ensures { ExplainsAgainst how.entry test.entry target.now marks spec.now result }
 {
     let target = read_target(alloc, target)?;
-    let specification = read_given_spec(alloc, test.matrix, spec)?;
+    let specification = read_given_spec(alloc, test.matrix, spec, marks)?;
     let tree = &specification.tree();
     let by = Presenting {
         by: Presentation::Words,
@@ -134,8 +135,12 @@ fn explain_against(
 }
 
 /// `lineup explain --spec`: component, matrix, a schedule or a report, and specification.
-pub(crate) fn answer_explain_against(alloc: Global, parts: &[&[u8]]) -> Result<Answer, Refusal>
-    ensures { Answered (IsAnswerToExplainAgainst (texts parts.now)) result }
+pub(crate) fn answer_explain_against(
+    alloc: Global,
+    marks: Marks,
+    parts: &[&[u8]],
+) -> Result<Answer, Refusal>
+    ensures { Answered (IsAnswerToExplainAgainst marks (texts parts.now)) result }
 {
     let (component, matrix, target, specification) = exactly_four(parts).ok_or(Refusal::Parts)?;
     let worded = read_worded(alloc, component, matrix)?;
@@ -144,5 +149,5 @@ pub(crate) fn answer_explain_against(alloc: Global, parts: &[&[u8]]) -> Result<A
         component: &worded.component,
         matrix: &worded.matrix,
     };
-    explain_against(alloc, how, test, target, specification)
+    explain_against(alloc, how, test, target, marks, specification)
 }

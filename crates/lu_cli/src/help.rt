@@ -11,21 +11,20 @@ use crate::answer::Answer;
 use crate::table::{CommandRow, Kind, OptionRow, commands, options};
 use std::alloc::{AllocError, Global};
 
-/// What stands before the commands.
+/// The text before the commands.
 const USAGE: &str = "\
 usage: lineup COMMAND [OPTION..] < BUNDLE
-A bundle is its parts, in this order, with lines `---` between them. \
-Statuses: 0 all is well, 1 a failure, 2 refused,
-3 not decided, 4 memory, a thread or a device failed.
+A bundle has the parts listed here, in this order, separated by lines `---`.
+Exit status: 0 success, 1 failure, 2 refused, 3 undecided, 4 out of memory or a failed device.
 
 ";
 
-/// What stands between the commands and the options.
+/// The text between the commands and the options.
 const NOTES: &str = "\
-explain, draw and trace take a schedule in a report's place too, \
-or what certify prints in place of matrix and report;
-of component and matrix alone they certify, and show what fails. \
-These and lint take a source in the component's place.
+explain, draw and trace also take a schedule in place of the report, or the output of certify in
+place of matrix and report. Given a component and a matrix alone, they certify and show what \
+fails.
+They, lint and compile take a source in place of the component; other commands with --source.
 
 ";
 

@@ -17,7 +17,6 @@ mod explanation;
 mod failing;
 mod help;
 mod input;
-mod judge;
 mod lint;
 mod output;
 mod pictures;
@@ -29,11 +28,13 @@ mod request;
 mod serial;
 mod shown;
 mod shrink;
+mod sources;
 mod spec;
 mod table;
 mod terminal;
 mod texts;
 mod trace;
+mod witness;
 mod worded;
 
 pub use answer::Answer;
@@ -41,10 +42,11 @@ pub use args::read_request;
 pub use compile::strings_of;
 pub use counted::Counted;
 pub use lu_certify::{Progress, Silent};
+pub use lu_wording::hint_on;
 pub use program::{answer_alone, answer_request, run, run_with_progress};
 pub use request::{
     ArgsFault, BundleCommand, CampaignOptions, CampaignPart, CampaignThreads, CertifyOptions,
-    Request, Showing, TraceStart,
+    LintRequest, Request, Showing, TraceStart,
 };
 pub use terminal::Terminal;
 pub use texts::{Case, Fault, check_texts, check_texts_against, read_texts};

@@ -1,6 +1,7 @@
 //! What there is to say of a bundle: by its component's text, or by its source's own.
 
-ghost use Rattle.std.specs.Prelude.{◌≡◌, ◌++◌, IfOk, OnOk, string_bytes};
+ghost use Rattle.std.specs.Prelude.{◌≡◌, ◌≤◌, ◌++◌, IfOk, OnOk, string_bytes};
+ghost use Rattle.lu_report.specs.Limits.{most_moves};
 ghost use Rattle.lu_text.specs.Lines.{texts};
 ghost use Rattle.lu_text.specs.Writing.{Writes};
 ghost use Rattle.lu_text.specs.Results.{HasItems};
@@ -9,10 +10,10 @@ ghost use Rattle.lu_cli.specs.Lint as spec;
 ghost use Rattle.lu_cli.specs.Lint.{AddsMessage, AreRemarksAfter, IsFaulted, IsLint, IsLinted, IsLintedAfter, IsSourceLinted, WritesMessages};
 
 use crate::answer::Answer;
+use crate::request::LintRequest;
 use lu_component::Component;
 use lu_lang::write_component;
-use lu_lint::{Remark, Said, have_fault, lint, write_remarks};
-use lu_report::Bounds;
+use lu_lint::{LintOptions, Remark, Said, have_fault, lint, write_remarks};
 use lu_source_lint::{SourceMessage, What, faults_of, warnings_of, wording};
 use lu_source_text::{compile_text, is_source};
 use lu_text::{Fault, bundle_parts, lines_of};
@@ -114,7 +115,11 @@ fn remarks_below(
 }
 
 /// The component, with these parts after it.
-fn bundle_of(alloc: Global, component: &Component, parts: &[&[u8]]) -> Result<Vec<u8>, AllocError>
+pub(crate) fn bundle_of(
+    alloc: Global,
+    component: &Component,
+    parts: &[&[u8]],
+) -> Result<Vec<u8>, AllocError>
     ensures { HasItems result (spec.bundle_of component.now (texts parts.now)) }
 {
     let mut bundle = write_component(alloc, component)?.into_bytes();
@@ -122,20 +127,32 @@ fn bundle_of(alloc: Global, component: &Component, parts: &[&[u8]]) -> Result<Ve
     Ok(bundle)
 }
 
+/// How a bundle is linted that is asked for so.
+fn options_of(asked: LintRequest) -> LintOptions
+    ensures options { result ≡ spec.options_of asked }
+    ensures some { 1 ≤ result.serial }
+    ensures few { result.serial ≤ most_moves }
+{
+    LintOptions {
+        serial: asked.bounds.serial(),
+        marks: asked.marks,
+    }
+}
+
 /// What there is to say of the parts after the source, whose component is this, on their lines.
 fn remarks_after(
     alloc: Global,
-    bounds: Bounds,
+    asked: LintRequest,
     component: &Component,
     source_lines: usize,
     parts: &[&[u8]],
 ) -> Result<Vec<Remark>, AllocError>
-    ensures { IfOk result (AreRemarksAfter bounds component.now source_lines (texts parts.now)) }
+    ensures { IfOk result (AreRemarksAfter asked component.now source_lines (texts parts.now)) }
 {
     let text = write_component(alloc, component)?;
     let lines = lines_of(alloc, text.as_bytes())?.len();
     let bundle = bundle_of(alloc, component, parts)?;
-    let linted = lint(alloc, &Words, &bundle, bounds.serial())?;
+    let linted = lint(alloc, &Words, &bundle, options_of(asked))?;
     remarks_below(alloc, linted.remarks, lines, source_lines)
 }
 
@@ -143,17 +160,17 @@ fn remarks_after(
 /// the parts after it.
 fn lint_after(
     alloc: Global,
-    bounds: Bounds,
+    asked: LintRequest,
     source: &[u8],
     component: &Component,
     parts: &[&[u8]],
 ) -> Result<Answer, AllocError>
     ensures { IfOk result
-        (IsLintedAfter bounds source.now (texts parts.now) component.now) }
+        (IsLintedAfter asked source.now (texts parts.now) component.now) }
 {
     let lines = lines_of(alloc, source)?;
     let warnings = warnings_of(alloc, source)?;
-    let remarks = remarks_after(alloc, bounds, component, lines.len(), parts)?;
+    let remarks = remarks_after(alloc, asked, component, lines.len(), parts)?;
     let mut text = String::new(alloc);
     write_messages(alloc, &mut text, &warnings, &lines)?;
     write_remarks(&mut text, &remarks)?;
@@ -166,24 +183,24 @@ fn lint_after(
 /// What there is to say of a source, and of the parts after it.
 fn lint_source(
     alloc: Global,
-    bounds: Bounds,
+    asked: LintRequest,
     source: &[u8],
     parts: &[&[u8]],
 ) -> Result<Answer, AllocError>
-    ensures { IfOk result (IsSourceLinted bounds source.now (texts parts.now)) }
+    ensures { IfOk result (IsSourceLinted asked source.now (texts parts.now)) }
 {
     match compile_text(alloc, source) {
-        Ok(component) => lint_after(alloc, bounds, source, &component, parts),
+        Ok(component) => lint_after(alloc, asked, source, &component, parts),
         Err(Fault::At(_, _)) => answer_faults(alloc, source),
         Err(Fault::Memory) => Err(AllocError),
     }
 }
 
 /// What there is to say of a bundle whose component is none of a source.
-fn lint_component(alloc: Global, bounds: Bounds, bundle: &[u8]) -> Result<Answer, AllocError>
-    ensures { IfOk result (IsLinted bounds bundle.now) }
+fn lint_component(alloc: Global, asked: LintRequest, bundle: &[u8]) -> Result<Answer, AllocError>
+    ensures { IfOk result (IsLinted asked bundle.now) }
 {
-    let linted = lint(alloc, &Words, bundle, bounds.serial())?;
+    let linted = lint(alloc, &Words, bundle, options_of(asked))?;
     Ok(Answer {
         text: linted.text,
         status: if linted.faults { 2 } else { 0 },
@@ -193,18 +210,18 @@ fn lint_component(alloc: Global, bounds: Bounds, bundle: &[u8]) -> Result<Answer
 /// `lineup lint`: what there is to say of a bundle.
 pub(crate) fn answer_lint(
     alloc: Global,
-    bounds: Bounds,
+    asked: LintRequest,
     bundle: &[u8],
 ) -> Result<Answer, AllocError>
-    ensures { IfOk result (IsLint bounds bundle.now) }
+    ensures { IfOk result (IsLint asked bundle.now) }
 {
     let parts = bundle_parts(alloc, bundle)?;
     match parts.split_first() {
-        None => lint_component(alloc, bounds, bundle),
+        None => lint_component(alloc, asked, bundle),
         Some((first, rest)) => if is_source(alloc, first)? {
-            lint_source(alloc, bounds, first, rest)
+            lint_source(alloc, asked, first, rest)
         } else {
-            lint_component(alloc, bounds, bundle)
+            lint_component(alloc, asked, bundle)
         },
     }
 }

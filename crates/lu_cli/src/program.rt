@@ -1,7 +1,7 @@
 //! The whole program over a reader and a writer.
 
 ghost use Rattle.std.specs.Prelude.{◌≡◌, ◌≢◌, ◌<◌, ◌≤◌, ◌-◌, ◌^◌, ◌⊎◌, length, Some, None, IfOk, IsErrOf};
-ghost use Rattle.lu_cli.specs.declared.request.Request.TheVariants.{Bundle, Help, Lint};
+ghost use Rattle.lu_cli.specs.declared.request.Request.TheVariants.{Bundle, BundleWithSource, Commands, Lint};
 ghost use Rattle.lu_cli.specs.declared.program.Failure.TheVariants.{Memory};
 ghost use Rattle.lu_cli.specs.Args.{request_said};
 ghost use Rattle.lu_cli.specs.Counted.{IsUnfailed};
@@ -18,9 +18,9 @@ use crate::input::{InputFault, MOST_BYTES, read_input};
 use crate::lint::answer_lint;
 use crate::output::write_text;
 use crate::refusal::or_refusal;
-use crate::request::{ArgsFault, BundleCommand, Request};
+use crate::request::{ArgsFault, BundleCommand, LintRequest, Request};
+use crate::sources::{carry_out_with_source, carry_out_with_source_alone};
 use lu_certify::{Progress, Silent};
-use lu_report::Bounds;
 use lu_text::bundle_parts;
 use std::alloc::{AllocError, Global};
 use std::convert::AsStr;
@@ -57,11 +57,15 @@ fn answer_bundle<X: AllocGlobal + Threads + Wait, P: Progress>(
     ensures { IfOk result (IsAnswerToInput request bundle.now) }
 {
     match request {
-        Request::Help => answer_help(rt.alloc()),
-        Request::Lint(bounds) => answer_lint(rt.alloc(), bounds, bundle),
+        Request::Commands => answer_help(rt.alloc()),
+        Request::Lint(asked) => answer_lint(rt.alloc(), asked, bundle),
         Request::Bundle(command) => {
             let parts = bundle_parts(rt.alloc(), bundle)?;
             or_refusal(rt.alloc(), carry_out(rt, progress, command, &parts))
+        }
+        Request::BundleWithSource(command) => {
+            let carried = carry_out_with_source(rt, progress, command, bundle);
+            or_refusal(rt.alloc(), carried)
         }
     }
 }
@@ -74,7 +78,7 @@ fn answer_read<X: AllocGlobal + Threads + Wait, P: Progress, R: Read>(
     input: &mut Counted<R>,
 ) -> Result<Answer, Failure>
     requires calls { input.old.failures < 2 ^ 64 - 1 }
-    requires reads { request ≢ Help }
+    requires reads { request ≢ Commands }
     ensures answer { IfOk result (IsAnswerToRead request (R.remaining input.old.inner)) }
     ensures device { IsErrOf result Failure.Device → input.old.failures < input.new.failures }
     ensures unfailed { IsErrOf result Failure.Device ⊎ IsUnfailed input.old input.new }
@@ -87,7 +91,8 @@ fn answer_read<X: AllocGlobal + Threads + Wait, P: Progress, R: Read>(
     }
 }
 
-/// The answer to what is asked for, and to what is read for it: for the help nothing is read.
+/// The answer to what is asked for, and to what is read for it. For the list of commands nothing is
+/// read.
 fn answer_in<X: AllocGlobal + Threads + Wait, P: Progress, R: Read>(
     rt: &X,
     progress: &P,
@@ -96,13 +101,15 @@ fn answer_in<X: AllocGlobal + Threads + Wait, P: Progress, R: Read>(
 ) -> Result<Answer, Failure>
     requires { input.old.failures < 2 ^ 64 - 1 }
     ensures answer { IfOk result (IsAnswerToRead request (R.remaining input.old.inner)) }
-    ensures idle { request ≡ Help → input.new ≡ input.old }
+    ensures idle { request ≡ Commands → input.new ≡ input.old }
     ensures device { IsErrOf result Failure.Device → input.old.failures < input.new.failures }
     ensures unfailed { IsErrOf result Failure.Device ⊎ IsUnfailed input.old input.new }
 {
     match request {
-        Request::Help => Ok(answer_help(rt.alloc())?),
-        Request::Lint(_) | Request::Bundle(_) => answer_read(rt, progress, request, input),
+        Request::Commands => Ok(answer_help(rt.alloc())?),
+        Request::Lint(_) | Request::Bundle(_) | Request::BundleWithSource(_) => answer_read(
+            rt, progress, request, input,
+        ),
     }
 }
 
@@ -118,7 +125,7 @@ fn answer_for<X: AllocGlobal + Threads + Wait, P: Progress, S: AsStr, R: Read>(
     ensures refused { IfOk result (λ r.
         request_said S.text words.now ≡ None → r ≡ no_command) }
     ensures early { request_said S.text words.now ≡ None → input.new ≡ input.old }
-    ensures idle { request_said S.text words.now ≡ Some Help → input.new ≡ input.old }
+    ensures idle { request_said S.text words.now ≡ Some Commands → input.new ≡ input.old }
     ensures device { IsErrOf result Failure.Device → input.old.failures < input.new.failures }
     ensures unfailed { IsErrOf result Failure.Device ⊎ IsUnfailed input.old input.new }
 {
@@ -158,8 +165,8 @@ pub fn run_with_progress<X: AllocGlobal + Threads + Wait, P: Progress, S: AsStr,
     ensures refused { SaysNoCommand S.text words.now W.contents output result }
     // The command line is judged before anything is read.
     ensures early { request_said S.text words.now ≡ None → input.new ≡ input.old }
-    // For the help nothing is read.
-    ensures idle { request_said S.text words.now ≡ Some Help → input.new ≡ input.old }
+    // For the list of commands nothing is read.
+    ensures idle { request_said S.text words.now ≡ Some Commands → input.new ≡ input.old }
     // A write that failed shows in the status.
     ensures unwritten { output.old.failures < output.new.failures → result ≡ 4 }
     // A read that failed is reported.
@@ -186,7 +193,7 @@ pub fn run<X: AllocGlobal + Threads + Wait, S: AsStr, R: Read, W: Write>(
     ensures answer { SaysAnswer S.text words.now R.remaining input W.contents output result }
     ensures refused { SaysNoCommand S.text words.now W.contents output result }
     ensures early { request_said S.text words.now ≡ None → input.new ≡ input.old }
-    ensures idle { request_said S.text words.now ≡ Some Help → input.new ≡ input.old }
+    ensures idle { request_said S.text words.now ≡ Some Commands → input.new ≡ input.old }
     ensures unwritten { output.old.failures < output.new.failures → result ≡ 4 }
     ensures unread { TellsUnread W.contents input output result }
     ensures blamed { TellsElse W.contents input output result }
@@ -209,13 +216,13 @@ fn say<W: Write>(output: &mut Counted<W>, text: &str, status: u8) -> u8
 }
 
 /// What `lint` answers to a bundle.
-fn lint_alone(alloc: Global, bounds: Bounds, bundle: &[u8]) -> Result<Answer, AllocError>
-    ensures { IfOk result (IsAnswerToInput (Lint bounds) bundle.now) }
+fn lint_alone(alloc: Global, asked: LintRequest, bundle: &[u8]) -> Result<Answer, AllocError>
+    ensures { IfOk result (IsAnswerToInput (Lint asked) bundle.now) }
 {
     if bundle.len() > MOST_BYTES {
         refused(alloc, "B2")
     } else {
-        answer_lint(alloc, bounds, bundle)
+        answer_lint(alloc, asked, bundle)
     }
 }
 
@@ -230,6 +237,16 @@ fn command_alone(alloc: Global, command: BundleCommand, bundle: &[u8]) -> Result
     or_refusal(alloc, carry_out_alone(alloc, command, &parts))
 }
 
+/// The answer to a command and a bundle that may begin with a source.
+fn source_alone(alloc: Global, command: BundleCommand, bundle: &[u8]) -> Result<Answer, AllocError>
+    ensures { IfOk result (IsAnswerToInput (BundleWithSource command) bundle.now) }
+{
+    if bundle.len() > MOST_BYTES {
+        return refused(alloc, "B2");
+    }
+    or_refusal(alloc, carry_out_with_source_alone(alloc, command, bundle))
+}
+
 /// The answer to what is asked for and a bundle. All is done on the calling thread.
 ///
 /// # Errors
@@ -239,9 +256,10 @@ pub fn answer_request(alloc: Global, request: Request, bundle: &[u8]) -> Result<
     ensures { IfOk result (IsAnswerToInput request bundle.now) }
 {
     match request {
-        Request::Help => answer_help(alloc),
-        Request::Lint(bounds) => lint_alone(alloc, bounds, bundle),
+        Request::Commands => answer_help(alloc),
+        Request::Lint(asked) => lint_alone(alloc, asked, bundle),
         Request::Bundle(command) => command_alone(alloc, command, bundle),
+        Request::BundleWithSource(command) => source_alone(alloc, command, bundle),
     }
 }
 

@@ -2,6 +2,7 @@
 
 use lu_parallel::Options;
 use lu_report::Bounds;
+use lu_spec::Marks;
 
 /// Which threads the matrices of a campaign have, and what each takes its calls from.
 #[derive(Clone, Copy, Debug, PartialEq, Eq)]
@@ -67,6 +68,16 @@ pub struct CertifyOptions {
     pub nodes: u32,
 }
 
+/// What is asked of `lineup lint`.
+#[derive(Clone, Copy, Debug, PartialEq, Eq)]
+pub struct LintRequest {
+    /// The bound on serial runs. The bound on schedules is not used.
+    pub bounds: Bounds,
+
+    /// Whether the entries of a specification may have marks.
+    pub marks: Marks,
+}
+
 /// Where a trace begins.
 #[derive(Clone, Copy, Debug, PartialEq, Eq)]
 pub enum TraceStart {
@@ -90,14 +101,18 @@ pub enum Showing {
 /// What the words of a command line ask for.
 #[derive(Clone, Copy, Debug, PartialEq, Eq)]
 pub enum Request {
-    /// `lineup help`: say what the commands and their options are. No bundle is read.
-    Help,
+    /// `lineup commands`: list the commands and their options. No bundle is read.
+    Commands,
 
-    /// `lineup lint`: say every fault of a bundle in words. The bound of schedules is not used.
-    Lint(Bounds),
+    /// `lineup lint`: report every fault of a bundle in words.
+    Lint(LintRequest),
 
     /// A command over the parts of a bundle.
     Bundle(BundleCommand),
+
+    /// A command, with `--source`: where the bundle begins with a source, over the bundle with the
+    /// source's component in its place.
+    BundleWithSource(BundleCommand),
 }
 
 /// A command over the parts of a bundle, with its options.
@@ -122,17 +137,17 @@ pub enum BundleCommand {
     Explain(Bounds),
 
     /// `lineup explain --spec`: the same by a specification.
-    ExplainAgainst,
+    ExplainAgainst(Marks),
 
     /// `lineup serial`: show the serial histories of a component and a matrix.
     Serial(Bounds),
 
-    /// `lineup judge`: judge recorded histories by the serial histories of a component and a
+    /// `lineup witness`: judge recorded histories by the serial histories of a component and a
     /// matrix. The bound of schedules is used for the line of a report alone.
-    Judge(Bounds),
+    Witness(Bounds),
 
-    /// `lineup judge --spec`: judge recorded histories by a specification.
-    JudgeAgainst,
+    /// `lineup witness --spec`: judge recorded histories by a specification.
+    WitnessAgainst(Marks),
 
     /// `lineup conform`: ask of recorded histories whether some schedule of a component shows them.
     Conform(Showing),
@@ -145,7 +160,7 @@ pub enum BundleCommand {
 
     /// `lineup check --spec`: report the first fault of a component and a matrix against a
     /// specification.
-    CheckAgainst(Options),
+    CheckAgainst(Options, Marks),
 
     /// `lineup certify`: decide whether a component is linearizable on a matrix.
     Certify(CertifyOptions),

@@ -51,13 +51,13 @@ pub struct OptionRow {
 static COMMANDS: [CommandRow; 16] = [
     CommandRow {
         name: "compile",
-        parts: "source [any parts]",
-        words: "the component in the place of its source",
+        parts: "source [more parts]",
+        words: "the component that a source compiles to, in its place",
     },
     CommandRow {
         name: "lint",
         parts: "component [matrix [more parts]]",
-        words: "every fault, in words, and warnings",
+        words: "all faults and warnings, in words",
     },
     CommandRow {
         name: "serial",
@@ -67,22 +67,22 @@ static COMMANDS: [CommandRow; 16] = [
     CommandRow {
         name: "check",
         parts: "component, matrix",
-        words: "the report: pass, or the first fault",
+        words: "the report: pass, or the first fault within the bound",
     },
     CommandRow {
         name: "certify",
         parts: "component, matrix",
-        words: "linearizable or not, for schedules of any length",
+        words: "whether it is linearizable, for schedules of any length",
     },
     CommandRow {
-        name: "judge",
+        name: "witness",
         parts: "component, matrix, histories",
-        words: "whether recorded histories have their witnesses",
+        words: "whether recorded histories have serial witnesses",
     },
     CommandRow {
         name: "conform",
         parts: "component, matrix, histories",
-        words: "whether the component shows recorded histories",
+        words: "whether the component can produce recorded histories",
     },
     CommandRow {
         name: "explain",
@@ -97,12 +97,12 @@ static COMMANDS: [CommandRow; 16] = [
     CommandRow {
         name: "trace",
         parts: "component, matrix, report",
-        words: "what each move does",
+        words: "what each move of the schedule does",
     },
     CommandRow {
         name: "replay",
         parts: "component, matrix, schedule",
-        words: "its calls and returns",
+        words: "the history of a schedule",
     },
     CommandRow {
         name: "shrink",
@@ -112,26 +112,26 @@ static COMMANDS: [CommandRow; 16] = [
     CommandRow {
         name: "campaign",
         parts: "component, matrix",
-        words: "all small matrices over some calls",
+        words: "checks all small matrices over some calls",
     },
     CommandRow {
         name: "spec",
         parts: "component, matrix, specification",
-        words: "a specification in its one spelling",
+        words: "a specification in its canonical form",
     },
     CommandRow {
         name: "refute",
         parts: ".., report, specification",
-        words: "where a failing component does not meet it",
+        words: "a schedule that violates the specification",
     },
     CommandRow {
-        name: "help",
+        name: "commands",
         parts: "",
         words: "this text",
     },
 ];
 
-static OPTIONS: [OptionRow; 24] = [
+static OPTIONS: [OptionRow; 27] = [
     OptionRow {
         name: "bound",
         letter: "N",
@@ -140,8 +140,8 @@ static OPTIONS: [OptionRow; 24] = [
             most: 256,
         },
         default: Some("40"),
-        words: "the most moves of a schedule",
-        commands: &["serial", "check", "judge", "shrink"],
+        words: "maximum number of moves in a schedule",
+        commands: &["serial", "check", "witness", "shrink"],
     },
     OptionRow {
         name: "bound",
@@ -151,7 +151,7 @@ static OPTIONS: [OptionRow; 24] = [
             most: 256,
         },
         default: Some("256"),
-        words: "the most moves of a schedule",
+        words: "maximum number of moves in a schedule",
         commands: &["certify"],
     },
     OptionRow {
@@ -162,7 +162,7 @@ static OPTIONS: [OptionRow; 24] = [
             most: 256,
         },
         default: None,
-        words: "the most moves of a schedule, 40 without it and 256 with --certify",
+        words: "maximum number of moves in a schedule (40, or 256 with --certify)",
         commands: &["campaign"],
     },
     OptionRow {
@@ -173,9 +173,9 @@ static OPTIONS: [OptionRow; 24] = [
             most: 256,
         },
         default: Some("40"),
-        words: "the most moves of an operation that runs alone",
+        words: "maximum number of moves of an operation that runs alone",
         commands: &[
-            "lint", "serial", "check", "judge", "explain", "draw", "shrink",
+            "lint", "serial", "check", "witness", "explain", "draw", "shrink",
         ],
     },
     OptionRow {
@@ -186,7 +186,7 @@ static OPTIONS: [OptionRow; 24] = [
             most: 256,
         },
         default: Some("256"),
-        words: "the most moves of an operation that runs alone",
+        words: "maximum number of moves of an operation that runs alone",
         commands: &["certify"],
     },
     OptionRow {
@@ -197,7 +197,7 @@ static OPTIONS: [OptionRow; 24] = [
             most: 256,
         },
         default: None,
-        words: "the most moves of an operation that runs alone, 40 without it and 256 with --certify",
+        words: "maximum number of moves of an operation that runs alone (40, or 256 with --certify)",
         commands: &["campaign"],
     },
     OptionRow {
@@ -205,7 +205,7 @@ static OPTIONS: [OptionRow; 24] = [
         letter: "W",
         kind: Kind::Number { least: 1, most: 16 },
         default: Some("1"),
-        words: "threads that search",
+        words: "number of worker threads",
         commands: &["check", "certify"],
     },
     OptionRow {
@@ -213,7 +213,7 @@ static OPTIONS: [OptionRow; 24] = [
         letter: "D",
         kind: Kind::Number { least: 0, most: 8 },
         default: None,
-        words: "the most moves of the pieces that they share; without it one alone first, then 4",
+        words: "moves in each piece of work; by default one worker starts alone, and then 4",
         commands: &["check", "certify"],
     },
     OptionRow {
@@ -221,7 +221,7 @@ static OPTIONS: [OptionRow; 24] = [
         letter: "L",
         kind: Kind::Number { least: 0, most: 16 },
         default: Some("0"),
-        words: "local instructions that run with a move, where the component says fewer",
+        words: "minimum number of local instructions that run with a move",
         commands: &["certify"],
     },
     OptionRow {
@@ -232,31 +232,50 @@ static OPTIONS: [OptionRow; 24] = [
             most: 4_294_967_295,
         },
         default: Some("8388608"),
-        words: "the most nodes of a cut that are kept",
+        words: "maximum number of nodes in the graph of a cut",
         commands: &["certify"],
     },
     OptionRow {
-        name: "spec",
+        name: "source",
         letter: "",
         kind: Kind::Flag,
         default: None,
-        words: "by a specification, the third part",
-        commands: &["check", "judge"],
+        words: "the component may be a source",
+        commands: &[
+            "serial", "check", "certify", "witness", "conform", "replay", "shrink", "campaign",
+            "spec", "refute",
+        ],
     },
     OptionRow {
         name: "spec",
         letter: "",
         kind: Kind::Flag,
         default: None,
-        words: "by a specification, the fourth part",
+        words: "judge by a specification, the third part",
+        commands: &["check", "witness"],
+    },
+    OptionRow {
+        name: "spec",
+        letter: "",
+        kind: Kind::Flag,
+        default: None,
+        words: "judge by a specification, the fourth part",
         commands: &["explain"],
+    },
+    OptionRow {
+        name: "marks",
+        letter: "",
+        kind: Kind::Flag,
+        default: None,
+        words: "entries of a specification may have the mark `?`",
+        commands: &["lint", "check", "witness", "explain"],
     },
     OptionRow {
         name: "show",
         letter: "",
         kind: Kind::Flag,
         default: None,
-        words: "a schedule of each history too",
+        words: "print a schedule for each history",
         commands: &["conform"],
     },
     OptionRow {
@@ -264,7 +283,7 @@ static OPTIONS: [OptionRow; 24] = [
         letter: "",
         kind: Kind::Flag,
         default: None,
-        words: "with the explanation",
+        words: "mark what explains the failure",
         commands: &["draw"],
     },
     OptionRow {
@@ -272,7 +291,7 @@ static OPTIONS: [OptionRow; 24] = [
         letter: "",
         kind: Kind::Flag,
         default: None,
-        words: "from the setup on",
+        words: "start with the setup",
         commands: &["trace"],
     },
     OptionRow {
@@ -280,7 +299,7 @@ static OPTIONS: [OptionRow; 24] = [
         letter: "T",
         kind: Kind::Number { least: 1, most: 8 },
         default: None,
-        words: "threads of each matrix, 2 without it",
+        words: "number of threads in each matrix (2)",
         commands: &["campaign"],
     },
     OptionRow {
@@ -288,7 +307,7 @@ static OPTIONS: [OptionRow; 24] = [
         letter: "C",
         kind: Kind::Number { least: 1, most: 8 },
         default: Some("1"),
-        words: "calls of each thread",
+        words: "number of calls of each thread",
         commands: &["campaign"],
     },
     OptionRow {
@@ -304,7 +323,7 @@ static OPTIONS: [OptionRow; 24] = [
         letter: "I",
         kind: Kind::Long,
         default: Some("0"),
-        words: "the first matrix, counted from 0",
+        words: "number of the first matrix",
         commands: &["campaign"],
     },
     OptionRow {
@@ -312,7 +331,7 @@ static OPTIONS: [OptionRow; 24] = [
         letter: "J",
         kind: Kind::Long,
         default: Some("18446744073709551615"),
-        words: "the end of the matrices",
+        words: "number after the last matrix",
         commands: &["campaign"],
     },
     OptionRow {
@@ -320,7 +339,7 @@ static OPTIONS: [OptionRow; 24] = [
         letter: "",
         kind: Kind::Flag,
         default: None,
-        words: "how many matrices there are",
+        words: "print only the number of matrices",
         commands: &["campaign"],
     },
     OptionRow {
@@ -328,7 +347,7 @@ static OPTIONS: [OptionRow; 24] = [
         letter: "",
         kind: Kind::Flag,
         default: None,
-        words: "certifies each matrix",
+        words: "certify each matrix",
         commands: &["campaign"],
     },
     OptionRow {
@@ -336,7 +355,7 @@ static OPTIONS: [OptionRow; 24] = [
         letter: "",
         kind: Kind::Flag,
         default: None,
-        words: "goes on after one that is not linearizable; with --certify",
+        words: "continue after a matrix that is not linearizable; with --certify",
         commands: &["campaign"],
     },
     OptionRow {
@@ -344,12 +363,23 @@ static OPTIONS: [OptionRow; 24] = [
         letter: "",
         kind: Kind::Flag,
         default: None,
-        words: "holds it against a component that is trusted, the third part",
+        words: "compare with a trusted component, the third part",
         commands: &["campaign"],
+    },
+    OptionRow {
+        name: "hints",
+        letter: "",
+        kind: Kind::Flag,
+        default: None,
+        words: "explain refusals and cut schedules on standard error",
+        commands: &[
+            "compile", "lint", "serial", "check", "certify", "witness", "conform", "explain",
+            "draw", "trace", "replay", "shrink", "campaign", "spec", "refute", "commands",
+        ],
     },
 ];
 
-/// The commands, in the order of the help.
+/// The commands, in the order in which they are printed.
 pub fn commands() -> &'static [CommandRow]
     ensures { commands_said result.now ≡ spec.commands }
 {

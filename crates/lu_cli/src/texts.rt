@@ -4,13 +4,14 @@ ghost use Rattle.std.specs.Prelude.{◌≡◌, IfErr, IfOk};
 ghost use Rattle.lu_text.specs.declared.fault.Fault.TheVariants.{Memory};
 ghost use Rattle.lu_test.specs.Matrix.{IsOf};
 ghost use Rattle.lu_machine.specs.Starts.{CanRun, IsFirstUnsettled};
+ghost use Rattle.lu_spec.specs.declared.given.Marks.TheVariants.{Refused};
 ghost use Rattle.lu_cli.specs.Texts.{AreSettled, IsFaultOfSpec, IsCheckFault, IsCheckAgainstFault, IsFaultOfMatrix, IsFaultOfTexts, IsReportTextAgainst, IsReportText, IsReportAgainstText, IsSettledMatrix};
 
 use lu_lang::{Component, LangFault, read_component};
 use lu_machine::settles;
 use lu_parallel::{CheckFault, OpenGate, Options, check, check_against};
 use lu_report::{Report, write_report};
-use lu_spec::{SpecFault, read_given_spec};
+use lu_spec::{Marks, SpecFault, read_given_spec};
 use lu_test::{Matrix, MatrixFault, read_matrix};
 use std::alloc::{AllocError, Global};
 use std::sync::Wait;
@@ -182,10 +183,10 @@ fn report_against<X: Threads + Wait>(
     options: Options,
 ) -> Result<Report, Fault>
     requires { CanRun component.now matrix.now }
-    ensures report { IfOk result (IsReportAgainstText component.now matrix.now spec.now options) }
-    ensures fault { IfErr result (IsFaultOfSpec component.now matrix.now spec.now options) }
+    ensures report { IfOk result (IsReportAgainstText component.now matrix.now Refused spec.now options) }
+    ensures fault { IfErr result (IsFaultOfSpec component.now matrix.now Refused spec.now options) }
 {
-    let specification = read_given_spec(alloc, matrix, spec)?;
+    let specification = read_given_spec(alloc, matrix, spec, Marks::Refused)?;
     let tree = specification.tree();
     let report = check_against(rt, alloc, &OpenGate, component, matrix, &tree, options)?;
     Ok(report)

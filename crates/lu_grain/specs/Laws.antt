@@ -20,7 +20,8 @@ use Rattle.lu_replay.specs.Reports.{IsReport}
 use Rattle.lu_spec.specs.Beginnings.{Has}
 use Rattle.lu_refute.specs.Answers.{IsFailure}
 use Rattle.lu_refute.specs.Laws.{IsDeterministicOf}
-use Rattle.lu_refute.specs.Linearizable.{IsCutOf, IsLinearizable}
+use Rattle.lu_serial.specs.Cuts.{IsCutOf}
+use Rattle.lu_refute.specs.Linearizable.{IsLinearizable}
 use Rattle.lu_certify.specs.declared.certificate.Certificate.{Certificate}
 use Rattle.lu_certify.specs.declared.certificate.Certificate.TheVariants.{Linearizable, Livelock, NotLinearizable, Undecided}
 use Rattle.lu_certify.specs.declared.limits.Limits.{Limits}

@@ -8,6 +8,7 @@ use Rattle.lu_text.proofs.Reading.{text_more, texts_end}
 use Rattle.lu_test.specs.Matrix.{Matrix}
 use Rattle.lu_recorded.specs.RecordedText.{recorded_grammar}
 use denote.Ref.{Bor}
+use Rattle.lu_spec.specs.declared.given.Marks.{Marks}
 use Rattle.lu_lint.specs.declared.remark.Said.{Said}
 use Rattle.lu_lint.specs.declared.part_kind.PartKind.{PartKind}
 use Rattle.lu_lint.specs.Said.{SaysFurther, above_next}
@@ -47,21 +48,21 @@ ends matrix above parts i before total past so_far = sym (append-nil before) ∙
 -- ---- a third and a fourth part
 
 -- a fourth part, and what stands after it
-pub of_fourth : (matrix : Option Matrix) (above below : ℕ) (parts others : List (Bor (List ℕ))) (text : Bor (List ℕ)) (all one two : List Said) → parts ≡ text ∷ others → below ≡ above_next above text.now
-    → SaysFurther (SaidOfSome matrix above text.now) all one → two ≡ one ++ fifth_said below (texts others) → SaysFurther (FourthSaid matrix above (texts parts)) all two
-of_fourth matrix above below parts others text all one two split next h more =
+pub of_fourth : (marks : Marks) (matrix : Option Matrix) (above below : ℕ) (parts others : List (Bor (List ℕ))) (text : Bor (List ℕ)) (all one two : List Said) → parts ≡ text ∷ others → below ≡ above_next above text.now
+    → SaysFurther (SaidOfSome marks matrix above text.now) all one → two ≡ one ++ fifth_said below (texts others) → SaysFurther (FourthSaid marks matrix above (texts parts)) all two
+of_fourth marks matrix above below parts others text all one two split next h more =
     let first = h.0 in
     let fifth = fifth_said (above_next above text.now) (texts others) in
-    let P : List (Bor (List ℕ)) → Type 0 = λ x. SaysFurther (FourthSaid matrix above (texts x)) all two in
+    let P : List (Bor (List ℕ)) → Type 0 = λ x. SaysFurther (FourthSaid marks matrix above (texts x)) all two in
     subst P (sym split) (first ++ fifth, (first, h.1, refl), more ∙ (ap (λ (n : ℕ). one ++ fifth_said n (texts others)) next ∙ (ap (λ (x : List Said). x ++ fifth) h.2 ∙ append_assoc all first fifth)))
 
 -- a third part, and the parts after it
-pub of_third : (matrix : Option Matrix) (kind : PartKind) (above below : ℕ) (parts others : List (Bor (List ℕ))) (text : Bor (List ℕ)) (all one two : List Said) → parts ≡ text ∷ others → kind ≡ kind_of text.now → below ≡ above_next above text.now
-    → SaysFurther (PartSaid kind matrix above text.now) all one → SaysFurther (AfterThird kind matrix below (texts others)) one two → SaysFurther (AfterMatrix matrix above (texts parts)) all two
-of_third matrix kind above below parts others text all one two split is next h g =
+pub of_third : (marks : Marks) (matrix : Option Matrix) (kind : PartKind) (above below : ℕ) (parts others : List (Bor (List ℕ))) (text : Bor (List ℕ)) (all one two : List Said) → parts ≡ text ∷ others → kind ≡ kind_of text.now → below ≡ above_next above text.now
+    → SaysFurther (PartSaid marks kind matrix above text.now) all one → SaysFurther (AfterThird marks kind matrix below (texts others)) one two → SaysFurther (AfterMatrix marks matrix above (texts parts)) all two
+of_third marks matrix kind above below parts others text all one two split is next h g =
     let first = h.0 in
     let behind = g.0 in
-    let P : List (Bor (List ℕ)) → Type 0 = λ x. SaysFurther (AfterMatrix matrix above (texts x)) all two in
-    let Q : PartKind → Type 0 = λ k. FromThird k matrix above text.now (texts others) (first ++ behind) in
-    let from : Q kind = (first, h.1, (behind, subst (λ (n : ℕ). AfterThird kind matrix n (texts others) behind) next g.1, refl)) in
+    let P : List (Bor (List ℕ)) → Type 0 = λ x. SaysFurther (AfterMatrix marks matrix above (texts x)) all two in
+    let Q : PartKind → Type 0 = λ k. FromThird marks k matrix above text.now (texts others) (first ++ behind) in
+    let from : Q kind = (first, h.1, (behind, subst (λ (n : ℕ). AfterThird marks kind matrix n (texts others) behind) next g.1, refl)) in
     subst P (sym split) (first ++ behind, subst Q is from, g.2 ∙ (ap (λ (x : List Said). x ++ behind) h.2 ∙ append_assoc all first behind))

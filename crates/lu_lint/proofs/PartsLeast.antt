@@ -30,11 +30,13 @@ use Rattle.lu_spec.specs.declared.fault.SpecLineFault.{SpecLineFault}
 use Rattle.lu_spec.specs.EveryFault as specification
 use Rattle.lu_spec.specs.Collecting.{has_begun, listing_from, lists}
 use Rattle.lu_spec.specs.EveryFreeFault as free
-use Rattle.lu_spec.specs.FreeSpecs.{has_free_entries}
+use Rattle.lu_spec.specs.FreeSpecs.{is_marked}
 use Rattle.lu_spec.specs.declared.marked_line.MarkedOp.{MarkedOp}
 use Rattle.lu_spec.proofs.FreeFaultLines.{given_told}
 use Rattle.lu_recorded.specs.declared.fault.RecordedFaultKind.{RecordedFaultKind}
 use Rattle.lu_recorded.specs.RecordedText.{recorded_grammar}
+use Rattle.lu_lint.specs.declared.linting.LintOptions.{LintOptions}
+use Rattle.lu_spec.specs.declared.given.Marks.{Marks}
 use Rattle.lu_lint.specs.declared.remark.Said.{Said}
 use Rattle.lu_lint.specs.declared.remark.FaultKind.{FaultKind}
 use Rattle.lu_lint.specs.declared.remark.FaultKind.TheVariants as part
@@ -154,9 +156,9 @@ runs_are bound (read.Sound c) (Some m) above text said h = subst (AreOf 0) (sym 
 
 -- ---- what is said of the parts after the matrix
 
-specification_are : (m : Option Matrix) (above : ℕ) (text : List ℕ) (said : List Said) → SaidOfSome m above text said → AreOf 5 said
-specification_are None above text said h = of_none 5 said h
-specification_are (Some m) above text said h = subst (AreOf 5) (sym h.2) (All-map (λ s. part_of s.cause ≡ 5) (specification_said above) h.0 (λ k d within. refl))
+specification_are : (marks : Marks) (m : Option Matrix) (above : ℕ) (text : List ℕ) (said : List Said) → SaidOfSome marks m above text said → AreOf 5 said
+specification_are marks None above text said h = of_none 5 said h
+specification_are marks (Some m) above text said h = subst (AreOf 5) (sym h.2) (All-map (λ s. part_of s.cause ≡ 5) (specification_said above) h.0 (λ k d within. refl))
 
 report_are : (above : ℕ) (text : List ℕ) (said : List Said) → ReportSaid above text said → AreOf 4 said
 report_are above text said h = subst (AreOf 4) (sym h.2) (All-map (λ s. part_of s.cause ≡ 4) (report_said above) h.0 (λ k d within. refl))
@@ -178,34 +180,34 @@ histories_of_are None above texts = All-nil (λ s. part_of s.cause ≡ 6)
 histories_of_are (Some m) above texts = histories_are m above texts
 
 -- what is said of a third part
-third_not : (p : ℕ) → p < 3 → (third : PartKind) (m : Option Matrix) (above : ℕ) (text : List ℕ) (said : List Said) → PartSaid third m above text said → AreNot p said
-third_not p low Specification m above text said h = not_other p 5 said (λ e. omega arith) (specification_are m above text said h)
-third_not p low Report m above text said h = not_other p 4 said (λ e. omega arith) (report_are above text said h)
-third_not p low History m above text said h = not_other p 6 said (λ e. omega arith) (subst (AreOf 6) (sym h) (histories_of_are m above (text ∷ [])))
-third_not p low Schedule m above text said h = not_other p 3 said (λ e. omega arith) (schedule_are above text said h)
+third_not : (marks : Marks) (p : ℕ) → p < 3 → (third : PartKind) (m : Option Matrix) (above : ℕ) (text : List ℕ) (said : List Said) → PartSaid marks third m above text said → AreNot p said
+third_not marks p low Specification m above text said h = not_other p 5 said (λ e. omega arith) (specification_are marks m above text said h)
+third_not marks p low Report m above text said h = not_other p 4 said (λ e. omega arith) (report_are above text said h)
+third_not marks p low History m above text said h = not_other p 6 said (λ e. omega arith) (subst (AreOf 6) (sym h) (histories_of_are m above (text ∷ [])))
+third_not marks p low Schedule m above text said h = not_other p 3 said (λ e. omega arith) (schedule_are above text said h)
 
 fifth_are : (above : ℕ) (texts : List (List ℕ)) → AreOf 0 (fifth_said above texts)
 fifth_are above [] = All-nil (λ s. part_of s.cause ≡ 0)
 fifth_are above (text ∷ texts) = All-cons (λ s. part_of s.cause ≡ 0) (record { line = above; cause = FifthPart }) [] refl (All-nil (λ s. part_of s.cause ≡ 0))
 
 -- of the parts after a schedule or a report only a specification's faults
-fourth_not : (p : ℕ) → (5 ≡ p → ⊥) → (0 ≡ p → ⊥) → (m : Option Matrix) (above : ℕ) (texts : List (List ℕ)) (said : List Said) → FourthSaid m above texts said → AreNot p said
-fourth_not p five zero m above [] said h = not_none p said h
-fourth_not p five zero m above (text ∷ texts) said h =
-    subst (AreNot p) (sym h.2) (not_both p h.0 (fifth_said (above_next above text) texts) (not_other p 5 h.0 five (specification_are m above text h.0 h.1)) (not_other p 0 _ zero (fifth_are (above_next above text) texts)))
+fourth_not : (marks : Marks) (p : ℕ) → (5 ≡ p → ⊥) → (0 ≡ p → ⊥) → (m : Option Matrix) (above : ℕ) (texts : List (List ℕ)) (said : List Said) → FourthSaid marks m above texts said → AreNot p said
+fourth_not marks p five zero m above [] said h = not_none p said h
+fourth_not marks p five zero m above (text ∷ texts) said h =
+    subst (AreNot p) (sym h.2) (not_both p h.0 (fifth_said (above_next above text) texts) (not_other p 5 h.0 five (specification_are marks m above text h.0 h.1)) (not_other p 0 _ zero (fifth_are (above_next above text) texts)))
 
 -- of those after a third part
-after_third_not : (p : ℕ) → (5 ≡ p → ⊥) → (0 ≡ p → ⊥) → (6 ≡ p → ⊥) → (third : PartKind) (m : Option Matrix) (above : ℕ) (texts : List (List ℕ)) (said : List Said) → AfterThird third m above texts said → AreNot p said
-after_third_not p five zero six Specification m above texts said h = not_other p 6 said six (subst (AreOf 6) (sym h) (histories_of_are m above texts))
-after_third_not p five zero six Report m above texts said h = fourth_not p five zero m above texts said h
-after_third_not p five zero six History m above texts said h = not_other p 6 said six (subst (AreOf 6) (sym h) (histories_of_are m above texts))
-after_third_not p five zero six Schedule m above texts said h = fourth_not p five zero m above texts said h
+after_third_not : (marks : Marks) (p : ℕ) → (5 ≡ p → ⊥) → (0 ≡ p → ⊥) → (6 ≡ p → ⊥) → (third : PartKind) (m : Option Matrix) (above : ℕ) (texts : List (List ℕ)) (said : List Said) → AfterThird marks third m above texts said → AreNot p said
+after_third_not marks p five zero six Specification m above texts said h = not_other p 6 said six (subst (AreOf 6) (sym h) (histories_of_are m above texts))
+after_third_not marks p five zero six Report m above texts said h = fourth_not marks p five zero m above texts said h
+after_third_not marks p five zero six History m above texts said h = not_other p 6 said six (subst (AreOf 6) (sym h) (histories_of_are m above texts))
+after_third_not marks p five zero six Schedule m above texts said h = fourth_not marks p five zero m above texts said h
 
 -- of the parts after the matrix no fault of the component or the matrix is said
-further_not : (p : ℕ) → 0 < p → p < 3 → (m : Option Matrix) (above : ℕ) (parts : List (List ℕ)) (said : List Said) → AfterMatrix m above parts said → AreNot p said
-further_not p some low m above [] said h = not_none p said h
-further_not p some low m above (text ∷ texts) said h =
-    subst (AreNot p) (sym h.2.2) (not_both p h.0 h.2.0 (third_not p low (kind_of text) m above text h.0 h.1) (after_third_not p (λ e. omega arith) (λ e. omega arith) (λ e. omega arith) (kind_of text) m (above_next above text) texts h.2.0 h.2.1))
+further_not : (marks : Marks) (p : ℕ) → 0 < p → p < 3 → (m : Option Matrix) (above : ℕ) (parts : List (List ℕ)) (said : List Said) → AfterMatrix marks m above parts said → AreNot p said
+further_not marks p some low m above [] said h = not_none p said h
+further_not marks p some low m above (text ∷ texts) said h =
+    subst (AreNot p) (sym h.2.2) (not_both p h.0 h.2.0 (third_not marks p low (kind_of text) m above text h.0 h.1) (after_third_not marks p (λ e. omega arith) (λ e. omega arith) (λ e. omega arith) (kind_of text) m (above_next above text) texts h.2.0 h.2.1))
 
 -- ---- a specification and a report: their faults rise
 
@@ -240,8 +242,8 @@ free_rises m begun n gathered (line ∷ lines) faults h = go (lists begun (words
     go false later listed = rise_sooner n (n + 1) _ (omega arith) (later gathered faults listed)
     go true later listed = subst (λ (fs : List SpecLineFault). Rise n (map (λ f. f.line) fs)) (sym listed.5) (one listed.0 listed.1 listed.2 listed.3 (later listed.1 listed.2 listed.4))
 
-given_rise : (m : Matrix) (text : List ℕ) (faults : List SpecLineFault) → free.AreGivenFaults m text faults → Rise 1 (map (λ f. f.line) faults)
-given_rise m text faults are = go (has_free_entries text) are
+given_rise : (marks : Marks) (m : Matrix) (text : List ℕ) (faults : List SpecLineFault) → free.AreGivenFaults marks m text faults → Rise 1 (map (λ f. f.line) faults)
+given_rise marks m text faults are = go (is_marked marks text) are
   where
     go : (b : Bool) → MatchBool b (free.AreFreeFaults m text faults) (specification.AreSpecFaults m text faults) → Rise 1 (map (λ f. f.line) faults)
     go true listed = free_rises m false 1 [] (lines_of text) faults listed
@@ -293,10 +295,10 @@ matrix_here c above text =
     readers_said matrix_fault part.Matrix (λ k n. refl) Same above (meaning_of (matrix_grammar c) text) (faults_in (lint_of c) text) (matrix_agrees c text)
     (λ kind n e. all_after (lint_of c) Same (matrix_beside c) [] 1 (lint_of c).grammar.nothing (lines_of text) kind n e)
 
-specification_here : (m : Matrix) (above : ℕ) (text : List ℕ) (said : List Said) → SpecificationSaid m above text said → SpecificationLeast (Some m) text said
-specification_here m above text said h = subst (SpecificationLeast (Some m) text) (sym h.2) (go h.0 (given_told m text h.0 h.1) (given_rise m text h.0 h.1))
+specification_here : (marks : Marks) (m : Matrix) (above : ℕ) (text : List ℕ) (said : List Said) → SpecificationSaid marks m above text said → SpecificationLeast marks (Some m) text said
+specification_here marks m above text said h = subst (SpecificationLeast marks (Some m) text) (sym h.2) (go h.0 (given_told marks m text h.0 h.1) (given_rise marks m text h.0 h.1))
   where
-    go : (faults : List SpecLineFault) → free.IsGivenListedAsRead m text faults → Rise 1 (map (λ f. f.line) faults) → SpecificationLeast (Some m) text (map (specification_said above) faults)
+    go : (faults : List SpecLineFault) → free.IsGivenListedAsRead marks m text faults → Rise 1 (map (λ f. f.line) faults) → SpecificationLeast marks (Some m) text (map (specification_said above) faults)
     go [] listed rise = inl (listed, All-nil (λ s. specification_fault s.cause ≡ None))
     go (first ∷ others) listed rise = inr (first.kind, first.line, listed, least_of_rising (λ (f : SpecLineFault). f.line) (λ (f : SpecLineFault). f.kind) specification_fault part.Specification (λ k n. refl) above 1 first others rise)
 
@@ -341,24 +343,24 @@ module _ {Kind : Type 0} (fault_of : Cause → Option (Kind × ℕ)) (reads : Ty
       (either_right fault_of reads refuses third behind none_third h))))
 
 -- where a matrix is read
-some_here : (m : Option Matrix) (above : ℕ) (text : List ℕ) (said : List Said) → SaidOfSome m above text said → SpecificationLeast m text said
-some_here None above text said h = tt
-some_here (Some m) above text said h = specification_here m above text said h
+some_here : (marks : Marks) (m : Option Matrix) (above : ℕ) (text : List ℕ) (said : List Said) → SaidOfSome marks m above text said → SpecificationLeast marks m text said
+some_here marks None above text said h = tt
+some_here marks (Some m) above text said h = specification_here marks m above text said h
 
-with_fifth : (m : Option Matrix) (text : List ℕ) (said fifth : List Said) → AreOf 0 fifth → SpecificationLeast m text said → SpecificationLeast m text (said ++ fifth)
-with_fifth None text said fifth are h = tt
-with_fifth (Some m) text said fifth are h = either_left specification_fault _ _ said fifth (none_of specification_fault 5 no_specification fifth (not_other 5 0 fifth (λ e. omega arith) are)) h
+with_fifth : (marks : Marks) (m : Option Matrix) (text : List ℕ) (said fifth : List Said) → AreOf 0 fifth → SpecificationLeast marks m text said → SpecificationLeast marks m text (said ++ fifth)
+with_fifth marks None text said fifth are h = tt
+with_fifth marks (Some m) text said fifth are h = either_left specification_fault _ _ said fifth (none_of specification_fault 5 no_specification fifth (not_other 5 0 fifth (λ e. omega arith) are)) h
 
-fourth_here : (m : Option Matrix) (above : ℕ) (text : List ℕ) (texts : List (List ℕ)) (said : List Said) → FourthSaid m above (text ∷ texts) said → SpecificationLeast m text said
-fourth_here m above text texts said h = subst (SpecificationLeast m text) (sym h.2) (with_fifth m text h.0 (fifth_said (above_next above text) texts) (fifth_are (above_next above text) texts) (some_here m above text h.0 h.1))
+fourth_here : (marks : Marks) (m : Option Matrix) (above : ℕ) (text : List ℕ) (texts : List (List ℕ)) (said : List Said) → FourthSaid marks m above (text ∷ texts) said → SpecificationLeast marks m text said
+fourth_here marks m above text texts said h = subst (SpecificationLeast marks m text) (sym h.2) (with_fifth marks m text h.0 (fifth_said (above_next above text) texts) (fifth_are (above_next above text) texts) (some_here marks m above text h.0 h.1))
 
-no_fourth_after_specification : (m : Option Matrix) (texts : List (List ℕ)) (said : List Said) → FourthLeast Specification m texts said
-no_fourth_after_specification m [] said = tt
-no_fourth_after_specification m (text ∷ texts) said = tt
+no_fourth_after_specification : (marks : Marks) (m : Option Matrix) (texts : List (List ℕ)) (said : List Said) → FourthLeast marks Specification m texts said
+no_fourth_after_specification marks m [] said = tt
+no_fourth_after_specification marks m (text ∷ texts) said = tt
 
-no_fourth_after_history : (m : Option Matrix) (texts : List (List ℕ)) (said : List Said) → FourthLeast History m texts said
-no_fourth_after_history m [] said = tt
-no_fourth_after_history m (text ∷ texts) said = tt
+no_fourth_after_history : (marks : Marks) (m : Option Matrix) (texts : List (List ℕ)) (said : List Said) → FourthLeast marks History m texts said
+no_fourth_after_history marks m [] said = tt
+no_fourth_after_history marks m (text ∷ texts) said = tt
 
 abbrev of_schedule : Said → Option ScheduleFault
 of_schedule s = schedule_fault s.cause
@@ -374,17 +376,17 @@ picked_all above [] = refl
 picked_all above (fault ∷ faults) = ap (λ (fs : List ScheduleFault). fault ∷ fs) (picked_all above faults)
 
 module _ (first third behind runs found said : List Said) (parts : found ≡ (first ++ (third ++ behind)) ++ runs) (moved : IsPermutation found said) (stable : IsStableByKey (λ s. s.line) nat_cmp found said) (not_first : (p : ℕ) → 3 ≤ p → AreNot p first) (are_runs : AreOf 0 runs) where
-  specification_third : (m : Option Matrix) (text : List ℕ) → AreNot 5 behind → SpecificationLeast m text third → SpecificationLeast m text said
-  specification_third None text not_after h = tt
-  specification_third (Some m) text not_after h =
+  specification_third : (marks : Marks) (m : Option Matrix) (text : List ℕ) → AreNot 5 behind → SpecificationLeast marks m text third → SpecificationLeast marks m text said
+  specification_third marks None text not_after h = tt
+  specification_third marks (Some m) text not_after h =
       of_third specification_fault _ _ first third behind runs found said parts moved
       (none_of specification_fault 5 no_specification first (not_first 5 (omega arith)))
       (none_of specification_fault 5 no_specification behind not_after)
       (none_of specification_fault 5 no_specification runs (not_other 5 0 runs (λ e. omega arith) are_runs)) h
 
-  specification_fourth : (m : Option Matrix) (text : List ℕ) → AreNot 5 third → SpecificationLeast m text behind → SpecificationLeast m text said
-  specification_fourth None text not_third h = tt
-  specification_fourth (Some m) text not_third h =
+  specification_fourth : (marks : Marks) (m : Option Matrix) (text : List ℕ) → AreNot 5 third → SpecificationLeast marks m text behind → SpecificationLeast marks m text said
+  specification_fourth marks None text not_third h = tt
+  specification_fourth marks (Some m) text not_third h =
       of_after specification_fault _ _ first third behind runs found said parts moved
       (none_of specification_fault 5 no_specification first (not_first 5 (omega arith)))
       (none_of specification_fault 5 no_specification third not_third)
@@ -425,22 +427,22 @@ module _ (first third behind runs found said : List Said) (parts : found ≡ (fi
       subst (AgreeOn _) (sym same) (schedule_agrees text)
 
   -- a third part that is this, and the one after it
-  third_least : (third_is : PartKind) (m : Option Matrix) (above : ℕ) (text : List ℕ) (texts : List (List ℕ)) → PartSaid third_is m above text third → AfterThird third_is m (above_next above text) texts behind → ThirdLeast third_is m text said × FourthLeast third_is m texts said
-  third_least Specification m above text texts t b =
-      (specification_third m text (not_other 5 6 behind (λ e. omega arith) (subst (AreOf 6) (sym b) (histories_of_are m (above_next above text) texts))) (some_here m above text third t), no_fourth_after_specification m texts said)
-  third_least History m above text texts t b = (tt, no_fourth_after_history m texts said)
-  third_least Report m above text texts t b =
-      (report_third text (fourth_not 4 (λ e. omega arith) (λ e. omega arith) m (above_next above text) texts behind b) (report_here above text third t), fourth texts b)
+  third_least : (marks : Marks) (third_is : PartKind) (m : Option Matrix) (above : ℕ) (text : List ℕ) (texts : List (List ℕ)) → PartSaid marks third_is m above text third → AfterThird marks third_is m (above_next above text) texts behind → ThirdLeast marks third_is m text said × FourthLeast marks third_is m texts said
+  third_least marks Specification m above text texts t b =
+      (specification_third marks m text (not_other 5 6 behind (λ e. omega arith) (subst (AreOf 6) (sym b) (histories_of_are m (above_next above text) texts))) (some_here marks m above text third t), no_fourth_after_specification marks m texts said)
+  third_least marks History m above text texts t b = (tt, no_fourth_after_history marks m texts said)
+  third_least marks Report m above text texts t b =
+      (report_third text (fourth_not marks 4 (λ e. omega arith) (λ e. omega arith) m (above_next above text) texts behind b) (report_here above text third t), fourth texts b)
     where
-      fourth : (texts : List (List ℕ)) → FourthSaid m (above_next above text) texts behind → FourthLeast Report m texts said
+      fourth : (texts : List (List ℕ)) → FourthSaid marks m (above_next above text) texts behind → FourthLeast marks Report m texts said
       fourth [] b = tt
-      fourth (text' ∷ texts) b = specification_fourth m text' (not_other 5 4 third (λ e. omega arith) (report_are above text third t)) (fourth_here m _ text' texts behind b)
-  third_least Schedule m above text texts t b =
-      (schedule_third above text (fourth_not 3 (λ e. omega arith) (λ e. omega arith) m (above_next above text) texts behind b) t, fourth texts b)
+      fourth (text' ∷ texts) b = specification_fourth marks m text' (not_other 5 4 third (λ e. omega arith) (report_are above text third t)) (fourth_here marks m _ text' texts behind b)
+  third_least marks Schedule m above text texts t b =
+      (schedule_third above text (fourth_not marks 3 (λ e. omega arith) (λ e. omega arith) m (above_next above text) texts behind b) t, fourth texts b)
     where
-      fourth : (texts : List (List ℕ)) → FourthSaid m (above_next above text) texts behind → FourthLeast Schedule m texts said
+      fourth : (texts : List (List ℕ)) → FourthSaid marks m (above_next above text) texts behind → FourthLeast marks Schedule m texts said
       fourth [] b = tt
-      fourth (text' ∷ texts) b = specification_fourth m text' (not_other 5 3 third (λ e. omega arith) (schedule_are above text third t)) (fourth_here m _ text' texts behind b)
+      fourth (text' ∷ texts) b = specification_fourth marks m text' (not_other 5 3 third (λ e. omega arith) (schedule_are above text third t)) (fourth_here marks m _ text' texts behind b)
 
 -- ---- all parts
 
@@ -499,11 +501,11 @@ module _ (component : List ℕ) (lines : List (List ℕ)) (behind further runs f
       (matrix_right c matrix (reported ++ warned) behind (not_both 2 reported warned (not_other 2 1 reported (λ e. omega arith) (faults_of part.Component 1 (λ k n. refl) 0 (faults_in component_lint component))) (not_other 2 0 warned (λ e. omega arith) (warnings_are c (lines_of component)))) here)))))
 
 -- the parts after the matrix
-further_least : (m : Option Matrix) (above : ℕ) (texts : List (List ℕ)) (first further runs found said : List Said) → found ≡ (first ++ further) ++ runs → IsPermutation found said → IsStableByKey (λ s. s.line) nat_cmp found said → ((p : ℕ) → 3 ≤ p → AreNot p first) → AreOf 0 runs → AfterMatrix m above texts further → FurtherLeast m texts said
-further_least m above [] first further runs found said parts moved stable not_first are_runs h = tt
-further_least m above (text ∷ texts) first further runs found said parts moved stable not_first are_runs h =
+further_least : (marks : Marks) (m : Option Matrix) (above : ℕ) (texts : List (List ℕ)) (first further runs found said : List Said) → found ≡ (first ++ further) ++ runs → IsPermutation found said → IsStableByKey (λ s. s.line) nat_cmp found said → ((p : ℕ) → 3 ≤ p → AreNot p first) → AreOf 0 runs → AfterMatrix marks m above texts further → FurtherLeast marks m texts said
+further_least marks m above [] first further runs found said parts moved stable not_first are_runs h = tt
+further_least marks m above (text ∷ texts) first further runs found said parts moved stable not_first are_runs h =
     let all : found ≡ (first ++ (h.0 ++ h.2.0)) ++ runs = parts ∙ ap (λ (xs : List Said). (first ++ xs) ++ runs) h.2.2 in
-    third_least first h.0 h.2.0 runs found said all moved stable not_first are_runs (kind_of text) m above text texts h.1 h.2.1
+    third_least first h.0 h.2.0 runs found said all moved stable not_first are_runs marks (kind_of text) m above text texts h.1 h.2.1
 
 -- the same, part after part
 in_order : (a b m f r : List Said) → a ++ (b ++ (m ++ (f ++ r))) ≡ ((a ++ (b ++ m)) ++ f) ++ r
@@ -511,14 +513,14 @@ in_order a b m f r =
     ap (λ (x : List Said). a ++ x) (sym (append_assoc b m (f ++ r)))
     ∙ (sym (append_assoc a (b ++ m) (f ++ r)) ∙ sym (append_assoc (a ++ (b ++ m)) f r))
 
-by_parts : (bound : ℕ) (parts lines : List (List ℕ)) (found said : List Said) → SaysFurther (PartsSaid bound parts) (separators_from 1 lines) found → IsPermutation found said → IsStableByKey (λ s. s.line) nat_cmp found said → PartsLeast parts said
-by_parts bound [] lines found said h moved stable = tt
-by_parts bound (component ∷ []) lines found said h moved stable =
+by_parts : (options : LintOptions) (parts lines : List (List ℕ)) (found said : List Said) → SaysFurther (PartsSaid options parts) (separators_from 1 lines) found → IsPermutation found said → IsStableByKey (λ s. s.line) nat_cmp found said → PartsLeast options.marks parts said
+by_parts options [] lines found said h moved stable = tt
+by_parts options (component ∷ []) lines found said h moved stable =
     let none : List Said = [] in
     let all : found ≡ ((separators_from 1 lines ++ (component_said component ++ none)) ++ none) ++ none =
     h.2 ∙ (ap (λ (x : List Said). separators_from 1 lines ++ x) (h.1.2 ∙ ap (λ (x : List Said). component_said component ++ x) h.1.1) ∙ in_order (separators_from 1 lines) (component_said component) none none none) in
     component_least component lines none none none found said all moved (of_none 2 none refl) (of_none 0 none refl) (not_none 1 none refl)
-by_parts bound (component ∷ matrix ∷ rest) lines found said h moved stable =
+by_parts options (component ∷ matrix ∷ rest) lines found said h moved stable =
     let c = component_read component in
     let m = matrix_read c matrix in
     let above = above_next (above_next 0 component) matrix in
@@ -530,11 +532,11 @@ by_parts bound (component ∷ matrix ∷ rest) lines found said h moved stable =
     let all : found ≡ (first ++ further) ++ runs =
     h.2 ∙ (ap (λ (x : List Said). separators_from 1 lines ++ x) (h.1.2 ∙ ap (λ (x : List Said). component_said component ++ x) on.4) ∙ in_order (separators_from 1 lines) (component_said component) behind further runs) in
     let are_after = matrix_are c (above_next 0 component) matrix in
-    let are_runs = runs_are bound c m (above_next 0 component) matrix runs on.3 in (
-      component_least component lines behind further runs found said all moved are_after are_runs (further_not 1 (omega arith) (omega arith) m above rest further on.2),
-      matrix_least component lines behind further runs found said all moved are_after are_runs matrix refl (further_not 2 (omega arith) (omega arith) m above rest further on.2),
-      further_least m above rest first further runs found said all moved stable (λ p le. lines_not p (λ e. omega arith) (λ e. omega arith) (λ e. omega arith) 1 lines component behind are_after) are_runs on.2,
+    let are_runs = runs_are options.serial c m (above_next 0 component) matrix runs on.3 in (
+      component_least component lines behind further runs found said all moved are_after are_runs (further_not options.marks 1 (omega arith) (omega arith) m above rest further on.2),
+      matrix_least component lines behind further runs found said all moved are_after are_runs matrix refl (further_not options.marks 2 (omega arith) (omega arith) m above rest further on.2),
+      further_least options.marks m above rest first further runs found said all moved stable (λ p le. lines_not p (λ e. omega arith) (λ e. omega arith) (λ e. omega arith) 1 lines component behind are_after) are_runs on.2,
     )
 
 pub readers_are_least : ReadersAreLeast
-readers_are_least bound bundle said h = by_parts bound (meant_parts bundle) (kept_lines bundle) h.0 said h.1 h.2 h.3
+readers_are_least options bundle said h = by_parts options (meant_parts bundle) (kept_lines bundle) h.0 said h.1 h.2 h.3

@@ -8,6 +8,7 @@ use Rattle.lu_text.specs.Bundle.{is_meant_as_separator, is_separator, meant_part
 use Rattle.lu_text.specs.Lines.{kept_lines, lines_of}
 use Rattle.lu_component.specs.declared.component.TheConstants.{MOST_OPS}
 use Rattle.lu_lang.specs.Grammar.{component_grammar}
+use Rattle.lu_lint.specs.declared.linting.LintOptions.{LintOptions}
 use Rattle.lu_lint.specs.declared.remark.Remark.{Remark}
 use Rattle.lu_lint.specs.declared.remark.Said.{Said}
 use Rattle.lu_lint.specs.declared.remark.Cause.TheVariants.{Separator}
@@ -97,33 +98,33 @@ LintsComponentLines result before lines =
 
 -- what is said on a matrix, before which this many lines stand: of it, of the parts after it, and
 -- by runs
-abbrev pub OnMatrix : ℕ → ReadComponent → ℕ → List ℕ → List (List ℕ) → List Said → Type 0
-OnMatrix bound c above matrix parts said =
+abbrev pub OnMatrix : LintOptions → ReadComponent → ℕ → List ℕ → List (List ℕ) → List Said → Type 0
+OnMatrix options c above matrix parts said =
     (further : List Said) × (runs : List Said)
-    × AfterMatrix (matrix_read c matrix) (above_next above matrix) parts further
-    × RunsSaid bound c (matrix_read c matrix) above matrix runs
+    × AfterMatrix options.marks (matrix_read c matrix) (above_next above matrix) parts further
+    × RunsSaid options.serial c (matrix_read c matrix) above matrix runs
     × (said ≡ matrix_said c above matrix ++ (further ++ runs))
 
 -- what is said of the parts after a component, before which this many lines stand
-abbrev pub AfterComponent : ℕ → ReadComponent → ℕ → List (List ℕ) → List Said → Type 0
-AfterComponent bound c above [] said = said ≡ []
-AfterComponent bound c above (matrix ∷ parts) said = OnMatrix bound c above matrix parts said
+abbrev pub AfterComponent : LintOptions → ReadComponent → ℕ → List (List ℕ) → List Said → Type 0
+AfterComponent options c above [] said = said ≡ []
+AfterComponent options c above (matrix ∷ parts) said = OnMatrix options c above matrix parts said
 
 -- what is said of the parts
-abbrev pub PartsSaid : ℕ → List (List ℕ) → List Said → Type 0
-PartsSaid bound [] said = said ≡ []
-PartsSaid bound (component ∷ parts) said =
-    SaysFurther (AfterComponent bound (component_read component) (above_next 0 component) parts)
+abbrev pub PartsSaid : LintOptions → List (List ℕ) → List Said → Type 0
+PartsSaid options [] said = said ≡ []
+PartsSaid options (component ∷ parts) said =
+    SaysFurther (AfterComponent options (component_read component) (above_next 0 component) parts)
     (component_said component) said
 
--- what is said of a bundle, with this bound of serial runs
-abbrev pub BundleSaid : ℕ → List ℕ → List Said → Type 0
-BundleSaid bound bundle said =
-    SaysFurther (PartsSaid bound (meant_parts bundle))
+-- what is said of a bundle, with these options
+abbrev pub BundleSaid : LintOptions → List ℕ → List Said → Type 0
+BundleSaid options bundle said =
+    SaysFurther (PartsSaid options (meant_parts bundle))
     (separators_from 1 (kept_lines bundle)) said
 
 -- this is said of a bundle, in any order of the lines; on each line in the order of what is found
-abbrev pub IsSaidOf : ℕ → List ℕ → List Said → Type 0
-IsSaidOf bound bundle said =
-    (found : List Said) × BundleSaid bound bundle found × IsPermutation found said
+abbrev pub IsSaidOf : LintOptions → List ℕ → List Said → Type 0
+IsSaidOf options bundle said =
+    (found : List Said) × BundleSaid options bundle found × IsPermutation found said
     × IsStableByKey (λ s. s.line) nat_cmp found said

@@ -19,6 +19,8 @@ use Rattle.lu_report.specs.Forms.{IsFault, Spells}
 use Rattle.lu_spec.specs.declared.fault.SpecFaultKind.{SpecFaultKind}
 use Rattle.lu_spec.specs.EveryFreeFault.{ListsGiven}
 use Rattle.lu_spec.specs.FreeSpecs.{IsGivenFault}
+use Rattle.lu_spec.specs.declared.given.Marks.{Marks}
+use Rattle.lu_lint.specs.declared.linting.LintOptions.{LintOptions}
 use Rattle.lu_lint.specs.declared.component.ReadComponent.{ReadComponent}
 use Rattle.lu_lint.specs.declared.component.ReadComponent.TheVariants as read
 use Rattle.lu_lint.specs.declared.remark.Said.{Said}
@@ -116,11 +118,11 @@ MatrixLeast (read.Sound c) text said =
     LeastIsReaders matrix_fault Same (meaning_of (matrix_grammar c) text) said
 
 -- where the matrix is read
-abbrev pub SpecificationLeast : Option Matrix → List ℕ → List Said → Type 0
-SpecificationLeast None text said = Unit {0}
-SpecificationLeast (Some matrix) text said =
-    ReadsOrLeast specification_fault (ListsGiven matrix text)
-    (λ kind n. IsGivenFault matrix text (At kind n)) said
+abbrev pub SpecificationLeast : Marks → Option Matrix → List ℕ → List Said → Type 0
+SpecificationLeast marks None text said = Unit {0}
+SpecificationLeast marks (Some matrix) text said =
+    ReadsOrLeast specification_fault (ListsGiven marks matrix text)
+    (λ kind n. IsGivenFault marks matrix text (At kind n)) said
 
 abbrev pub ReportLeast : List ℕ → List Said → Type 0
 ReportLeast text said =
@@ -133,36 +135,36 @@ ScheduleFirst text said =
     AgreeOn (schedule_of text) (filter_map (λ s. schedule_fault s.cause) said)
 
 -- of a third part that is this
-abbrev pub ThirdLeast : PartKind → Option Matrix → List ℕ → List Said → Type 0
-ThirdLeast Specification matrix text said = SpecificationLeast matrix text said
-ThirdLeast Report matrix text said = ReportLeast text said
-ThirdLeast Schedule matrix text said = ScheduleFirst text said
-ThirdLeast History matrix text said = Unit {0}
+abbrev pub ThirdLeast : Marks → PartKind → Option Matrix → List ℕ → List Said → Type 0
+ThirdLeast marks Specification matrix text said = SpecificationLeast marks matrix text said
+ThirdLeast marks Report matrix text said = ReportLeast text said
+ThirdLeast marks Schedule matrix text said = ScheduleFirst text said
+ThirdLeast marks History matrix text said = Unit {0}
 
 -- of the part after it, where that is a specification
-abbrev pub FourthLeast : PartKind → Option Matrix → List (List ℕ) → List Said → Type 0
-FourthLeast third matrix [] said = Unit {0}
-FourthLeast Report matrix (text ∷ texts) said = SpecificationLeast matrix text said
-FourthLeast Schedule matrix (text ∷ texts) said = SpecificationLeast matrix text said
-FourthLeast Specification matrix (text ∷ texts) said = Unit {0}
-FourthLeast History matrix (text ∷ texts) said = Unit {0}
+abbrev pub FourthLeast : Marks → PartKind → Option Matrix → List (List ℕ) → List Said → Type 0
+FourthLeast marks third matrix [] said = Unit {0}
+FourthLeast marks Report matrix (text ∷ texts) said = SpecificationLeast marks matrix text said
+FourthLeast marks Schedule matrix (text ∷ texts) said = SpecificationLeast marks matrix text said
+FourthLeast marks Specification matrix (text ∷ texts) said = Unit {0}
+FourthLeast marks History matrix (text ∷ texts) said = Unit {0}
 
 -- of the parts after a matrix that is read or not
-abbrev pub FurtherLeast : Option Matrix → List (List ℕ) → List Said → Type 0
-FurtherLeast matrix [] said = Unit {0}
-FurtherLeast matrix (text ∷ texts) said =
-    ThirdLeast (kind_of text) matrix text said × FourthLeast (kind_of text) matrix texts said
+abbrev pub FurtherLeast : Marks → Option Matrix → List (List ℕ) → List Said → Type 0
+FurtherLeast marks matrix [] said = Unit {0}
+FurtherLeast marks matrix (text ∷ texts) said =
+    ThirdLeast marks (kind_of text) matrix text said × FourthLeast marks (kind_of text) matrix texts said
 
 -- of all parts
-abbrev pub PartsLeast : List (List ℕ) → List Said → Type 0
-PartsLeast [] said = Unit {0}
-PartsLeast (component ∷ []) said = ComponentLeast component said
-PartsLeast (component ∷ matrix ∷ parts) said =
+abbrev pub PartsLeast : Marks → List (List ℕ) → List Said → Type 0
+PartsLeast marks [] said = Unit {0}
+PartsLeast marks (component ∷ []) said = ComponentLeast component said
+PartsLeast marks (component ∷ matrix ∷ parts) said =
     ComponentLeast component said × MatrixLeast (component_read component) matrix said
-    × FurtherLeast (matrix_read (component_read component) matrix) parts said
+    × FurtherLeast marks (matrix_read (component_read component) matrix) parts said
 
 -- whatever is said of a bundle, of each of its parts the least is the reader's
 abbrev pub ReadersAreLeast : Type 0
 ReadersAreLeast =
-    (bound : ℕ) (bundle : List ℕ) (said : List Said) → IsSaidOf bound bundle said
-    → PartsLeast (meant_parts bundle) said
+    (options : LintOptions) (bundle : List ℕ) (said : List Said) → IsSaidOf options bundle said
+    → PartsLeast options.marks (meant_parts bundle) said

@@ -16,6 +16,7 @@ use Rattle.lu_spec.specs.declared.fault.SpecLineFault.{SpecLineFault}
 use Rattle.lu_spec.specs.EveryFreeFault.{AreGivenFaults}
 use Rattle.lu_recorded.specs.declared.fault.RecordedFaultKind.{RecordedFaultKind}
 use Rattle.lu_recorded.specs.RecordedText.{recorded_grammar}
+use Rattle.lu_spec.specs.declared.given.Marks.{Marks}
 use Rattle.lu_lint.specs.declared.remark.Said.{Said}
 use Rattle.lu_lint.specs.declared.remark.FaultKind.TheVariants as part
 use Rattle.lu_lint.specs.declared.part_kind.PartKind.{PartKind}
@@ -65,15 +66,15 @@ specification_said above fault =
     message_said part.Specification above (message_here fault.line fault.kind)
 
 -- what is said of a specification of a matrix: each of its faults
-abbrev pub SpecificationSaid : Matrix → ℕ → List ℕ → List Said → Type 0
-SpecificationSaid matrix above text said =
-    (faults : List SpecLineFault) × AreGivenFaults matrix text faults
+abbrev pub SpecificationSaid : Marks → Matrix → ℕ → List ℕ → List Said → Type 0
+SpecificationSaid marks matrix above text said =
+    (faults : List SpecLineFault) × AreGivenFaults marks matrix text faults
     × (said ≡ map (specification_said above) faults)
 
 -- where there is no matrix, nothing is said
-abbrev pub SaidOfSome : Option Matrix → ℕ → List ℕ → List Said → Type 0
-SaidOfSome None above text said = said ≡ []
-SaidOfSome (Some matrix) above text said = SpecificationSaid matrix above text said
+abbrev pub SaidOfSome : Marks → Option Matrix → ℕ → List ℕ → List Said → Type 0
+SaidOfSome marks None above text said = said ≡ []
+SaidOfSome marks (Some matrix) above text said = SpecificationSaid marks matrix above text said
 
 -- what is said of a schedule
 abbrev pub ScheduleSaid : ℕ → List ℕ → List Said → Type 0
@@ -101,8 +102,8 @@ histories_of None above texts = []
 histories_of (Some matrix) above texts = histories_said matrix above texts
 
 -- what is said of a part that is to be this, after a matrix that is read or not
-abbrev pub PartSaid : PartKind → Option Matrix → ℕ → List ℕ → List Said → Type 0
-PartSaid Specification matrix above text said = SaidOfSome matrix above text said
-PartSaid Report matrix above text said = ReportSaid above text said
-PartSaid History matrix above text said = said ≡ histories_of matrix above (text ∷ [])
-PartSaid Schedule matrix above text said = ScheduleSaid above text said
+abbrev pub PartSaid : Marks → PartKind → Option Matrix → ℕ → List ℕ → List Said → Type 0
+PartSaid marks Specification matrix above text said = SaidOfSome marks matrix above text said
+PartSaid marks Report matrix above text said = ReportSaid above text said
+PartSaid marks History matrix above text said = said ≡ histories_of matrix above (text ∷ [])
+PartSaid marks Schedule matrix above text said = ScheduleSaid above text said

@@ -1,5 +1,5 @@
 -- Warnings by runs: what the setup's run and the serial runs show.
-use Rattle.std.specs.Prelude.{◌≡◌, ◌⊎◌, ℕ, ◌+◌, ◌-◌, ◌≤◌, Bool, true, false, List, [], ◌∷◌, ◌++◌, length, map, filter, replicate, Option, Some, None, IfSome, Result, IfOk, Vec, slice_get, codes, ◌==◌, ◌&&◌, if◌then◌else◌}
+use Rattle.std.specs.Prelude.{◌≡◌, ◌⊎◌, ℕ, ◌+◌, ◌-◌, ◌≤◌, Bool, true, false, List, [], ◌∷◌, ◌++◌, length, map, filter, replicate, Option, Some, None, IfSome, Result, IfOk, Vec, slice_get, codes, ◌==◌, ◌&&◌, if◌then◌else◌, nat_lt}
 use Rattle.std.specs.List.{flat_map, list_any}
 use Rattle.std.specs.List.Sorted.{IsStrictlySortedBy}
 use Rattle.std.specs.Option.{unwrap_or}
@@ -34,6 +34,7 @@ use Rattle.lu_lint.specs.declared.remark.RunHint.{RunHint}
 use Rattle.lu_lint.specs.declared.remark.RunHint.TheVariants.{SetupGoesOn, SetupTraps, Serial}
 use Rattle.lu_lint.specs.declared.component.ReadComponent.{ReadComponent}
 use Rattle.lu_lint.specs.declared.component.ReadComponent.TheVariants.{Sound, Faulty}
+use Rattle.lu_lint.specs.declared.serial_runs.TheConstants.{MOST_HISTORIES}
 use Rattle.lu_lint.specs.declared.setup_run.TheConstants.{MOST_MOVES_OF_SETUP}
 use Rattle.lu_lint.specs.Said.{line_below}
 
@@ -130,6 +131,11 @@ with_firsts found (hint ∷ hints) = with_firsts (with_hint found hint) hints
 abbrev pub set_hints : List (List SerialOp) → List SerialHint
 set_hints histories = with_firsts [] (flat_map history_hints histories)
 
+-- the same where the histories are few enough to look at each
+abbrev pub hints_if_few : List (List SerialOp) → List SerialHint
+hints_if_few histories =
+    if nat_lt MOST_HISTORIES (length histories) then [] else set_hints histories
+
 -- these hints with those of the set's histories, each after the path
 abbrev pub with_set : List SerialHint → List SerialOp → List (List SerialOp) → List SerialHint
 with_set found path set = with_firsts found (flat_map (λ h. history_hints (path ++ h)) set)
@@ -161,11 +167,11 @@ HintsOfCut u hints s =
 
 -- ---- all serial runs
 
--- the histories of the serial runs are these, in order
+-- the histories of the serial runs are these, in order; where there are too many, nothing is said
 abbrev pub ShownBySet : State → ℕ → List SerialHint → Type 0
 ShownBySet s bound hints =
     (members : List (List SerialOp)) × IsSetOf s bound members
-    × IsStrictlySortedBy history_cmp members × (hints ≡ set_hints members)
+    × IsStrictlySortedBy history_cmp members × (hints ≡ hints_if_few members)
 
 -- the least serial offence is cut
 abbrev pub ShownByCut : State → ℕ → List SerialHint → Type 0

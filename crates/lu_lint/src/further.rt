@@ -14,6 +14,7 @@ use crate::report::with_report;
 use crate::schedule::with_schedule;
 use crate::specification::with_specification;
 use crate::words::Wording;
+use lu_spec::Marks;
 use lu_test::Matrix;
 use std::alloc::{AllocError, Global};
 
@@ -47,13 +48,16 @@ fn with_part<W: Wording>(
     all: Vec<Remark>,
     kind: PartKind,
     matrix: &Option<Matrix>,
+    marks: Marks,
     above: usize,
     text: &[u8],
 ) -> Result<Vec<Remark>, AllocError>
-    ensures { SaysSuch result all (PartSaid kind matrix.now above text.now) }
+    ensures { SaysSuch result all (PartSaid marks kind matrix.now above text.now) }
 {
     match kind {
-        PartKind::Specification => with_specification(alloc, wording, all, matrix, above, text),
+        PartKind::Specification => with_specification(
+            alloc, wording, all, matrix, marks, above, text,
+        ),
         PartKind::Report => with_report(alloc, wording, all, above, text),
         PartKind::History => with_histories(alloc, wording, all, matrix, above, &[text]),
         PartKind::Schedule => with_schedule(alloc, wording, all, above, text),
@@ -67,15 +71,16 @@ fn with_fourth<W: Wording>(
     wording: &W,
     all: Vec<Remark>,
     matrix: &Option<Matrix>,
+    marks: Marks,
     above: usize,
     parts: &[&[u8]],
 ) -> Result<Vec<Remark>, AllocError>
-    ensures { SaysSuch result all (FourthSaid matrix.now above (texts parts.now)) }
+    ensures { SaysSuch result all (FourthSaid marks matrix.now above (texts parts.now)) }
 {
     let Some((text, others)) = parts.split_first() else {
         return Ok(all);
     };
-    let all = with_specification(alloc, wording, all, matrix, above, text)?;
+    let all = with_specification(alloc, wording, all, matrix, marks, above, text)?;
     let after = above_next(alloc, above, text)?;
     with_fifth(alloc, wording, all, after, others)
 }
@@ -87,10 +92,11 @@ fn with_after<W: Wording>(
     all: Vec<Remark>,
     kind: PartKind,
     matrix: &Option<Matrix>,
+    marks: Marks,
     above: usize,
     parts: &[&[u8]],
 ) -> Result<Vec<Remark>, AllocError>
-    ensures { SaysSuch result all (AfterThird kind matrix.now above (texts parts.now)) }
+    ensures { SaysSuch result all (AfterThird marks kind matrix.now above (texts parts.now)) }
 {
     match kind {
         PartKind::Specification | PartKind::History => {
@@ -99,7 +105,7 @@ fn with_after<W: Wording>(
             Ok(all)
         }
         PartKind::Report | PartKind::Schedule => with_fourth(
-            alloc, wording, all, matrix, above, parts,
+            alloc, wording, all, matrix, marks, above, parts,
         ),
     }
 }
@@ -110,16 +116,17 @@ pub(crate) fn with_further<W: Wording>(
     wording: &W,
     all: Vec<Remark>,
     matrix: &Option<Matrix>,
+    marks: Marks,
     above: usize,
     parts: &[&[u8]],
 ) -> Result<Vec<Remark>, AllocError>
-    ensures { SaysSuch result all (AfterMatrix matrix.now above (texts parts.now)) }
+    ensures { SaysSuch result all (AfterMatrix marks matrix.now above (texts parts.now)) }
 {
     let Some((text, others)) = parts.split_first() else {
         return Ok(all);
     };
     let kind = kind_of(alloc, text)?;
-    let all = with_part(alloc, wording, all, kind, matrix, above, text)?;
+    let all = with_part(alloc, wording, all, kind, matrix, marks, above, text)?;
     let after = above_next(alloc, above, text)?;
-    with_after(alloc, wording, all, kind, matrix, after, others)
+    with_after(alloc, wording, all, kind, matrix, marks, after, others)
 }

@@ -22,7 +22,7 @@ mod words;
 mod writing;
 
 pub use laws::agree;
-pub use linting::{Linted, have_fault, lint};
+pub use linting::{LintOptions, Linted, have_fault, lint};
 pub use remark::{Cause, Ending, FaultKind, Hint, Operations, Remark, RunHint, Said, SerialHint};
 pub use runs::MatrixRuns;
 pub use serial_runs::operation_count;

@@ -17,8 +17,20 @@ use crate::remark::Remark;
 use crate::runs::with_runs;
 use crate::words::Wording;
 use crate::writing::write_remarks;
+use lu_spec::Marks;
 use lu_text::{kept_lines, meant_parts};
 use std::alloc::{AllocError, Global};
+
+/// How a bundle is linted.
+#[derive(Clone, Copy, Debug, PartialEq, Eq)]
+pub struct LintOptions {
+    /// The maximum number of moves that an operation may take after its call in a serial run, 1 to
+    /// 256.
+    pub serial: u16,
+
+    /// Whether the entries of a specification may have marks.
+    pub marks: Marks,
+}
 
 /// What lint says of a bundle.
 #[derive(Debug, Drop)]
@@ -39,22 +51,31 @@ fn with_after<W: Wording>(
     alloc: Global,
     wording: &W,
     all: Vec<Remark>,
-    serial: u16,
+    options: LintOptions,
     component: &ReadComponent,
     above: usize,
     parts: &[&[u8]],
 ) -> Result<Vec<Remark>, AllocError>
-    requires some { 1 ≤ serial }
-    requires few { serial ≤ most_moves }
-    ensures { SaysSuch result all (AfterComponent serial component.now above (texts parts.now)) }
+    requires some { 1 ≤ options.serial }
+    requires few { options.serial ≤ most_moves }
+    ensures { SaysSuch result all (AfterComponent options component.now above (texts parts.now)) }
 {
     let Some((text, others)) = parts.split_first() else {
         return Ok(all);
     };
     let (all, matrix) = with_matrix(alloc, wording, all, component, above, text)?;
     let after = above_next(alloc, above, text)?;
-    let all = with_further(alloc, wording, all, &matrix, after, others)?;
-    with_runs(alloc, wording, all, component, &matrix, serial, above, text)
+    let all = with_further(alloc, wording, all, &matrix, options.marks, after, others)?;
+    with_runs(
+        alloc,
+        wording,
+        all,
+        component,
+        &matrix,
+        options.serial,
+        above,
+        text,
+    )
 }
 
 /// The remarks with those on the parts of a bundle, of which each is read once.
@@ -62,19 +83,19 @@ fn with_parts<W: Wording>(
     alloc: Global,
     wording: &W,
     all: Vec<Remark>,
-    serial: u16,
+    options: LintOptions,
     parts: &[&[u8]],
 ) -> Result<Vec<Remark>, AllocError>
-    requires some { 1 ≤ serial }
-    requires few { serial ≤ most_moves }
-    ensures { SaysSuch result all (PartsSaid serial (texts parts.now)) }
+    requires some { 1 ≤ options.serial }
+    requires few { options.serial ≤ most_moves }
+    ensures { SaysSuch result all (PartsSaid options (texts parts.now)) }
 {
     let Some((text, others)) = parts.split_first() else {
         return Ok(all);
     };
     let above = above_next(alloc, 0, text)?;
     let (all, component) = with_component(alloc, wording, all, text)?;
-    with_after(alloc, wording, all, serial, &component, above, others)
+    with_after(alloc, wording, all, options, &component, above, others)
 }
 
 /// What is said of a bundle, in the order in which it is found.
@@ -82,16 +103,16 @@ fn remarks_on<W: Wording>(
     alloc: Global,
     wording: &W,
     bundle: &[u8],
-    serial: u16,
+    options: LintOptions,
 ) -> Result<Vec<Remark>, AllocError>
-    requires some { 1 ≤ serial }
-    requires few { serial ≤ most_moves }
-    ensures { IfOk result (λ all. BundleSaid serial bundle.now (said_of all.items)) }
+    requires some { 1 ≤ options.serial }
+    requires few { options.serial ≤ most_moves }
+    ensures { IfOk result (λ all. BundleSaid options bundle.now (said_of all.items)) }
 {
     let lines = kept_lines(alloc, bundle)?;
     let parts = meant_parts(alloc, bundle)?;
     let all = with_separators(alloc, wording, Vec::new(alloc), &lines)?;
-    with_parts(alloc, wording, all, serial, &parts)
+    with_parts(alloc, wording, all, options, &parts)
 }
 
 /// Whether one of the remarks is a fault.
@@ -120,9 +141,9 @@ pub fn have_fault(remarks: &[Remark]) -> bool
 /// Where the matrix is read too, runs are made, and more warnings said: each call of the setup that
 /// traps, or the first that does not end; and each call of a thread that traps or is stuck in a
 /// serial run, by the least serial history in which it does (Burckhardt, Dern, Musuvathi and Tan,
-/// 2010). `serial`, 1 to 256, is the most moves that an operation may take after its call in a
-/// serial run: one that takes more is said alone, and where two serial histories conflict none of
-/// the threads' calls is.
+/// 2010). An operation that takes more moves in a serial run than `options.serial` is said alone,
+/// and where two serial histories conflict none of the threads' calls is. Where marks are refused,
+/// an entry of a specification with the mark `?` is a fault.
 ///
 /// # Errors
 ///
@@ -131,19 +152,19 @@ pub fn lint<W: Wording>(
     alloc: Global,
     wording: &W,
     bundle: &[u8],
-    serial: u16,
+    options: LintOptions,
 ) -> Result<Linted, AllocError>
-    requires some { 1 ≤ serial }
-    requires few { serial ≤ most_moves }
+    requires some { 1 ≤ options.serial }
+    requires few { options.serial ≤ most_moves }
     // What is said, and of which lines.
-    ensures said { IfOk result (λ l. IsSaidOf serial bundle.now (said_of l.remarks.items)) }
+    ensures said { IfOk result (λ l. IsSaidOf options bundle.now (said_of l.remarks.items)) }
     // It is in the order of the lines.
     ensures ordered { IfOk result (λ l. IsNonDecreasingBy (λ r. r.said.line) l.remarks.items) }
     // The text says it, in the words of the remarks.
     ensures text { IfOk result (λ l. string_bytes l.text ≡ remarks_text l.remarks.items) }
     ensures faults { IfOk result (λ l. l.faults ≡ said.have_fault l.remarks.items) }
 {
-    let mut remarks = remarks_on(alloc, wording, bundle, serial)?;
+    let mut remarks = remarks_on(alloc, wording, bundle, options)?;
     remarks.sort_by_key(|remark| remark.said.line)?;
     let mut text = String::new(alloc);
     write_remarks(&mut text, &remarks)?;

@@ -7,17 +7,21 @@ ghost use Rattle.lu_report.specs.Limits.{most_moves};
 ghost use Rattle.lu_machine.specs.Tests.{FromEachStartOf};
 ghost use Rattle.lu_trie.specs.Members.{history_cmp};
 ghost use Rattle.lu_serial.specs.Serial as serial;
+ghost use Rattle.lu_serial_graph.specs.Graphs.{members_of};
 ghost use Rattle.lu_text.specs.Results.{HasItems};
 ghost use Rattle.lu_lint.specs.Runs as spec;
-ghost use Rattle.lu_lint.specs.Runs.{CanPlay, HintsOfCut, ShownSerially, ShowsFromEachStart, ShowsHistory, history_hints, set_hints, with_firsts, with_set};
+ghost use Rattle.lu_lint.specs.Runs.{CanPlay, HintsOfCut, ShownSerially, ShowsFromEachStart, ShowsHistory, history_hints, hints_if_few, with_firsts, with_set};
 
 use crate::remark::{Ending, Operations, SerialHint};
 use lu_history::{SerialOp, SerialOutcome};
 use lu_machine::{Event, Machine, Test};
-use lu_serial::{Learnt, learn};
+use lu_serial_graph::{LearntGraph, SerialGraph, learn_graph};
 use lu_test::Schedule;
-use lu_trie::{SerialTree, Trie};
+use lu_trie::SerialTree;
 use std::alloc::{AllocError, Global};
+
+/// The greatest number of serial histories that are looked at, one by one.
+pub const MOST_HISTORIES: u64 = 1_000_000;
 
 /// The number of operations of this thread.
 pub fn operation_count(thread: u8, ops: &[SerialOp]) -> usize
@@ -120,13 +124,14 @@ fn with_below<T: SerialTree>(
     Ok(found)
 }
 
-/// What the histories of a set show.
-fn set_hints(alloc: Global, set: &Trie<Global>) -> Result<Vec<SerialHint>, AllocError>
-    ensures sorted { IsStrictlySortedBy history_cmp set.now }
-    ensures hints { HasItems result (set_hints set.now) }
+/// What the histories of a set show: nothing where there are too many to look at each.
+fn set_hints(alloc: Global, set: &SerialGraph<Global>) -> Result<Vec<SerialHint>, AllocError>
+    ensures sorted { IsStrictlySortedBy history_cmp (members_of set.now) }
+    ensures hints { HasItems result (hints_if_few (members_of set.now)) }
 {
-    // That the members stand in order is known where they are counted.
-    let _members = set.len();
+    if set.member_count() > MOST_HISTORIES {
+        return Ok(Vec::new(alloc));
+    }
     let tree = &set;
     let root = tree.root();
     with_below(alloc, Vec::new(alloc), tree, root, &mut Vec::new(alloc))
@@ -200,10 +205,10 @@ pub(crate) fn serial_hints(
     requires few { bound ≤ most_moves }
     ensures { ShowsFromEachStart result test.entry (ShownSerially bound) }
 {
-    let learnt = learn(alloc, alloc, test.component, test.matrix, bound)?;
+    let learnt = learn_graph(alloc, alloc, test.component, test.matrix, bound)?;
     match learnt {
-        Learnt::Set(set) => set_hints(alloc, &set),
-        Learnt::Cut(schedule) => hints_of_cut(alloc, test, &schedule),
-        Learnt::Conflict { .. } => Ok(Vec::new(alloc)),
+        LearntGraph::Set(set) => set_hints(alloc, &set),
+        LearntGraph::Cut(schedule) => hints_of_cut(alloc, test, &schedule),
+        LearntGraph::Conflict { .. } => Ok(Vec::new(alloc)),
     }
 }

@@ -19,12 +19,12 @@ use crate::worker_threads::run_workers;
 use lu_board::Board;
 use lu_component::Component;
 use lu_machine::Test;
-use lu_replay::set_or_offence;
+use lu_replay::graph_or_offence;
 use lu_report::{Finding, Report};
-use lu_serial::learn;
+use lu_serial_graph::learn_graph;
 use lu_test::{Matrix, Schedule};
 use lu_tree::{SearchSpace, Tables, Watch, frontier, search_with};
-use lu_trie::{PackedTrie, SerialTree};
+use lu_trie::SerialTree;
 use lu_witness::Cache;
 use std::alloc::{AllocError, Global};
 use std::sync::Wait;
@@ -124,8 +124,8 @@ where
     }
 }
 
-/// The least serial offence, or what is found among all schedules. The set of serial histories is
-/// packed once for all workers.
+/// The least serial offence, or what is found among all schedules. All workers read one graph of the
+/// serial histories.
 fn find<R: Threads + Wait, G: Gate>(check: &Checking<'_, R, G>) -> Result<Finding, CheckFault>
     ensures found { FindsFromStarts check.now.space check.now.options.serial result }
     ensures limits { OnOk result (IsMatrix check.now.space.test.matrix.now) }
@@ -133,18 +133,14 @@ fn find<R: Threads + Wait, G: Gate>(check: &Checking<'_, R, G>) -> Result<Findin
 {
     let space = check.space;
     let serial = check.options.serial();
-    match set_or_offence(learn(
+    match graph_or_offence(learn_graph(
         space.alloc,
         space.alloc,
         space.test.component,
         space.test.matrix,
         serial,
     )?) {
-        Ok(set) => {
-            let packed = PackedTrie::pack(space.alloc, &set)?;
-            drop(set);
-            search_tree(check, &&packed)
-        }
+        Ok(graph) => search_tree(check, &&graph),
         Err(offence) => Ok(offence),
     }
 }

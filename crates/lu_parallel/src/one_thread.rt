@@ -10,9 +10,9 @@ ghost use Rattle.lu_parallel.specs.Findings.{FindsFromStarts, FindsAgainst, Repo
 use crate::worker::REMEMBERED;
 use lu_component::Component;
 use lu_machine::Test;
-use lu_replay::set_or_offence;
+use lu_replay::graph_or_offence;
 use lu_report::{Finding, Report};
-use lu_serial::learn;
+use lu_serial_graph::learn_graph;
 use lu_test::{Matrix, Schedule};
 use lu_tree::{Found, SearchSpace, Tables, Unwatched, search_with};
 use lu_trie::SerialTree;
@@ -62,15 +62,15 @@ fn find<A: Allocator + Clone>(
     ensures found { FindsFromStarts space.now serial result }
     ensures limits { OnOk result (IsMatrix space.now.test.matrix.now) }
 {
-    let learnt = learn(
+    let learnt = learn_graph(
         space.alloc,
         set_alloc,
         space.test.component,
         space.test.matrix,
         serial,
     )?;
-    match set_or_offence(learnt) {
-        Ok(set) => search_all(space, &&set),
+    match graph_or_offence(learnt) {
+        Ok(graph) => search_all(space, &&graph),
         Err(offence) => Ok(offence),
     }
 }

@@ -1,13 +1,8 @@
 -- A deterministic set that has every serial history has no other whole ones.
-use Rattle.std.proofs.Common.{arith, ◌≡◌, ◌≢◌, ◌<◌, ◌≤◌, ◌+◌, ◌⊎◌, ℕ, suc, List, [], ◌∷◌, ◌++◌, length, if◌then◌else◌, refl, sym, ◌∙◌, ap, subst, inl, inr}
+use Rattle.std.proofs.Common.{arith, ◌≡◌, ◌≢◌, ◌≤◌, ◌+◌, ◌⊎◌, ℕ, suc, List, [], ◌∷◌, ◌++◌, length, if◌then◌else◌, refl, sym, ◌∙◌, ap, subst, inl, inr}
 use Rattle.std.proofs.lemmas.Bool.{ne_eqb}
-use Rattle.std.proofs.lemmas.List.{length-replicate}
-use Rattle.lu_test.proofs.FewerCalls.{is_thread}
-use Rattle.lu_test.specs.Matrix.{Matrix}
 use Rattle.lu_machine.specs.declared.event.Outcome.{Outcome}
 use Rattle.lu_machine.specs.declared.event.Outcome.TheVariants.{Ret, Trap}
-use Rattle.lu_machine.specs.declared.thread.Activity.TheVariants.{Idle}
-use Rattle.lu_machine.specs.declared.thread.Thread.{Thread}
 use Rattle.lu_machine.specs.States.{State, call_count}
 use Rattle.lu_history.specs.declared.serial.SerialOutcome.{SerialOutcome}
 use Rattle.lu_history.specs.declared.serial.SerialOutcome.TheVariants.{Ret as Returned_with, Trap as Trapped, Stuck}
@@ -20,11 +15,10 @@ use Rattle.lu_serial.specs.Serial.{IsSerialHistory, stuck_of}
 use Rattle.lu_serial.proofs.Opening.{same_or_not}
 use Rattle.lu_witness.specs.Witnesses.{entries}
 use Rattle.lu_witness.proofs.Entries.{entries_own}
-use Rattle.lu_refute.specs.Whole.{IsQuiet}
-use Rattle.lu_refute.proofs.Grounds.{Ground, start_on}
-use Rattle.lu_refute.proofs.Moves.{HasSeats, done_of, done_complete}
-use Rattle.lu_refute.proofs.Serially.{ended_run}
-use Rattle.lu_refute.proofs.Ops.{NoCut, Ran, entry_of_run, ran_count, ran_no_cut, ran_on, ran_seats, run_op, some_serial}
+use Rattle.lu_serial.specs.Whole.{IsQuiet}
+use Rattle.lu_serial.proofs.Moves.{HasSeats, done_of, done_complete}
+use Rattle.lu_serial.proofs.Serially.{ended_run}
+use Rattle.lu_serial.proofs.Ops.{NoCut, Ran, entry_of_run, ran_count, ran_no_cut, ran_on, ran_seats, run_op, some_serial}
 
 -- no two histories of the set conflict
 abbrev pub AreApart : (List SerialOp → Type 0) → Type 0
@@ -137,15 +131,6 @@ whole_is_serial (op ∷ q) s bound Set quiet seats none has one member serial ro
           let last : q ≡ [] = serial.0 outcome in
           subst (λ (x : SerialOp). IsSerialHistory s (x ∷ q)) (sym same) (subst (λ x. IsSerialHistory s (stop ∷ x)) (sym last) stuck))
     ]
-
--- ---- at the start
-
-pub seats_start : (g : Ground) (matrix : Matrix) → HasSeats (start_on g matrix)
-seats_start g matrix t some =
-    let idle : Thread = record { done = 0; activity = Idle } in
-    let threads : length (start_on g matrix).threads ≡ length matrix.threads = length-replicate (length matrix.threads) idle in
-    let there : t < length matrix.threads = is_thread matrix t 0 some in
-    omega (arith, threads, there)
 
 pub stuck_last : (before : List SerialOp) (t : ℕ) → HasStuck (before ++ stuck_of t ∷ [])
 stuck_last [] t = inl refl

@@ -16,7 +16,7 @@ use Rattle.lu_trie.specs.Members.{contains}
 use Rattle.lu_serial.specs.Offences.{IsOutside}
 use Rattle.lu_report.specs.declared.report.Finding.{Finding}
 use Rattle.lu_report.specs.declared.report.Finding.TheVariants.{SerialCut, Nondeterministic, Fail, Pass}
-use Rattle.lu_refute.specs.Whole.{made_calls}
+use Rattle.lu_serial.specs.Whole.{made_calls}
 use Rattle.lu_refute.specs.Answers.{IsAnswerTo, IsAnswerWith, IsOutsideAnswer, IsShortest}
 use Rattle.lu_refute.specs.Laws.{OneAnswer}
 

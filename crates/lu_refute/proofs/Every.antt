@@ -13,12 +13,12 @@ use Rattle.lu_replay.specs.Confirmed.{IsShown, IsShownWith}
 use Rattle.lu_report.specs.Parts.{IsPass}
 use Rattle.lu_replay.proofs.RunsAnew.{report_shown}
 use Rattle.lu_refute.specs.Linearizable.{IsLinearizable}
-use Rattle.lu_refute.specs.Whole.{IsSeriallyWhole, made_calls}
+use Rattle.lu_serial.specs.Whole.{IsSeriallyWhole, made_calls}
 use Rattle.lu_refute.specs.Answers.{IsFailure}
 use Rattle.lu_refute.specs.Laws.{FailingIsNotLinearizable, IsDeterministicOf, NoneLinearizable}
-use Rattle.lu_refute.proofs.Core.{HasEach, seats_start}
-use Rattle.lu_refute.proofs.Cuts.{start_done}
-use Rattle.lu_refute.proofs.Grounds.{Ground, ground_of, none_on, start_on}
+use Rattle.lu_refute.proofs.Core.{HasEach}
+use Rattle.lu_serial.proofs.Grounds.{seats_start, Ground, ground_of, none_on, start_on}
+use Rattle.lu_serial.proofs.Cuts.{start_done}
 use Rattle.lu_refute.proofs.Fails.{AreFit, refutes_back}
 use Rattle.lu_refute.proofs.Outside.{outside_whole, refuted, true_or_false, whole_cut}
 use Rattle.lu_refute.proofs.Own.{lengths_at_start, refutes_at_cut}

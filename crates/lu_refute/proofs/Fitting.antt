@@ -1,5 +1,5 @@
 -- The serial histories of a matrix fit it.
-use Rattle.std.proofs.Common.{arith, ◌≡◌, ◌+◌, ◌≤◌, Bool, true, false, ℕ, suc, List, Option, Some, None, slice_get, [], ◌∷◌, ◌++◌, length, if◌then◌else◌, refl, sym, ◌∙◌, ap, subst, inl, inr, length-append, append-nil}
+use Rattle.std.proofs.Common.{arith, ◌≡◌, ◌+◌, ◌≤◌, Bool, true, false, ℕ, suc, List, [], ◌∷◌, ◌++◌, length, if◌then◌else◌, refl, sym, ◌∙◌, ap, subst, inl, inr, length-append, append-nil}
 use Rattle.std.specs.Prelude.{◌==◌}
 use Rattle.std.proofs.lemmas.Bool.{ne_eqb}
 use Rattle.lu_component.specs.Component.{Component}
@@ -9,8 +9,7 @@ use Rattle.lu_machine.specs.declared.event.Event.{Event}
 use Rattle.lu_machine.specs.declared.event.Event.TheVariants.{Call, Return}
 use Rattle.lu_machine.specs.declared.event.Outcome.{Outcome}
 use Rattle.lu_machine.specs.declared.event.Outcome.TheVariants.{Ret, Trap}
-use Rattle.lu_machine.specs.declared.thread.Thread.{Thread}
-use Rattle.lu_machine.specs.States.{State, is_open}
+use Rattle.lu_machine.specs.States.{State}
 use Rattle.lu_machine.specs.Starts.{IsStart}
 use Rattle.lu_machine.specs.Runs.{Leads}
 use Rattle.lu_history.specs.declared.serial.SerialOp.{SerialOp}
@@ -24,10 +23,11 @@ use Rattle.lu_witness.specs.Witnesses.{entries}
 use Rattle.lu_witness.proofs.Entries.{entries-append}
 use Rattle.lu_spec.specs.Specs.{FitsMatrix}
 use Rattle.lu_refute.specs.Laws.{LearntCloses}
-use Rattle.lu_refute.proofs.Moves.{done_in, done_of}
-use Rattle.lu_refute.proofs.Fails.{made_in, made_of, made_open, run_returns}
-use Rattle.lu_refute.proofs.Grounds.{Ground, ground_of, grounded, start_on}
-use Rattle.lu_refute.proofs.Cuts.{made_within}
+use Rattle.lu_serial.proofs.Counts.{done_made}
+use Rattle.lu_serial.proofs.Moves.{done_of}
+use Rattle.lu_serial.proofs.Counts.{made_of, made_open, run_returns}
+use Rattle.lu_serial.proofs.Grounds.{Ground, ground_of, grounded, start_on}
+use Rattle.lu_serial.proofs.Cuts.{made_within}
 
 as_many : {X Y : Type 0} (b : Bool) (x : X) (xs : List X) (y : Y) (ys : List Y) → length xs ≡ length ys → length (if b then x ∷ xs else xs) ≡ length (if b then y ∷ ys else ys)
 as_many true x xs y ys same = ap suc same
@@ -48,18 +48,6 @@ one_more t x = by (x == t)
 
 no_more : (t x : ℕ) → (t ≡ x → ⊥) → length (entries t (stuck_of x ∷ [])) ≡ 0
 no_more t x apart = ap (λ b. length (if b then serial.Stuck ∷ [] else [])) (ne_eqb x t (λ e. apart (sym e)))
-
--- what has ended was called
-pub done_made : (s : State) (t : ℕ) → done_of s t ≤ made_of s t
-done_made s t = by_thread (slice_get s.threads t)
-  where
-    by_open : (b : Bool) (n : ℕ) → n ≤ (if b then n + 1 else n)
-    by_open true n = omega arith
-    by_open false n = omega arith
-
-    by_thread : (o : Option Thread) → done_in o ≤ made_in o
-    by_thread None = omega arith
-    by_thread (Some a) = by_open (is_open a.activity) a.done
 
 -- what has ended, and the one that is stuck, was called
 fits : (g : Ground) (matrix : Matrix) (u : List Move) (end : State) (h : List Event) (q : List SerialOp) → Leads (start_on g matrix) u end h → EndsAs end h q → FitsMatrix matrix q

@@ -1,15 +1,9 @@
-pub mod Grounds
-pub mod Moves
-pub mod Serially
-pub mod Ops
 pub mod Core
 pub mod Fails
 pub mod SameOrder
 pub mod Spelled
-pub mod Cuts
 pub mod Own
 pub mod Outside
-pub mod Made
 pub mod Shortening
 pub mod Failing
 pub mod Copies

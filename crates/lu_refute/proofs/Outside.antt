@@ -20,13 +20,14 @@ use Rattle.lu_serial.proofs.Opening.{complete_not_open}
 use Rattle.lu_witness.specs.Goodness.{IsGoodAt}
 use Rattle.lu_witness.specs.Witnesses.{IsMember}
 use Rattle.lu_report.specs.declared.report.Finding.TheVariants.{SerialCut, Nondeterministic, Fail, Pass}
-use Rattle.lu_refute.specs.Linearizable.{IsCounterexample, IsCutOf, IsLinearizable, Refutes}
-use Rattle.lu_refute.specs.Whole.{EndsWhole, made_calls}
+use Rattle.lu_refute.specs.Linearizable.{IsCounterexample, IsLinearizable, Refutes}
+use Rattle.lu_serial.specs.Cuts.{IsCutOf}
+use Rattle.lu_serial.specs.Whole.{EndsWhole, made_calls}
 use Rattle.lu_refute.specs.Answers.{IsOutsideAnswer}
 use Rattle.lu_refute.specs.Laws.{AnswerRefutes, ConflictOutside, FailOutside, FailRefutes, HasAll, IsMatrixSpec, IsWhole, NotLinearizable, OutsideWhole, SpecIsSerial, WholeCut}
-use Rattle.lu_refute.proofs.Core.{HasStuck, IsWholeFrom, seats_start, stuck_last}
-use Rattle.lu_refute.proofs.Cuts.{start_done}
-use Rattle.lu_refute.proofs.Grounds.{Ground, ground_of, grounded, none_on, start_on}
+use Rattle.lu_refute.proofs.Core.{HasStuck, IsWholeFrom, stuck_last}
+use Rattle.lu_serial.proofs.Grounds.{seats_start, Ground, ground_of, grounded, none_on, start_on}
+use Rattle.lu_serial.proofs.Cuts.{start_done}
 use Rattle.lu_refute.proofs.Fails.{AreFit, refutes_back, serial_member}
 use Rattle.lu_refute.proofs.Own.{cut_refutes, made_cut}
 

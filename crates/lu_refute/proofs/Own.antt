@@ -22,15 +22,16 @@ use Rattle.lu_serial.proofs.Opening.{same_or_not}
 use Rattle.lu_witness.specs.Goodness.{IsGoodAt}
 use Rattle.lu_trie.specs.Members.{contains}
 use Rattle.lu_witness.specs.Witnesses.{HasWitness, IsMember, IsWitness}
-use Rattle.lu_refute.specs.Linearizable.{AreLengths, Refutes}
-use Rattle.lu_refute.specs.Whole.{EndsWhole, IsQuiet, IsSeriallyWhole, made_calls}
+use Rattle.lu_serial.specs.Cuts.{AreLengths}
+use Rattle.lu_refute.specs.Linearizable.{Refutes}
+use Rattle.lu_serial.specs.Whole.{EndsWhole, IsQuiet, IsSeriallyWhole, made_calls}
 use Rattle.lu_refute.specs.Laws.{CutRefutes, MadeCut, OwnWitness}
-use Rattle.lu_refute.proofs.Serially.{LeadsSerially, serially_from}
+use Rattle.lu_serial.proofs.Serially.{LeadsSerially, serially_from}
 use Rattle.lu_refute.proofs.Fails.{call_run}
 use Rattle.lu_refute.proofs.SameOrder.{same_order}
 use Rattle.lu_refute.proofs.Spelled.{IsSpelled, IsMode, Spells, entry_precedes, part_spelled, pending_spelled, placed, run_spelled, serial_by_returns, serial_of}
-use Rattle.lu_refute.proofs.Grounds.{Ground, ground_of, grounded, none_on, same_ground, start_on}
-use Rattle.lu_refute.proofs.Cuts.{cut_ends, cut_start, made_lengths, start_done, with_matrix}
+use Rattle.lu_serial.proofs.Grounds.{Ground, ground_of, grounded, none_on, same_ground, start_on}
+use Rattle.lu_serial.proofs.Cuts.{cut_ends, cut_start, made_lengths, start_done, with_matrix}
 
 same_place : (base : ℕ → ℕ) → ((x : ℕ) → base x ≡ 0) → (a : OpId) → placed base a ≡ a
 same_place base none a =

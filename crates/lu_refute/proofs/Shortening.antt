@@ -23,7 +23,7 @@ use Rattle.lu_serial.proofs.Opening.{Turned, step_turned, complete_not_open, sli
 use Rattle.lu_serial.proofs.SerialPaths.{here, serial_split}
 use Rattle.lu_serial.proofs.Single.{mover}
 use Rattle.lu_witness.specs.Witnesses.{IsMember}
-use Rattle.lu_refute.specs.Whole.{IsQuiet, EndsWhole, IsSeriallyWhole, made_calls}
+use Rattle.lu_serial.specs.Whole.{IsQuiet, EndsWhole, IsSeriallyWhole, made_calls}
 use Rattle.lu_refute.specs.Answers.{IsShortest}
 use Rattle.lu_refute.specs.Walks.{EndsOutside, IsShortestOver}
 

@@ -19,10 +19,10 @@ use Rattle.lu_history.proofs.PartEntries.{ltb_false}
 use Rattle.lu_serial.specs.Serial.{HasOpen, IsByOpen, entries_of, stuck_of}
 use Rattle.lu_serial.proofs.Opening.{same_or_not}
 use Rattle.lu_witness.specs.Witnesses.{entries, IsEntryAt}
-use Rattle.lu_refute.specs.Whole.{IsQuiet}
-use Rattle.lu_refute.proofs.Moves.{Stepped, step_stepped, open_busy, done_of, done_at, done_same, done_more, done_others}
-use Rattle.lu_refute.proofs.Serially.{LeadsSerially}
-use Rattle.lu_refute.proofs.Ops.{open_before}
+use Rattle.lu_serial.specs.Whole.{IsQuiet}
+use Rattle.lu_serial.proofs.Moves.{Stepped, step_stepped, open_busy, done_of, done_at, done_same, done_more, done_others}
+use Rattle.lu_serial.proofs.Serially.{LeadsSerially}
+use Rattle.lu_serial.proofs.Ops.{open_before}
 use Rattle.lu_refute.proofs.SameOrder.{more_of, more_here, more_other, after_op, entries_more, entry_ahead}
 
 -- the entries of a serial history, with `Stuck` for the open operation

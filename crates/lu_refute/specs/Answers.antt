@@ -18,7 +18,7 @@ pub use Rattle.lu_report.specs.Parts.{IsFailure}
 use Rattle.lu_refute.specs.declared.fault.RefuteFault.{RefuteFault}
 use Rattle.lu_refute.specs.declared.fault.RefuteFault.TheVariants.{NotShown, Memory}
 use Rattle.lu_refute.specs.Linearizable.{Refutes}
-use Rattle.lu_refute.specs.Whole.{IsSeriallyWhole, made_calls}
+use Rattle.lu_serial.specs.Whole.{IsSeriallyWhole, made_calls}
 
 -- v is the shortest beginning of w that ends with a whole entry and whose entries are no member
 pub record IsShortest (s : State) (members : List (List SerialOp)) (w v : List Move) : Type 0 where

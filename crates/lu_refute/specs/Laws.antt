@@ -17,8 +17,9 @@ use Rattle.lu_report.specs.declared.report.Finding.{Finding}
 use Rattle.lu_report.specs.declared.report.Report.{Report}
 use Rattle.lu_replay.specs.Reports.{IsReport}
 use Rattle.lu_spec.specs.Specs.{AreOf, FitsMatrix, IsSpec}
-use Rattle.lu_refute.specs.Linearizable.{AreLengths, IsCounterexample, IsCutOf, IsLinearizable, Refutes}
-use Rattle.lu_refute.specs.Whole.{IsSeriallyWhole, made_calls}
+use Rattle.lu_serial.specs.Cuts.{AreLengths, IsCutOf}
+use Rattle.lu_refute.specs.Linearizable.{IsCounterexample, IsLinearizable, Refutes}
+use Rattle.lu_serial.specs.Whole.{IsSeriallyWhole, made_calls}
 use Rattle.lu_refute.specs.Answers.{IsAnswer, IsAnswerTo, IsConfirmedFailure, IsFailure}
 
 -- a specification of the matrix

@@ -1,5 +1,4 @@
 pub mod Linearizable
-pub mod Whole
 pub mod Answers
 pub mod Codes
 pub mod Laws

@@ -1,26 +1,17 @@
 -- Linearizability of a component's operations on a matrix (Herlihy and Wing, 1990), for schedules
 -- that are stuck too (Burckhardt, Dern, Musuvathi and Tan, 2010).
-use Rattle.std.specs.Prelude.{◌≡◌, ℕ, ◌≤◌, List, length}
-use Rattle.std.specs.List.{AllZip}
+use Rattle.std.specs.Prelude.{List}
 use Rattle.lu_component.specs.Component.{Component}
 use Rattle.lu_test.specs.declared.schedule.Move.{Move}
-use Rattle.lu_test.specs.Matrix.{Matrix, cut}
+use Rattle.lu_test.specs.Matrix.{Matrix}
 use Rattle.lu_machine.specs.States.{State}
 use Rattle.lu_machine.specs.Starts.{IsStart}
 use Rattle.lu_machine.specs.Ends.{IsEnded}
 use Rattle.lu_machine.specs.Schedules.{Reaches}
 use Rattle.lu_history.specs.declared.serial.SerialOp.{SerialOp}
+use Rattle.lu_serial.specs.Cuts.{IsCutOf}
 use Rattle.lu_witness.specs.Witnesses.{IsMember}
 use Rattle.lu_witness.specs.Goodness.{IsGoodAt}
-
--- a length of each thread, at most its number of calls
-abbrev pub AreLengths : Matrix → List ℕ → Type 0
-AreLengths matrix lengths = AllZip (λ calls n. n ≤ length calls) matrix.threads lengths
-
--- the smaller matrix has of each thread some of its first calls, and no others
-abbrev pub IsCutOf : Matrix → Matrix → Type 0
-IsCutOf matrix smaller =
-    (lengths : List ℕ) × AreLengths matrix lengths × (smaller ≡ cut matrix lengths)
 
 -- each ended schedule of each cut of the matrix, of any length, is good for the set
 abbrev pub IsLinearizable : Component → Matrix → (List SerialOp → Type 0) → Type 0

@@ -17,7 +17,7 @@ use Rattle.lu_report.specs.declared.report.Finding.{Finding}
 use Rattle.lu_report.specs.declared.report.Report.{Report}
 use Rattle.lu_report.specs.declared.report.Finding.TheVariants.{SerialCut, Nondeterministic, Fail, Pass}
 use Rattle.lu_refute.specs.declared.shortest.Walk.{Walk}
-use Rattle.lu_refute.specs.Whole.{IsQuiet, made_calls}
+use Rattle.lu_serial.specs.Whole.{IsQuiet, made_calls}
 use Rattle.lu_refute.specs.Linearizable.{Refutes}
 use Rattle.lu_refute.specs.Answers.{IsAnswerWith, IsOutsideAnswer, IsShortest}
 

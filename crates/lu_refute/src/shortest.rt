@@ -4,7 +4,7 @@ ghost use Rattle.std.specs.Prelude.{◌≡◌, [], IfOk, OnOk};
 ghost use Rattle.lu_machine.specs.Steps.{IsFeasible};
 ghost use Rattle.lu_machine.specs.Tests.{IsStartOf};
 ghost use Rattle.lu_witness.specs.Witnesses.{IsMember};
-ghost use Rattle.lu_refute.specs.Whole.{made_calls};
+ghost use Rattle.lu_serial.specs.Whole.{made_calls};
 ghost use Rattle.lu_refute.specs.Walks.{EndsOutside, IsBeforeAnyReturn, IsFurther, IsOutsideOf, IsShortestOf, IsStop};
 
 use lu_history::{SerialOp, SerialOutcome};

@@ -22,10 +22,11 @@ use Rattle.lu_history.specs.declared.serial.SerialOutcome.{SerialOutcome}
 use Rattle.lu_history.specs.Histories.{IsWellFormed}
 use Rattle.lu_history.specs.Standing.{Agree}
 use Rattle.lu_history.proofs.Following.{start_agrees, step_agrees}
-use Rattle.lu_serial.specs.declared.learning.Learnt.{Learnt}
-use Rattle.lu_serial.specs.declared.learning.Learnt.TheVariants.{Set, Cut, Conflict}
+use Rattle.lu_serial_graph.specs.declared.learning.LearntGraph.{LearntGraph}
+use Rattle.lu_serial_graph.specs.declared.learning.LearntGraph.TheVariants.{Set, Cut, Conflict}
+use Rattle.lu_serial_graph.specs.Learning.{IsLearntGraph}
 use Rattle.lu_serial.specs.Serial.{IsSerialHistory}
-use Rattle.lu_serial.specs.Offences.{IsSetOf, IsOffence, IsFirstCut, IsFirstConflict, IsLearnt}
+use Rattle.lu_serial.specs.Offences.{IsSetOf, IsOffence, IsFirstCut, IsFirstConflict}
 use Rattle.lu_witness.specs.declared.judgement.Why.{Why}
 use Rattle.lu_witness.specs.declared.judgement.Why.TheVariants.{Complete, Stuck}
 use Rattle.lu_witness.specs.declared.judgement.Verdict.{Verdict}
@@ -59,13 +60,13 @@ agrees_along s (m ∷ u) end h k agree p =
 -- ---- what was learnt is the one thing that can be
 
 module _ {A : Type 0} (c : Component) (matrix : Matrix) (s : State) (is : IsStart c matrix s) (most : ℕ) where
-  pub learnt_cut : (l : Learnt A) (u : List Move) → IsLearnt s most l → IsFirstCut s most u → l ≡ Cut u
-  learnt_cut (Set members) u x y = absurd (x.none u y.0.kind)
+  pub learnt_cut : (l : LearntGraph A) (u : List Move) → IsLearntGraph s most l → IsFirstCut s most u → l ≡ Cut u
+  learnt_cut (Set graph) u x y = absurd (x.none u y.0.kind)
   learnt_cut (Cut v) u x y = ap Cut (least_same (IsOffence s most) v u x.0 y.0)
   learnt_cut (Conflict v i o) u x y = absurd (cut_no_conflict c matrix s is most u v i o y x)
 
-  pub learnt_conflict : (l : Learnt A) (u : List Move) (i : ℕ) (o : SerialOutcome) → IsLearnt s most l → IsFirstConflict s most u i o → l ≡ Conflict u i o
-  learnt_conflict (Set members) u i o x y = absurd (x.none u y.0.kind)
+  pub learnt_conflict : (l : LearntGraph A) (u : List Move) (i : ℕ) (o : SerialOutcome) → IsLearntGraph s most l → IsFirstConflict s most u i o → l ≡ Conflict u i o
+  learnt_conflict (Set graph) u i o x y = absurd (x.none u y.0.kind)
   learnt_conflict (Cut v) u i o x y = absurd (cut_no_conflict c matrix s is most v u i o x y)
   learnt_conflict (Conflict v j p) u i o x y = let same = conflict_same c matrix s is most v u j i p o x y in let a = same.0 in let b = same.1 in let d = same.2 in cc
 

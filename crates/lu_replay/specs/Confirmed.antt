@@ -11,8 +11,9 @@ use Rattle.lu_machine.specs.Starts.{FromEachStart}
 use Rattle.lu_machine.specs.Tests.{FromEachStartOf, IsStartOf}
 use Rattle.lu_history.specs.declared.serial.SerialOp.{SerialOp}
 use Rattle.lu_serial.specs.Serial.{IsSerialHistory}
-use Rattle.lu_serial.specs.Offences.{NoOffence, IsFirstCut, IsFirstConflict, IsLearnt}
-use Rattle.lu_serial.specs.declared.learning.Learnt.{Learnt}
+use Rattle.lu_serial.specs.Offences.{NoOffence, IsFirstCut, IsFirstConflict}
+use Rattle.lu_serial_graph.specs.declared.learning.LearntGraph.{LearntGraph}
+use Rattle.lu_serial_graph.specs.Learning.{IsLearntGraph}
 use Rattle.lu_witness.specs.declared.judgement.Verdict.{Verdict}
 use Rattle.lu_witness.specs.declared.judgement.Verdict.TheVariants.{NoWitness, NoWitnessFor}
 use Rattle.lu_witness.specs.declared.judgement.Why.{Why}
@@ -85,9 +86,9 @@ SaysBad test members claim result =
     FromEachStartOf test (λ s. SaysWhether result (IsBadAs (IsMember members) s claim))
 
 -- whether the finding is shown, where the serial runs came to this
-abbrev pub SaysShown : {A E : Type 0} → Test → Learnt A → ℕ → Finding → Result Bool E → Type 0
+abbrev pub SaysShown : {A E : Type 0} → Test → LearntGraph A → ℕ → Finding → Result Bool E → Type 0
 SaysShown test learnt bound f result =
-    (s : State) (serial : ℕ) → IsStartOf test s → IsLearnt s serial learnt
+    (s : State) (serial : ℕ) → IsStartOf test s → IsLearntGraph s serial learnt
     → SaysWhether result (IsShown s bound serial f)
 
 -- whether what the report says is shown, with this bound of serial runs

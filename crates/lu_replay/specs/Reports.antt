@@ -8,6 +8,8 @@ use Rattle.lu_history.specs.declared.serial.SerialOp.{SerialOp}
 use Rattle.lu_serial.specs.Serial.{IsSerialHistory}
 use Rattle.lu_serial.specs.Offences.{NoOffence, IsFirstCut, IsFirstConflict, IsLearnt, IsSetOf}
 use Rattle.lu_serial.specs.declared.learning.Learnt.{Learnt}
+use Rattle.lu_serial_graph.specs.declared.learning.LearntGraph.{LearntGraph}
+use Rattle.lu_serial_graph.specs.Learning.{IsLearntGraph}
 use Rattle.lu_witness.specs.Goodness.{IsFirstBad, AreAllGood, Any}
 use Rattle.lu_report.specs.declared.report.Finding.{Finding}
 use Rattle.lu_report.specs.declared.report.Finding.TheVariants.{SerialCut, Nondeterministic, Fail, Pass}
@@ -32,6 +34,14 @@ IsLearntSet learnt set = (s : State) (serial : ℕ) → IsLearnt s serial learnt
 abbrev pub IsLearntOffence : {A : Type 0} → Learnt A → Finding → Type 0
 IsLearntOffence learnt finding =
     (s : State) (bound serial : ℕ) → IsLearnt s serial learnt → IsFinding s bound serial finding
+
+-- the same where the set is a graph
+abbrev pub IsGraphSet : {A : Type 0} → LearntGraph A → List (List SerialOp) → Type 0
+IsGraphSet learnt set = (s : State) (serial : ℕ) → IsLearntGraph s serial learnt → IsSetOf s serial set
+
+abbrev pub IsGraphOffence : {A : Type 0} → LearntGraph A → Finding → Type 0
+IsGraphOffence learnt finding =
+    (s : State) (bound serial : ℕ) → IsLearntGraph s serial learnt → IsFinding s bound serial finding
 
 -- r is the report of the component and the matrix with these bounds; it says how many of the
 -- component's local instructions run with one move

@@ -2,7 +2,7 @@
 
 ghost use Rattle.std.specs.Prelude.{◌≡◌, ◌↔◌, IsTrue};
 ghost use Rattle.lu_machine.specs.Starts.{CanRun};
-ghost use Rattle.lu_serial.specs.declared.learning.Learnt.TheVariants.{Cut, Conflict};
+ghost use Rattle.lu_serial_graph.specs.declared.learning.LearntGraph.TheVariants.{Cut, Conflict};
 ghost use Rattle.lu_report.specs.Limits.{IsSerialBound};
 ghost use Rattle.lu_replay.specs.Confirmed.{IsConfirmed, IsReason, SaysBad, SaysConfirmedAgainst, SaysShown, SaysShownBy, SaysShownWith, SaysWhether};
 
@@ -12,7 +12,7 @@ use lu_component::Component;
 use lu_history::SerialOutcome;
 use lu_machine::{Status, Test};
 use lu_report::{Finding, Report};
-use lu_serial::{Learnt, learn};
+use lu_serial_graph::{LearntGraph, learn_graph};
 use lu_test::{Matrix, Schedule};
 use lu_trie::SerialTree;
 use lu_witness::{Verdict, Why, verdict};
@@ -25,19 +25,19 @@ fn is_same(schedule: &Schedule, other: &Schedule) -> bool
 }
 
 /// Whether the least serial offence is this schedule, which is cut.
-fn is_cut(learnt: &Learnt<Global>, schedule: &Schedule) -> bool
+fn is_cut(learnt: &LearntGraph<Global>, schedule: &Schedule) -> bool
     ensures { IsTrue result ↔ (learnt.now ≡ Cut schedule.now) }
 {
     match learnt {
-        Learnt::Set(_) => false,
-        Learnt::Cut(least) => is_same(least, schedule),
-        Learnt::Conflict { .. } => false,
+        LearntGraph::Set(_) => false,
+        LearntGraph::Cut(least) => is_same(least, schedule),
+        LearntGraph::Conflict { .. } => false,
     }
 }
 
 /// Whether the least serial offence is this schedule, with this conflict.
 fn is_conflict(
-    learnt: &Learnt<Global>,
+    learnt: &LearntGraph<Global>,
     schedule: &Schedule,
     before: usize,
     earlier: SerialOutcome,
@@ -45,9 +45,9 @@ fn is_conflict(
     ensures { IsTrue result ↔ (learnt.now ≡ Conflict schedule.now before earlier) }
 {
     match learnt {
-        Learnt::Set(_) => false,
-        Learnt::Cut(_) => false,
-        Learnt::Conflict {
+        LearntGraph::Set(_) => false,
+        LearntGraph::Cut(_) => false,
+        LearntGraph::Conflict {
             schedule: least,
             before: agreed,
             earlier: outcome,
@@ -102,7 +102,7 @@ fn is_shown(
     alloc: Global,
     test: Test<'_>,
     bound: u16,
-    learnt: &Learnt<Global>,
+    learnt: &LearntGraph<Global>,
     finding: &Finding,
 ) -> Result<bool, AllocError>
     ensures { SaysShown test.entry learnt.now bound finding.now result }
@@ -115,17 +115,17 @@ fn is_shown(
             earlier,
         } => Ok(is_conflict(learnt, schedule, *before, *earlier)),
         Finding::Fail { schedule, why } => match learnt {
-            Learnt::Set(set) => {
+            LearntGraph::Set(graph) => {
                 let why = *why;
                 let claim = Claim {
                     bound,
                     schedule,
                     why,
                 };
-                holds(alloc, test, &set, claim)
+                holds(alloc, test, &graph, claim)
             }
-            Learnt::Cut(_) => Ok(false),
-            Learnt::Conflict { .. } => Ok(false),
+            LearntGraph::Cut(_) => Ok(false),
+            LearntGraph::Conflict { .. } => Ok(false),
         },
         Finding::Pass(_) => Ok(false),
     }
@@ -139,7 +139,7 @@ fn shows(alloc: Global, test: Test<'_>, report: &Report, serial: u16) -> Result<
     if let Finding::Pass(_) = report.finding() {
         return Ok(false);
     }
-    let learnt = learn(alloc, alloc, test.component, test.matrix, serial)?;
+    let learnt = learn_graph(alloc, alloc, test.component, test.matrix, serial)?;
     let bound = report.bound();
     is_shown(alloc, test, bound, &learnt, report.finding())
 }

@@ -7,6 +7,8 @@ mod caches;
 #[cfg(test)]
 mod countings;
 #[cfg(test)]
+mod graphs;
+#[cfg(test)]
 mod serial_runs;
 #[cfg(test)]
 mod trails;

@@ -7,3 +7,10 @@ pub mod Learned
 pub mod Turns
 pub mod Seeking
 pub mod Short
+pub mod Moves
+pub mod Grounds
+pub mod Serially
+pub mod Ops
+pub mod Counts
+pub mod Cuts
+pub mod Made

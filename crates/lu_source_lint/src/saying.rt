@@ -62,62 +62,171 @@ fn name_words(alloc: Global, above: &[&[u8]], words: &[&[u8]]) -> Result<String,
     };
     let (_, rest) = words.split_at(read.min(words.len()));
     if let Some(name) = unknown_among(alloc, above, rest)? {
-        let name = shown(name);
-        return format!(in alloc;
-            "{name} is not declared above: declare it, or write a name that is"
-        );
+        let said = shown(name);
+        if word_is(words, 0, name) && word_is(words, 1, b"=") {
+            return format!(in alloc;
+                "cannot find `{said}` in this scope; help: declare it with `let {said} = ..`"
+            );
+        }
+        return format!(in alloc; "cannot find `{said}` in this scope");
     }
     match words.get(1) {
         Some(name) if declares(words) => {
             let name = shown(name);
-            format!(in alloc; "{name} means something already here: choose another name")
+            format!(in alloc; "`{name}` is already declared; help: choose another name")
         }
         _ => String::from_str(
             alloc,
-            "a name here means nothing, or something else: declare it above, or write another one",
+            "a name in this line is not declared, or is not what the line needs",
         ),
     }
+}
+
+/// Words and signs of other languages, and what sources have in their place.
+const FOREIGN: [(&str, &str); 17] = [
+    (";", "unexpected `;`; help: a statement ends with its line"),
+    (
+        "%",
+        "`%` is not an operator of sources; help: subtract in a loop",
+    ),
+    (
+        "&",
+        "`&` is not an operator of sources; help: `&&` is the logical one",
+    ),
+    (
+        "|",
+        "`|` is not an operator of sources; help: `||` is the logical one",
+    ),
+    ("^", "`^` is not an operator of sources"),
+    (
+        "mut",
+        "unexpected `mut`; help: a local may always be assigned, so write `let NAME = EXPR`",
+    ),
+    (
+        "fn",
+        "expected an operation, found `fn`; help: write `op NAME(A, B) {`",
+    ),
+    ("for", "there is no `for` loop; help: write `while EXPR {`"),
+    (
+        "match",
+        "there is no `match`; help: write `if EXPR {` and `} else if EXPR {`",
+    ),
+    (
+        "struct",
+        "there is no `struct`; help: declare each shared field as a `word`",
+    ),
+    (
+        "fetch_add",
+        "there is no `fetch_add`; help: try `cas(CELL, OLD, OLD + N)` in a loop",
+    ),
+    (
+        "fetch_sub",
+        "there is no `fetch_sub`; help: try `cas(CELL, OLD, OLD - N)` in a loop",
+    ),
+    (
+        "swap",
+        "there is no `swap`; help: try `cas(CELL, OLD, NEW)` in a loop",
+    ),
+    (
+        "compare_exchange",
+        "there is no `compare_exchange`; help: write `cas(CELL, OLD, NEW)`",
+    ),
+    (
+        "assert",
+        "there is no `assert`; help: return a value that no serial run returns",
+    ),
+    ("true", "there is no `true`; help: write 1"),
+    ("false", "there is no `false`; help: write 0"),
+];
+
+/// Two signs of other languages that stand side by side, and what sources have in their place.
+const FOREIGN_PAIRS: [(&str, &str, &str); 7] = [
+    ("/", "/", "a comment begins with `#`, not with `//`"),
+    (
+        "<",
+        "<",
+        "`<<` is not an operator of sources; help: multiply by a power of two",
+    ),
+    (">", ">", "`>>` is not an operator of sources"),
+    (
+        "+",
+        "=",
+        "`+=` is not an operator of sources; help: write `NAME = NAME + EXPR`",
+    ),
+    (
+        "-",
+        "=",
+        "`-=` is not an operator of sources; help: write `NAME = NAME - EXPR`",
+    ),
+    (
+        "=",
+        "-",
+        "a number has no sign; help: write `0 - N`, which is taken modulo 2^32",
+    ),
+    (
+        "return",
+        "-",
+        "a number has no sign; help: write `0 - N`, which is taken modulo 2^32",
+    ),
+];
+
+/// What to write in place of a word or sign of another language, where one of these is one.
+fn foreign_words(words: &[&[u8]]) -> Option<&'static str> {
+    for (first, second, help) in &FOREIGN_PAIRS {
+        if words.windows(2).any(|pair| word_is(pair, 0, first.as_bytes())
+            && word_is(pair, 1, second.as_bytes()))
+        {
+            return Some(*help);
+        }
+    }
+    for (word, help) in &FOREIGN {
+        if words.iter().any(|other| *other == word.as_bytes()) {
+            return Some(*help);
+        }
+    }
+    None
 }
 
 /// A word that begins a line, and how such a line looks.
 const FORMS: [(&str, &str); 17] = [
     ("let", "`let NAME = EXPR`"),
-    ("const", "`const NAME = N`, outside of operations"),
+    ("const", "`const NAME = N` outside of operations"),
     (
         "word",
-        "`word NAME`, `word NAME = N`, `word NAME[LEN]` or `word NAME[LEN] = N`, outside of operations",
+        "`word NAME`, `word NAME = N`, `word NAME[LEN]` or `word NAME[LEN] = N` outside of operations",
     ),
     ("lock", "`lock NAME`"),
-    ("unlock", "`unlock NAME`, in an operation"),
+    ("unlock", "`unlock NAME` in an operation"),
     ("local", "`local N`, once, before the first operation"),
     ("object", "`object NAME`, once, as the first line"),
-    ("op", "`op NAME(A, B) {`, where no operation is open"),
+    ("op", "`op NAME(A, B) {` outside of operations"),
     ("if", "`if EXPR {`"),
     ("while", "`while EXPR {`"),
     ("loop", "`loop {`"),
     (
         "}",
-        "`}`, or behind an `if` `} else {` or `} else if EXPR {`, where a block is open",
+        "`}`, or after an `if` `} else {` or `} else if EXPR {`",
     ),
-    ("return", "`return` or `return EXPR`, in an operation"),
+    ("return", "`return` or `return EXPR` in an operation"),
     ("await", "`await CELL == EXPR` or `await CELL != EXPR`"),
     ("cas", "`cas(CELL, OLD, NEW)`"),
-    ("break", "`break`, by itself"),
-    ("continue", "`continue`, by itself"),
+    ("break", "`break` alone on its line"),
+    ("continue", "`continue` alone on its line"),
 ];
 
-/// How a line looks that begins with this word.
+/// What is expected in place of a line that has no form of a source.
 fn form_words(alloc: Global, words: &[&[u8]]) -> Result<String, AllocError> {
+    if let Some(foreign) = foreign_words(words) {
+        return String::from_str(alloc, foreign);
+    }
     let form = FORMS
         .iter()
         .find(|(word, _)| word_is(words, 0, word.as_bytes()))
         .map_or(
-            "`NAME = EXPR` or `NAME[EXPR] = EXPR` in an operation, and outside of them a declaration",
+            "`NAME = EXPR` or `NAME[EXPR] = EXPR` in an operation, or a declaration outside of one",
             |(_, looks)| *looks,
         );
-    format!(in alloc;
-        "a word or a sign stands here that does not belong here, or one is left out: write {form}"
-    )
+    format!(in alloc; "expected {form}")
 }
 
 /// A word of digits that is no number.
@@ -127,12 +236,12 @@ fn number_words(alloc: Global, words: &[&[u8]]) -> Result<String, AllocError> {
     match large {
         None => String::from_str(
             alloc,
-            "a value is wanted where another word stands: a number up to 4294967295, or a name",
+            "expected an expression: a number (0 to 4294967295) or a name",
         ),
         Some(word) => {
             let word = shown(word);
             format!(in alloc;
-                "{word} is no number up to 4294967295: write one, or the name of a constant"
+                "invalid number `{word}`; expected 0 to 4294967295, or the name of a constant"
             )
         }
     }
@@ -141,30 +250,30 @@ fn number_words(alloc: Global, words: &[&[u8]]) -> Result<String, AllocError> {
 /// The limit that a line passes, by its first word.
 fn limit_words(words: &[&[u8]]) -> &'static str {
     if words.len() > 256 {
-        "a line has at most 256 words"
+        "too many words in this line; at most 256 are allowed"
     } else if word_is(words, 0, b"word") {
-        "there are at most 16 shared words, of 1 to 64 cells, and names of at most 32 bytes"
+        "too many shared words (at most 16), an array length out of range (1 to 64), or a name over 32 bytes"
     } else if word_is(words, 0, b"lock") {
-        "there are at most 8 locks, and names of at most 32 bytes"
+        "too many locks (at most 8), or a name over 32 bytes"
     } else if word_is(words, 0, b"local") {
-        "`local` takes 0 to 16"
+        "`local` is out of range (0 to 16)"
     } else if word_is(words, 0, b"op") {
-        "there are at most 16 operations, with at most 4 arguments, and names of at most 32 bytes"
+        "too many operations (at most 16) or arguments (at most 4), or a name over 32 bytes"
     } else if word_is(words, 0, b"}") {
-        "the operation has more than 64 instructions: make two of it, or leave something out"
+        "this operation needs more than 64 instructions; help: split it, or leave something out"
     } else {
-        "a limit is passed: `pick` takes 1 to 8, blocks stand 16 deep, an operation has 256 lines, and a name 32 bytes"
+        "limit exceeded: `pick` takes 1 to 8, blocks nest 16 deep, an operation has 256 lines, and a name has 32 bytes"
     }
 }
 
-/// Why a line can't stand where it stands, by its first word.
+/// Why a line is not allowed at its place, by its first word.
 fn flow_words(words: &[&[u8]]) -> &'static str {
     if word_is(words, 0, b"break") || word_is(words, 0, b"continue") {
-        "no loop stands around this line, or nothing comes to it: put it into one, or leave it out"
+        "`break` or `continue` outside of a loop, or after a statement that leaves the block"
     } else if word_is(words, 0, b"await") {
-        "an `await` reads its cell alone: give other cells that it reads to locals before"
+        "`await` may read only its own cell; help: read other cells into locals first"
     } else {
-        "nothing comes to this line: a `return`, `break`, `continue` or a loop without `break` stands above it in its block"
+        "unreachable statement; a `return`, `break`, `continue` or a loop without `break` comes before it in its block"
     }
 }
 
@@ -177,14 +286,13 @@ fn fault_words(
 ) -> Result<String, AllocError> {
     let text = match kind {
         SourceFaultKind::Byte =>
-            "a byte stands here that no source has: only printed ASCII, tab and CR may, in comments too",
-        SourceFaultKind::Missing =>
-            "a source begins with `object NAME`: write that line before this one",
+            "invalid byte; only printable ASCII, tabs and carriage returns are allowed, also in comments",
+        SourceFaultKind::Missing => "expected `object NAME` first",
         SourceFaultKind::Form => return form_words(alloc, words),
         SourceFaultKind::Number => return number_words(alloc, words),
         SourceFaultKind::Limit => limit_words(words),
         SourceFaultKind::Registers =>
-            "the locals in scope and what is needed in between are more than 8 registers: end a block before, or write two lines",
+            "too many registers: the locals in scope and intermediate results need more than 8; help: end a block earlier, or split the line",
         SourceFaultKind::Flow => flow_words(words),
         SourceFaultKind::Name => return name_words(alloc, above, words),
     };
@@ -193,17 +301,13 @@ fn fault_words(
 
 /// What is odd about a line with these words.
 fn warning_words(alloc: Global, warning: Warning, words: &[&[u8]]) -> Result<String, AllocError> {
-    let name = words.get(1).map_or("it", |name| shown(name));
+    let name = words.get(1).map_or("?", |name| shown(name));
     match warning {
-        Warning::UnusedLocal => {
-            format!(in alloc; "nothing reads the local {name}: leave it out, or read it")
-        }
-        Warning::UnusedWord => {
-            format!(in alloc; "nothing reads the shared word {name}: leave it out, or read it")
-        }
+        Warning::UnusedLocal => { format!(in alloc; "local `{name}` is never read") }
+        Warning::UnusedWord => { format!(in alloc; "shared word `{name}` is never read") }
         Warning::EndlessLoop => String::from_str(
             alloc,
-            "this loop does not end, and others see nothing of it: it has no `break`, `return`, lock or shared word",
+            "this loop never ends, and no other thread sees it; help: it has no `break`, no `return`, no lock and no shared word",
         ),
     }
 }
@@ -222,7 +326,7 @@ pub fn wording(
     let Some(line) = lines.get(index) else {
         return String::from_str(
             alloc,
-            "the text ends here: no `object NAME` begins it, or its last operation is open; close that with `}`",
+            "unexpected end of the text; help: begin with `object NAME`, and close each operation with `}`",
         );
     };
     let (above, _) = lines.split_at(index);

@@ -10,13 +10,14 @@ use Rattle.lu_text.specs.Words.{Word}
 use Rattle.lu_text.proofs.Reading.{text_more}
 use Rattle.lu_test.specs.Matrix.{Matrix}
 use Rattle.lu_spec.specs.declared.fault.SpecLineFault.{SpecLineFault}
+use Rattle.lu_spec.specs.declared.given.Marks.{Marks}
 use Rattle.lu_spec.specs.declared.free.FreeDraft.{FreeDraft}
 use Rattle.lu_spec.specs.declared.marked_line.MarkedOp.{MarkedOp}
 use Rattle.lu_spec.specs.Collecting.{has_begun, listing_from, listing_lines, lists}
 use Rattle.lu_spec.specs.EveryFault.{AreSpecFaults}
 use Rattle.lu_spec.specs.EveryFreeFault.{AreFreeFaults, AreFreeFaultsFrom, AreGivenFaults, IsGivenListedAsRead, JudgesFreely, ListsFreely}
 use Rattle.lu_spec.specs.FirmEnds.{AddsFreely, CollectsFreely, IsOneMoreFree, ListsTheSame, RefusesFreely, RefusesSome}
-use Rattle.lu_spec.specs.FreeSpecs.{AreFirmlyApart, AreListedFreely, HasFirmConflictIn, IsFreeFault, has_free_entries}
+use Rattle.lu_spec.specs.FreeSpecs.{AreFirmlyApart, AreListedFreely, HasFirmConflictIn, IsFreeFault, is_marked}
 use Rattle.lu_spec.specs.Laws.{IsListedAsRead}
 use Rattle.lu_spec.proofs.FaultLines.{listed_as_read}
 use Rattle.lu_spec.proofs.FirmSets.{AreKeptOf, conflict_from, kept_more, none_kept, refused_from}
@@ -131,17 +132,17 @@ told_from matrix text (line ∷ lines) before listed faults parts are (Some faul
       fault = judged.1;
     })
 
-pub given_told : (matrix : Matrix) (text : List ℕ) (faults : List SpecLineFault) → AreGivenFaults matrix text faults → IsGivenListedAsRead matrix text faults
-given_told matrix text faults are = go (has_free_entries text) refl faults are
+pub given_told : (marks : Marks) (matrix : Matrix) (text : List ℕ) (faults : List SpecLineFault) → AreGivenFaults marks matrix text faults → IsGivenListedAsRead marks matrix text faults
+given_told marks matrix text faults are = go (is_marked marks text) refl faults are
   where
-    free : (f : List SpecLineFault) → has_free_entries text ≡ true → FreelyTold matrix text f → IsGivenListedAsRead matrix text f
+    free : (f : List SpecLineFault) → is_marked marks text ≡ true → FreelyTold matrix text f → IsGivenListedAsRead marks matrix text f
     free [] e told = rw e told
     free (first ∷ others) e told = rw e told
 
-    plain : (f : List SpecLineFault) → has_free_entries text ≡ false → IsListedAsRead matrix text f → IsGivenListedAsRead matrix text f
+    plain : (f : List SpecLineFault) → is_marked marks text ≡ false → IsListedAsRead matrix text f → IsGivenListedAsRead marks matrix text f
     plain [] e told = rw e told
     plain (first ∷ others) e told = rw e told
 
-    go : (b : Bool) → has_free_entries text ≡ b → (f : List SpecLineFault) → MatchBool b (AreFreeFaults matrix text f) (AreSpecFaults matrix text f) → IsGivenListedAsRead matrix text f
+    go : (b : Bool) → is_marked marks text ≡ b → (f : List SpecLineFault) → MatchBool b (AreFreeFaults matrix text f) (AreSpecFaults matrix text f) → IsGivenListedAsRead marks matrix text f
     go true e f told = free f e (told_from matrix text (listing_lines text) [] [] f refl (record { say = tt; apart = λ q among. absurd (omega (arith, among.1)) }) told)
     go false e f told = plain f e (listed_as_read matrix text f told)

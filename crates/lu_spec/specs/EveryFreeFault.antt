@@ -5,13 +5,14 @@ use Rattle.lu_text.specs.declared.fault.Fault.TheVariants.{At}
 use Rattle.lu_text.specs.Words.{Word}
 use Rattle.lu_history.specs.declared.serial.SerialOp.{SerialOp}
 use Rattle.lu_test.specs.Matrix.{Matrix}
+use Rattle.lu_spec.specs.declared.given.Marks.{Marks}
 use Rattle.lu_spec.specs.declared.fault.SpecLineFault.{SpecLineFault}
 use Rattle.lu_spec.specs.declared.free.FreeDraft.{FreeDraft}
 use Rattle.lu_spec.specs.declared.marked_line.MarkedOp.{MarkedOp}
 use Rattle.lu_spec.specs.Collecting.{has_begun, listing_lines}
 use Rattle.lu_spec.specs.EveryFault.{AreSpecFaults}
 use Rattle.lu_spec.specs.FirmEnds.{CollectsFreely, ListsTheSame, RefusesFreely}
-use Rattle.lu_spec.specs.FreeSpecs.{AreListedFreely, HasFirmConflictIn, IsFaultOfFree, IsGivenFault, has_free_entries}
+use Rattle.lu_spec.specs.FreeSpecs.{AreListedFreely, HasFirmConflictIn, IsFaultOfFree, IsGivenFault, is_marked}
 use Rattle.lu_spec.specs.MarkedEntries.{SayMarked, erased}
 use Rattle.lu_spec.specs.Specs.{FitsMatrix}
 use Rattle.lu_spec.specs.SpecText.{AreListed, spec_text}
@@ -49,9 +50,10 @@ AreFreeFaults matrix text faults = AreFreeFaultsFrom matrix [] (listing_lines te
 
 -- ---- texts with marks and without
 
-abbrev pub AreGivenFaults : Matrix → List ℕ → List SpecLineFault → Type 0
-AreGivenFaults matrix text faults =
-    MatchBool (has_free_entries text) (AreFreeFaults matrix text faults)
+-- the faults of a text in which marks are allowed or refused
+abbrev pub AreGivenFaults : Marks → Matrix → List ℕ → List SpecLineFault → Type 0
+AreGivenFaults marks matrix text faults =
+    MatchBool (is_marked marks text) (AreFreeFaults matrix text faults)
     (AreSpecFaults matrix text faults)
 
 abbrev pub ListsFreely : Matrix → List ℕ → Type 0
@@ -63,21 +65,21 @@ ListsInOrder matrix text =
     (listed : List (List SerialOp)) × AreListed matrix listed × (text ≡ spec_text listed)
 
 -- the text lists histories of the matrix, as such a text does
-abbrev pub ListsGiven : Matrix → List ℕ → Type 0
-ListsGiven matrix text =
-    MatchBool (has_free_entries text) (ListsFreely matrix text) (ListsInOrder matrix text)
+abbrev pub ListsGiven : Marks → Matrix → List ℕ → Type 0
+ListsGiven marks matrix text =
+    MatchBool (is_marked marks text) (ListsFreely matrix text) (ListsInOrder matrix text)
 
 -- Where nothing is reported of a text it lists histories of the matrix; else the first fault that
 -- is reported is the reader's.
-abbrev pub IsGivenListedAsRead : Matrix → List ℕ → List SpecLineFault → Type 0
-IsGivenListedAsRead matrix text [] = ListsGiven matrix text
-IsGivenListedAsRead matrix text (first ∷ others) =
-    IsGivenFault matrix text (At first.kind first.line)
+abbrev pub IsGivenListedAsRead : Marks → Matrix → List ℕ → List SpecLineFault → Type 0
+IsGivenListedAsRead marks matrix text [] = ListsGiven marks matrix text
+IsGivenListedAsRead marks matrix text (first ∷ others) =
+    IsGivenFault marks matrix text (At first.kind first.line)
 
 abbrev pub GivenListedAsRead : Type 0
 GivenListedAsRead =
-    (matrix : Matrix) (text : List ℕ) (faults : List SpecLineFault) →
-    AreGivenFaults matrix text faults → IsGivenListedAsRead matrix text faults
+    (marks : Marks) (matrix : Matrix) (text : List ℕ) (faults : List SpecLineFault) →
+    AreGivenFaults marks matrix text faults → IsGivenListedAsRead marks matrix text faults
 
 -- ---- one line after those of a draft
 

@@ -1,6 +1,6 @@
 -- Specifications that leave outcomes free: beside an entry with the mark `?` other outcomes of the
 -- same operation may stand.
-use Rattle.std.specs.Prelude.{◌≡◌, ℕ, Bool, ◌++◌, MatchBool, List, [], ◌∷◌, map, slice_get, Some, Contains, codes, nat_eq}
+use Rattle.std.specs.Prelude.{◌≡◌, ℕ, Bool, false, ◌++◌, MatchBool, List, [], ◌∷◌, map, slice_get, Some, Contains, codes, nat_eq}
 use Rattle.std.specs.List.{ends_with, list_any}
 use Rattle.lu_text.specs.declared.fault.Fault.{Fault}
 use Rattle.lu_text.specs.declared.fault.Fault.TheVariants.{At, Memory}
@@ -13,6 +13,8 @@ use Rattle.lu_trie.specs.Members.{AllSerial}
 use Rattle.lu_trie.specs.Conflicts.{ConflictAt}
 use Rattle.lu_spec.specs.declared.fault.SpecFaultKind.{SpecFaultKind}
 use Rattle.lu_spec.specs.declared.fault.SpecFaultKind.TheVariants.{Form, Foreign, Nondeterministic}
+use Rattle.lu_spec.specs.declared.given.Marks.{Marks}
+use Rattle.lu_spec.specs.declared.given.Marks.TheVariants.{Refused, Allowed}
 use Rattle.lu_spec.specs.declared.marked_line.MarkedOp.{MarkedOp}
 use Rattle.lu_spec.specs.Beginnings.{Has, IsClosed, IsClosureOf}
 use Rattle.lu_spec.specs.Collecting.{listing_lines}
@@ -121,15 +123,21 @@ has_mark line = have_mark (words_of line)
 abbrev pub has_free_entries : List ℕ → Bool
 has_free_entries text = list_any has_mark (lines_of text)
 
--- the text with marks lists histories in any order, and the one without is in the one spelling
-abbrev pub IsGivenAs : Matrix → List ℕ → List (List SerialOp) → Type 0
-IsGivenAs matrix text members =
-    MatchBool (has_free_entries text) (IsListedFreely matrix text members)
+-- the text has marks, and they are allowed
+abbrev pub is_marked : Marks → List ℕ → Bool
+is_marked Refused text = false
+is_marked Allowed text = has_free_entries text
+
+-- A text with marks, where they are allowed, lists histories in any order; any other text lists
+-- them in the one order that a specification has.
+abbrev pub IsGivenAs : Marks → Matrix → List ℕ → List (List SerialOp) → Type 0
+IsGivenAs marks matrix text members =
+    MatchBool (is_marked marks text) (IsListedFreely matrix text members)
     (IsReadAs matrix text members)
 
 -- the first fault of such a text, or refused memory
-abbrev pub IsGivenFault : Matrix → List ℕ → Fault SpecFaultKind → Type 0
-IsGivenFault matrix text (At kind n) =
-    MatchBool (has_free_entries text) (IsFreeFault matrix text (At kind n))
+abbrev pub IsGivenFault : Marks → Matrix → List ℕ → Fault SpecFaultKind → Type 0
+IsGivenFault marks matrix text (At kind n) =
+    MatchBool (is_marked marks text) (IsFreeFault matrix text (At kind n))
     (IsSpecFault matrix text (At kind n))
-IsGivenFault matrix text Memory = Unit {0}
+IsGivenFault marks matrix text Memory = Unit {0}

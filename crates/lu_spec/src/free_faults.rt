@@ -8,7 +8,7 @@ use crate::collecting::{has_begun, lists};
 use crate::fault::SpecLineFault;
 use crate::faults::{spec_faults, with_fault};
 use crate::free::{FreeDraft, entries_said, no_lines, with_entries};
-use crate::marked_line::has_free_entries;
+use crate::given::{Marks, is_marked};
 use lu_test::Matrix;
 use lu_text::{Fault, lines_of, words_of};
 use std::alloc::{AllocError, Global};
@@ -67,8 +67,8 @@ pub fn free_spec_faults(
     Ok(faults)
 }
 
-/// Every fault of a text that is to be read by [`crate::read_given_spec`]: of one with marks by
-/// [`free_spec_faults`], and of one without by [`crate::spec_faults`].
+/// Every fault of a text for [`crate::read_given_spec`]: where marks are allowed, those of a text
+/// with marks are found by [`free_spec_faults`]; those of any other text by [`crate::spec_faults`].
 ///
 /// # Errors
 ///
@@ -77,10 +77,11 @@ pub fn given_spec_faults(
     alloc: Global,
     matrix: &Matrix,
     text: &[u8],
+    marks: Marks,
 ) -> Result<Vec<SpecLineFault>, AllocError>
-    ensures { IfOk result (λ faults. AreGivenFaults matrix.now text.now faults.items) }
+    ensures { IfOk result (λ faults. AreGivenFaults marks matrix.now text.now faults.items) }
 {
-    if has_free_entries(alloc, text)? {
+    if is_marked(alloc, marks, text)? {
         free_spec_faults(alloc, matrix, text)
     } else {
         spec_faults(alloc, matrix, text)

@@ -37,7 +37,7 @@ pub use faults::spec_faults;
 pub use free::collect_free_spec;
 pub use free_faults::{free_spec_faults, given_spec_faults};
 pub use free_spec::FreeSpec;
-pub use given::read_given_spec;
+pub use given::{Marks, read_given_spec};
 pub use marked_line::{MarkedOp, has_free_entries};
 pub use reader::read_spec;
 pub use spec::Spec;

@@ -4,18 +4,20 @@ use std::alloc::{AllocError, Global};
 
 /// The words for a line that is nearly `---`.
 pub(crate) fn separator_wording(alloc: Global, line: &[u8]) -> Result<String, AllocError> {
-    let beside = if line.contains(&b'\r') {
-        "a CR"
+    let after = if line.contains(&b'\r') {
+        "a carriage return"
     } else {
-        "a blank"
+        "whitespace"
     };
-    format!(in alloc; "this line is --- with {beside} behind it, so it parts nothing")
+    format!(in alloc;
+        "{after} after `---`; help: parts are separated by lines that are exactly `---`"
+    )
 }
 
 /// The words for a part after the fourth.
 pub(crate) fn fifth_part_wording(alloc: Global) -> Result<String, AllocError> {
     String::from_str(
         alloc,
-        "a fifth part begins behind this line; only recorded histories may be so many",
+        "unexpected part after this line; help: only recorded histories may follow",
     )
 }

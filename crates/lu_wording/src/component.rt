@@ -1,4 +1,4 @@
-//! The words for a fault of a component's line: what stands there, and what was wanted.
+//! The words for a fault of a component's line: what was found, and what was expected.
 
 use crate::shape::{Shape, declaration, instruction, near_declaration, near_instruction};
 use crate::spelling::near;
@@ -15,7 +15,7 @@ pub(crate) fn shown(word: &[u8]) -> &str {
     }
 }
 
-/// The name for which a word may be a slip, where there is one: the end of a message asks for it.
+/// The name for which a word may be a slip, if there is one: the help at the end of a message.
 #[derive(Clone, Copy)]
 pub(crate) struct Slip<'a> {
     pub(crate) name: Option<&'a str>,
@@ -25,7 +25,7 @@ impl fmt::Display for Slip<'_> {
     fn fmt<W: fmt::Write>(&self, f: &mut fmt::Formatter<W>) -> fmt::Result {
         match self.name {
             None => Ok(()),
-            Some(name) => write!(f, "; is it {name}?"),
+            Some(name) => write!(f, "; help: a similar name exists: `{name}`"),
         }
     }
 }
@@ -48,38 +48,30 @@ pub(crate) fn unknown_byte(alloc: Global, text: &[u8]) -> Result<String, AllocEr
         .iter()
         .position(|byte| !matches!(*byte, 32..=126 | b'\t' | b'\r'))
     {
-        None => String::from_str(alloc, "a byte stands here that no text may have"),
+        None => String::from_str(alloc, "invalid byte"),
         Some(before) => {
             let byte = text[before];
             format!(in alloc;
-                "a byte {byte} stands behind {before} bytes of the line; only printed ASCII, tab and CR may, in comments too"
+                "invalid byte {byte} after {before} bytes of the line; only printable ASCII, tabs and carriage returns are allowed, also in comments"
             )
         }
     }
 }
 
-/// That this many words stand somewhere.
-fn are_words(alloc: Global, count: usize) -> Result<String, AllocError> {
-    match count {
-        0 => String::from_str(alloc, "is nothing"),
-        1 => String::from_str(alloc, "is 1 word"),
-        _ => format!(in alloc; "are {count} words"),
-    }
-}
-
+/// That another number of words follows a line's first word than its form has.
 fn count_of(alloc: Global, shape: &Shape, given: usize) -> Result<String, AllocError> {
-    let (word, takes, form) = (shape.word, shape.takes, shape.form);
-    let words = are_words(alloc, given)?;
-    format!(in alloc; "{word} takes {takes}, as in `{form}`; here {words} behind it")
+    let (word, count, form) = (shape.word, shape.count, shape.form);
+    let operands = if count == 1 { "operand" } else { "operands" };
+    format!(in alloc; "`{word}` takes {count} {operands}, found {given}; help: write `{form}`")
 }
 
 fn no_name(alloc: Global, words: &[&[u8]]) -> Result<String, AllocError> {
     match words.iter().find(|word| !has_name_form(word)) {
-        None => String::from_str(alloc, "a word here is no name"),
+        None => String::from_str(alloc, "expected a name"),
         Some(word) => {
             let word = shown(word);
             format!(in alloc;
-                "{word} is no name; a name is a letter or _, and behind it letters, digits and _"
+                "invalid name `{word}`; help: a name is a letter or `_`, followed by letters, digits or `_`"
             )
         }
     }
@@ -95,7 +87,7 @@ fn form_declaration(
     if shape.word == "component" && draft.name.is_some() {
         return String::from_str(
             alloc,
-            "component stands once, on the first line; this component has its name",
+            "`component` is given twice; the component already has a name",
         );
     }
     if rest.len() != shape.count {
@@ -103,8 +95,8 @@ fn form_declaration(
     }
     if shape.word == "local" {
         return match draft.local {
-            Some(most) => format!(in alloc; "local stands once, and it was {most} before"),
-            None => String::from_str(alloc, "local stands before the first op"),
+            Some(most) => format!(in alloc; "`local` is given twice; it was {most} before"),
+            None => String::from_str(alloc, "`local` must come before the first `op`"),
         };
     }
     no_name(alloc, rest)
@@ -115,15 +107,13 @@ fn no_declaration(alloc: Global, word: &[u8]) -> Result<String, AllocError> {
     let said = shown(word);
     if instruction(word).is_some() {
         return format!(in alloc;
-            "{said} stands inside an operation, and none is open; `op NAME ARGS` begins one"
+            "`{said}` is only allowed inside an operation; help: begin one with `op NAME ARGS`"
         );
     }
     let slip = Slip {
         name: near_declaration(word),
     };
-    format!(in alloc;
-        "{said} begins no declaration; outside an operation stand word, lock, op and local{slip}"
-    )
+    format!(in alloc; "expected `word`, `lock`, `op` or `local`, found `{said}`{slip}")
 }
 
 /// Outside an operation, a line of no form.
@@ -145,33 +135,27 @@ fn no_instruction(alloc: Global, op: &OpenOp, word: &[u8]) -> Result<String, All
     if declaration(word).is_some() {
         let name = op.name.as_str();
         return format!(in alloc;
-            "{said} stands outside operations, and {name} is open: its `end` is missing"
+            "`{said}` is not allowed inside operation `{name}`; help: close it with `end`"
         );
     }
     let slip = Slip {
         name: near_instruction(word),
     };
-    format!(in alloc;
-        "{said} is no instruction; docs/LANGUAGE.md lists the 17 that there are{slip}"
-    )
+    format!(in alloc; "unknown instruction `{said}`; docs/LANGUAGE.md lists all 17{slip}")
 }
 
 fn no_register(alloc: Global, shape: &Shape, first: &[u8]) -> Result<String, AllocError> {
-    let (word, first) = (shape.word, shown(first));
-    format!(in alloc; "{word} writes to a register, r0 to r7; here stands {first}")
+    let (first, form) = (shown(first), shape.form);
+    format!(in alloc; "expected a register (`r0` to `r7`), found `{first}`; help: write `{form}`")
 }
 
 /// An instruction with no name where its array or its label is to be.
 fn no_label_or_name(alloc: Global, shape: &Shape, first: &[u8]) -> Result<String, AllocError> {
     let (array, word, form) = (shown(first), shape.word, shape.form);
     if form.as_bytes().contains(&b'W') {
-        return format!(in alloc;
-            "{word} names an array, and one of its words in a name's place is none; it is `{form}`"
-        );
+        return format!(in alloc; "expected the name of an array in `{word}`; help: write `{form}`");
     }
-    format!(in alloc;
-        "{word} {array} goes on at a label, and the word in its place is no name; it is `{form}`"
-    )
+    format!(in alloc; "expected a label in `{word} {array}`; help: write `{form}`")
 }
 
 /// An instruction of no form, with as many words after it as it takes.
@@ -179,7 +163,7 @@ fn form_of_words(alloc: Global, shape: &Shape, rest: &[&[u8]]) -> Result<String,
     let Some((first, _)) = rest.split_first() else {
         return String::from_str(
             alloc,
-            "a label stands before an instruction, and `end` is none",
+            "a label must come before an instruction, not before `end`",
         );
     };
     if shape.form.as_bytes().contains(&b'D') && !is_register(first) {
@@ -213,11 +197,11 @@ pub(crate) fn first_no_number<'a>(words: &[&'a [u8]]) -> Option<&'a [u8]> {
 
 fn no_number(alloc: Global, words: &[&[u8]]) -> Result<String, AllocError> {
     match first_no_number(words) {
-        None => String::from_str(alloc, "a number is wanted here, 0 to 4294967295"),
+        None => String::from_str(alloc, "expected a number (0 to 4294967295)"),
         Some(word) => {
             let word = shown(word);
             format!(in alloc;
-                "{word} is no number; one is 0, or digits that do not begin with 0, at most 4294967295"
+                "invalid number `{word}`; expected 0 to 4294967295, without leading zeros"
             )
         }
     }
@@ -238,17 +222,17 @@ fn no_operand(alloc: Global, word: &[u8], rest: &[&[u8]]) -> Result<String, Allo
         return no_number(alloc, operands(word, rest));
     }
     match operands(word, rest).iter().find(|word| !is_operand(word)) {
-        None => String::from_str(alloc, "a register or a number is wanted here"),
+        None => String::from_str(alloc, "expected a register or a number"),
         Some(other) => {
-            // A name where an operand is wanted is mostly an array.
-            let load = if has_name_form(other) {
-                "; a cell is read by `load`"
+            // A name in place of an operand is mostly an array.
+            let load = if has_name_form(other) && !matches!(other, [b'r', b'0'..=b'9', ..]) {
+                "; help: read a cell with `load`"
             } else {
                 ""
             };
-            let (word, other) = (shown(word), shown(other));
+            let other = shown(other);
             format!(in alloc;
-                "{word} takes a register r0 to r7 or a number up to 4294967295 where {other} stands{load}"
+                "expected a register (`r0` to `r7`) or a number (0 to 4294967295), found `{other}`{load}"
             )
         }
     }
@@ -264,7 +248,7 @@ fn without_colon<'a>(word: &'a [u8]) -> &'a [u8] {
 
 fn long_name(alloc: Global, word: &[u8]) -> Result<String, AllocError> {
     let (length, word) = (word.len(), shown(word));
-    format!(in alloc; "the name {word} has {length} bytes; a name has at most 32")
+    format!(in alloc; "name `{word}` has {length} bytes; at most 32 are allowed")
 }
 
 /// The second of these words, which is to be a number.
@@ -281,10 +265,10 @@ fn array_limit(
     rest: &[&[u8]],
 ) -> Result<String, AllocError> {
     if draft.arrays.len() >= 16 {
-        return String::from_str(alloc, "there are 16 arrays, and no component may have more");
+        return String::from_str(alloc, "too many arrays; a component has at most 16");
     }
     let len = second(rest);
-    format!(in alloc; "an array has 1 to 64 cells, and here are to be {len}")
+    format!(in alloc; "array length {len} is out of range (1 to 64)")
 }
 
 fn operation_limit(
@@ -293,13 +277,10 @@ fn operation_limit(
     rest: &[&[u8]],
 ) -> Result<String, AllocError> {
     if draft.operations.len() >= 16 {
-        return String::from_str(
-            alloc,
-            "there are 16 operations, and no component may have more",
-        );
+        return String::from_str(alloc, "too many operations; a component has at most 16");
     }
     let args = second(rest);
-    format!(in alloc; "an operation has at most 4 arguments, and here are to be {args}")
+    format!(in alloc; "an operation takes at most 4 arguments, found {args}")
 }
 
 /// Outside an operation, a line for which there is no room.
@@ -311,9 +292,9 @@ fn limit_outside(
 ) -> Result<String, AllocError> {
     match shown(word) {
         "word" => array_limit(alloc, draft, rest),
-        "lock" => String::from_str(alloc, "there are 8 locks, and no component may have more"),
+        "lock" => String::from_str(alloc, "too many locks; a component has at most 8"),
         "op" => operation_limit(alloc, draft, rest),
-        _ => String::from_str(alloc, "local takes a number from 0 to 16"),
+        _ => String::from_str(alloc, "`local` is out of range (0 to 16)"),
     }
 }
 
@@ -321,9 +302,9 @@ fn limit_outside(
 fn limit_inside(alloc: Global, op: &OpenOp) -> Result<String, AllocError> {
     if op.statements.len() >= 64 {
         let name = op.name.as_str();
-        return format!(in alloc; "{name} has 64 instructions, and no operation may have more");
+        return format!(in alloc; "too many instructions in `{name}`; an operation has at most 64");
     }
-    String::from_str(alloc, "pick takes a number of choices from 1 to 8")
+    String::from_str(alloc, "number of choices is out of range (1 to 8)")
 }
 
 /// Whether a word is a name with too many bytes, or the label of one.
@@ -342,7 +323,7 @@ fn limit(alloc: Global, draft: &ComponentDraft, words: &[&[u8]]) -> Result<Strin
         return long_name(alloc, without_colon(word));
     }
     let Some((word, rest)) = words.split_first() else {
-        return String::from_str(alloc, "a limit is passed");
+        return String::from_str(alloc, "limit exceeded");
     };
     match &draft.begun {
         Some(op) => limit_inside(alloc, op),
@@ -356,29 +337,33 @@ fn is_declared(names: &[Name], word: &[u8]) -> bool {
 
 fn declared_before(alloc: Global, kind: &[u8], name: &[u8]) -> Result<String, AllocError> {
     let (kind, name) = (shown(kind), shown(name));
-    format!(in alloc; "{kind} {name} is declared before; each name stands once among its kind")
+    format!(in alloc; "`{kind} {name}` is declared twice")
 }
 
 fn no_lock(alloc: Global, draft: &ComponentDraft, lock: &[u8]) -> Result<String, AllocError> {
-    let slip = Slip {
-        name: near(&draft.locks, lock),
-    };
-    let lock = shown(lock);
-    format!(in alloc;
-        "there is no lock {lock}; `lock {lock}` declares it, on a line before the operations that use it{slip}"
-    )
+    let said = shown(lock);
+    match near(&draft.locks, lock) {
+        Some(name) => format!(in alloc;
+            "cannot find lock `{said}`; help: a lock with a similar name exists: `{name}`"
+        ),
+        None => format!(in alloc;
+            "cannot find lock `{said}`; help: declare it with `lock {said}` before the operations"
+        ),
+    }
 }
 
 fn no_array(alloc: Global, draft: &ComponentDraft, array: &str) -> Result<String, AllocError> {
     if is_declared(&draft.locks, array.as_bytes()) {
-        return format!(in alloc; "{array} is a lock, and an array is wanted here");
+        return format!(in alloc; "expected an array, found lock `{array}`");
     }
-    let slip = Slip {
-        name: near(&draft.arrays, array.as_bytes()),
-    };
-    format!(in alloc;
-        "there is no array {array}; `word {array} LEN INIT` declares it, on a line before the operations that use it{slip}"
-    )
+    match near(&draft.arrays, array.as_bytes()) {
+        Some(name) => format!(in alloc;
+            "cannot find array `{array}`; help: an array with a similar name exists: `{name}`"
+        ),
+        None => format!(in alloc;
+            "cannot find array `{array}`; help: declare it with `word {array} LEN INIT` before the operations"
+        ),
+    }
 }
 
 /// Where an array stands in an instruction, of which this is the second word.
@@ -394,7 +379,7 @@ fn name(alloc: Global, draft: &ComponentDraft, words: &[&[u8]]) -> Result<String
     let (first, second) = match words {
         [first, second, ..] => (*first, *second),
         [first] => (*first, *first),
-        [] => return String::from_str(alloc, "a name is not as it should be"),
+        [] => return String::from_str(alloc, "invalid name"),
     };
     if draft.begun.is_none() {
         return declared_before(alloc, first, second);
@@ -415,9 +400,7 @@ fn labelled_name(
     if let Some(op) = &draft.begun {
         if op.labels.iter().any(|other| other.name.is(label)) {
             let (label, operation) = (shown(label), op.name.as_str());
-            return format!(in alloc;
-                "the label {label} stands before in {operation}; a label stands once in an operation"
-            );
+            return format!(in alloc; "label `{label}` is defined twice in `{operation}`");
         }
     }
     name(alloc, draft, words)
@@ -440,13 +423,13 @@ fn after_label<'a, 'b>(
 fn comma(alloc: Global, word: &[u8]) -> Result<String, AllocError> {
     let word = shown(word);
     format!(in alloc;
-        "{word} ends with a sign that parts nothing here; words are parted by blanks alone"
+        "unexpected punctuation at the end of `{word}`; help: separate words with spaces alone"
     )
 }
 
 fn missing(alloc: Global, word: &[u8]) -> Result<String, AllocError> {
     let word = shown(word);
-    format!(in alloc; "the first line with words is `component NAME`; here stands {word}")
+    format!(in alloc; "expected `component NAME` first, found `{word}`")
 }
 
 /// Inside an operation, a line of no form after its label.
@@ -459,9 +442,7 @@ fn form_inside(
     match word {
         [_front @ .., b':'] => {
             let word = shown(word);
-            format!(in alloc;
-                "the label {word} stands alone; a label stands before an instruction, on its line"
-            )
+            format!(in alloc; "label `{word}` must be followed by an instruction on the same line")
         }
         _ => form_instruction(alloc, op, word, rest),
     }
@@ -502,11 +483,11 @@ fn flow(alloc: Global, draft: &ComponentDraft) -> Result<String, AllocError> {
     match &draft.begun {
         Some(op) if op.statements.is_empty() => {
             let name = op.name.as_str();
-            format!(in alloc; "{name} has no instruction; the least is `return 0`")
+            format!(in alloc; "operation `{name}` is empty; help: write at least `return 0`")
         }
         _ => String::from_str(
             alloc,
-            "the last instruction is neither return nor jump, so what comes behind it is not said; write `return 0` before `end`",
+            "operation may run past its end; help: add `return 0` before `end`",
         ),
     }
 }
@@ -529,7 +510,7 @@ fn wording_of_words(
 ) -> Result<String, AllocError> {
     let (label, after) = after_label(draft, words);
     let Some((word, rest)) = after.split_first() else {
-        return String::from_str(alloc, "this line has a fault");
+        return String::from_str(alloc, "invalid line");
     };
     match kind {
         LangFaultKind::Byte => unknown_byte(alloc, text),
@@ -570,13 +551,13 @@ pub(crate) fn jump_wording(
     back: usize,
 ) -> Result<String, AllocError> {
     let Some(op) = &draft.begun else {
-        return String::from_str(alloc, "a jump leads to a label that is not there");
+        return String::from_str(alloc, "undefined label");
     };
     let place = op.statements.len().saturating_sub(back);
     match op.statements.get(place) {
         Some(Statement::Jump(label)) => no_label(alloc, op, label),
         Some(Statement::JumpIfZero(_, label)) => no_label(alloc, op, label),
-        _ => String::from_str(alloc, "a jump leads to a label that is not there"),
+        _ => String::from_str(alloc, "undefined label"),
     }
 }
 
@@ -585,7 +566,7 @@ fn no_label(alloc: Global, op: &OpenOp, label: &Name) -> Result<String, AllocErr
         name: near(&op.labels, label.as_bytes()),
     };
     let (name, label) = (op.name.as_str(), label.as_str());
-    format!(in alloc; "{name} jumps to the label {label}, which is not there{slip}")
+    format!(in alloc; "undefined label `{label}` in `{name}`{slip}")
 }
 
 /// The words for a fault at the end of the text.
@@ -593,11 +574,11 @@ pub(crate) fn end_wording(alloc: Global, draft: &ComponentDraft) -> Result<Strin
     match &draft.begun {
         Some(op) => {
             let name = op.name.as_str();
-            format!(in alloc; "{name} has no `end`")
+            format!(in alloc; "operation `{name}` is not closed; help: add `end`")
         }
         None => String::from_str(
             alloc,
-            "there is no component; its first line is `component NAME`",
+            "no component found; help: begin with `component NAME`",
         ),
     }
 }

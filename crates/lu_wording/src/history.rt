@@ -1,16 +1,16 @@
 //! The words for a fault of a recorded history.
 
 use crate::component::unknown_byte;
-use crate::third::line_shown;
+use crate::third::FoundLine;
 use lu_recorded::RecordedFaultKind;
 use lu_test::Matrix;
 use std::alloc::{AllocError, Global};
 
 /// The words for a line that says no step of a run.
 fn step_wording(alloc: Global, line: Option<&[u8]>) -> Result<String, AllocError> {
-    let here = line_shown(line);
+    let found = FoundLine { line };
     format!(in alloc;
-        "a line of a recorded history is `call T K`, `return T K ret N` or `return T K trap`, and the last may be `stuck`; here stands {here}"
+        "expected `call T K`, `return T K ret N`, `return T K trap` or a last line `stuck`, found {found}"
     )
 }
 
@@ -23,23 +23,23 @@ pub(crate) fn recorded_wording(
 ) -> Result<String, AllocError> {
     match kind {
         RecordedFaultKind::Byte => match line {
-            None => String::from_str(alloc, "a byte stands here that no text may have"),
+            None => String::from_str(alloc, "invalid byte"),
             Some(line) => unknown_byte(alloc, line),
         },
         RecordedFaultKind::Form => step_wording(alloc, line),
         RecordedFaultKind::Number => String::from_str(
             alloc,
-            "a thread, a call and a value are numbers, at most 4294967295",
+            "expected a number (0 to 4294967295) for the thread, the call and the value",
         ),
         RecordedFaultKind::Foreign => {
             let threads = matrix.threads();
             format!(in alloc;
-                "the matrix has no such call; it has {threads} threads, and threads and the calls of each are numbered from 0"
+                "the matrix has no such call; it has {threads} threads, and threads and their calls are numbered from 0"
             )
         }
         RecordedFaultKind::Order => String::from_str(
             alloc,
-            "this can't come here; a thread makes its calls in order, and each returns before the next",
+            "out of order; a thread makes its calls in order, and each returns before the next",
         ),
     }
 }

@@ -1,4 +1,4 @@
-//! The words for a fault of a matrix's line: what stands there, and what was wanted.
+//! The words for a fault of a matrix's line: what was found, and what was expected.
 
 use crate::component::{Slip, first_no_number, is_register, shown, unknown_byte};
 use crate::spelling::{is_near, near};
@@ -46,15 +46,12 @@ fn form(
 ) -> Result<String, AllocError> {
     let setup = first == b"setup".as_slice();
     if setup && (draft.setup.is_some() || !draft.threads.is_empty()) {
-        return String::from_str(
-            alloc,
-            "setup stands once, before all threads; this line has one before it",
-        );
+        return String::from_str(alloc, "`setup` must be the first line, and the only one");
     }
     if is_empty || setup || first == b"thread".as_slice() {
         return String::from_str(
             alloc,
-            "beside a `;` stands nothing; a `;` parts calls and ends none, and a call is an operation's name and its arguments",
+            "empty call next to `;`; help: `;` separates calls, and does not end them",
         );
     }
     let slip = Slip {
@@ -62,7 +59,7 @@ fn form(
     };
     let first = shown(first);
     format!(in alloc;
-        "{first} begins no line of a matrix; its lines are `thread CALL; CALL ..` and, first of all, `setup CALL; ..`{slip}"
+        "expected `thread CALL; CALL ..` or, as the first line, `setup CALL; ..`, found `{first}`{slip}"
     )
 }
 
@@ -85,10 +82,15 @@ fn no_operation(
 ) -> Result<String, AllocError> {
     let said = shown(name);
     match near(signatures, name) {
-        Some(near) => format!(in alloc; "the component has no operation {said}; is it {near}?"),
+        Some(near) => format!(in alloc;
+            "cannot find operation `{said}`; help: an operation with a similar name exists: `{near}`"
+        ),
+        None if signatures.is_empty() => format!(in alloc;
+            "cannot find operation `{said}`; the component has no operations"
+        ),
         None => {
             let names = names(alloc, signatures)?;
-            format!(in alloc; "the component has no operation {said}; it has {names}")
+            format!(in alloc; "cannot find operation `{said}`; the component has {names}")
         }
     }
 }
@@ -101,20 +103,15 @@ fn counted(count: usize, one: &'static str, many: &'static str) -> &'static str 
 fn arguments(alloc: Global, name: &Name, takes: u8, given: usize) -> Result<String, AllocError> {
     let name = name.as_str();
     let many = counted(usize::from(takes), "argument", "arguments");
-    let are = counted(given, "is", "are");
-    format!(in alloc; "{name} takes {takes} {many}, here {are} {given}")
+    format!(in alloc; "`{name}` takes {takes} {many}, found {given}")
 }
 
 fn no_number(alloc: Global, word: &[u8]) -> Result<String, AllocError> {
     let said = shown(word);
     if is_register(word) || has_name_form(word) {
-        return format!(in alloc;
-            "{said} is no number; an argument is a number up to 4294967295, and a matrix has no registers or names"
-        );
+        return format!(in alloc; "expected a number (0 to 4294967295), found `{said}`");
     }
-    format!(in alloc;
-        "{said} is no number; one is 0, or digits that do not begin with 0, at most 4294967295"
-    )
+    format!(in alloc; "invalid number `{said}`; expected 0 to 4294967295, without leading zeros")
 }
 
 /// How many arguments the operation of this name takes, where that is known.
@@ -171,7 +168,7 @@ fn of_calls(
             return Ok(said);
         }
     }
-    String::from_str(alloc, "a call of this line has a fault")
+    String::from_str(alloc, "invalid call")
 }
 
 /// A line for which there is no room: of this many calls.
@@ -182,18 +179,15 @@ fn limit(
     calls: usize,
 ) -> Result<String, AllocError> {
     if first == b"setup".as_slice() {
-        return format!(in alloc; "a setup has at most 8 calls, here are {calls}");
+        return format!(in alloc; "a setup has at most 8 calls, found {calls}");
     }
     if draft.threads.len() >= 8 {
-        return String::from_str(alloc, "there are 8 threads, and no matrix may have more");
+        return String::from_str(alloc, "too many threads; a matrix has at most 8");
     }
     if calls > 8 {
-        return format!(in alloc; "a thread has at most 8 calls, here are {calls}");
+        return format!(in alloc; "a thread has at most 8 calls, found {calls}");
     }
-    String::from_str(
-        alloc,
-        "all threads have at most 16 calls, and with this line there are more",
-    )
+    String::from_str(alloc, "too many calls; a matrix has at most 16")
 }
 
 /// The words of the first of these parts of a line.
@@ -232,8 +226,5 @@ pub(crate) fn matrix_wording(
 
 /// The words for a fault at the end of the text.
 pub(crate) fn end_wording(alloc: Global) -> Result<String, AllocError> {
-    String::from_str(
-        alloc,
-        "there is no thread; a line is `thread CALL; CALL ..`",
-    )
+    String::from_str(alloc, "no thread found; help: write `thread CALL; CALL ..`")
 }

@@ -39,9 +39,9 @@ fn write_after(
     ops: &[SerialOp],
 ) -> Result<(), AllocError> {
     if ops.is_empty() {
-        return text.push_str(" when it comes first");
+        return text.push_str(" when it is called first");
     }
-    text.push_str(" behind ")?;
+    text.push_str(" after ")?;
     for (position, op) in ops.iter().enumerate() {
         let (before, _) = ops.split_at(position);
         if position > 0 {
@@ -73,7 +73,7 @@ fn serial_wording(
     write_ending(&mut text, runs, hint.ending)?;
     write_after(&mut text, runs, hint.before.as_slice())?;
     if matches!(hint.ending, Ending::Cut) {
-        text.push_str("; --serial bounds them")?;
+        text.push_str("; `--serial` sets the limit")?;
     }
     Ok(text)
 }

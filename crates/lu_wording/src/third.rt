@@ -6,6 +6,7 @@ use lu_spec::{SpecFaultKind, SpecLineFault};
 use lu_test::{Matrix, ScheduleFault};
 use lu_text::{is_number, number_up_to, position_of, words_of};
 use std::alloc::{AllocError, Global};
+use std::fmt;
 
 /// Whether each byte is printed ASCII or a space.
 fn is_printed(text: &[u8]) -> bool {
@@ -28,11 +29,11 @@ fn has_two_spaces(text: &[u8]) -> bool {
 /// What is wrong with the bytes of a schedule, where it is one of these.
 fn wrong_bytes(text: &[u8]) -> Option<&'static str> {
     if text.contains(&b'\t') {
-        Some("a tab stands in it")
+        Some("tab found")
     } else if text.contains(&b'\r') {
-        Some("a CR stands in it")
+        Some("carriage return found")
     } else if has_two_spaces(text) {
-        Some("two spaces stand side by side")
+        Some("two spaces in a row")
     } else {
         None
     }
@@ -41,19 +42,19 @@ fn wrong_bytes(text: &[u8]) -> Option<&'static str> {
 /// What is wrong with the end of a schedule.
 fn wrong_end(text: &[u8]) -> &'static str {
     if text.ends_with(b" \n") || text.ends_with(b" ") {
-        return "a space stands behind the last move";
+        return "trailing space after the last move";
     }
     match text.strip_suffix(b"\n") {
-        None => "the LF is missing",
-        Some(line) if line.contains(&b'\n') => "there is a second line",
-        Some(_) => "the first word is another",
+        None => "no line end",
+        Some(line) if line.contains(&b'\n') => "more than one line",
+        Some(_) => "expected it to begin with `schedule`",
     }
 }
 
 /// Why a text has not the form of a schedule.
 fn no_schedule(text: &[u8]) -> &'static str {
     if !text.starts_with(b"schedule") {
-        return "the text begins otherwise";
+        return "expected it to begin with `schedule`";
     }
     match wrong_bytes(text) {
         None => wrong_end(text),
@@ -65,25 +66,25 @@ fn no_schedule(text: &[u8]) -> &'static str {
 pub(crate) fn schedule_form_wording(alloc: Global, text: &[u8]) -> Result<String, AllocError> {
     let here = no_schedule(text);
     format!(in alloc;
-        "a schedule is one line, `schedule` and its moves, with one space before each and LF behind the last; here {here}"
+        "invalid schedule: {here}; help: write `schedule` and its moves on one line, each after one space"
     )
 }
 
-/// A number above 7 where a thread or a pick is wanted.
+/// A number above 7 in place of a thread or a pick.
 fn range_wording(alloc: Global, word: &[u8]) -> Result<String, AllocError> {
     let (thread, pick) = match position_of(b':', word) {
         None => word.split_at(word.len()),
         Some(colon) => word.split_at(colon),
     };
     if number_up_to(thread, 7).is_none() {
-        let thread = printed(thread, "of this number");
-        return format!(in alloc; "there is no thread {thread}; threads are 0 to 7");
+        let thread = printed(thread, "number");
+        return format!(in alloc; "thread {thread} is out of range (0 to 7)");
     }
     let pick = match pick {
-        [b':', pick @ ..] => printed(pick, "this one"),
-        _ => "this one",
+        [b':', pick @ ..] => printed(pick, "number"),
+        _ => "number",
     };
-    format!(in alloc; "a pick is 1 to 7, and here is {pick}")
+    format!(in alloc; "pick {pick} is out of range (1 to 7)")
 }
 
 /// The words for a word of a schedule that is no move.
@@ -95,37 +96,46 @@ pub(crate) fn move_wording(
     if kind == ScheduleFault::Limit {
         return range_wording(alloc, word);
     }
-    let said = printed(word, "this word");
+    let said = printed(word, "?");
     if let Some(thread) = word.strip_suffix(b":0") {
         if is_number(thread) {
-            let thread = printed(thread, "the thread");
-            return format!(in alloc; "pick 0 is not written: {thread} in the place of {said}");
+            let thread = printed(thread, "T");
+            return format!(in alloc;
+                "pick 0 is left out; help: write `{thread}` instead of `{said}`"
+            );
         }
     }
     format!(in alloc;
-        "{said} is no move; one is a thread, as 1, or a thread and a pick above 0, as 1:2"
+        "invalid move `{said}`; help: write a thread, as `1`, or a thread and a pick, as `1:2`"
     )
 }
 
 /// The words for a schedule of this many words.
 pub(crate) fn length_wording(alloc: Global, words: usize) -> Result<String, AllocError> {
-    format!(in alloc; "a schedule has at most 4,112 moves, and here are {words}")
+    format!(in alloc; "a schedule has at most 4112 moves, found {words}")
 }
 
-/// What stands on the line, in words.
-pub(crate) fn line_shown(line: Option<&[u8]>) -> &str {
-    let Some(line) = line else {
-        return "nothing";
-    };
-    match line.strip_suffix(b"\n") {
-        None => "a line without its LF",
-        Some(line) => {
-            if line.len() > 80 || !is_printed(line) {
-                return "another line";
-            }
-            match line {
-                [] => "an empty line",
-                _ => shown(line),
+/// A line that was found where another was expected, if one was.
+#[derive(Clone, Copy)]
+pub(crate) struct FoundLine<'a> {
+    pub(crate) line: Option<&'a [u8]>,
+}
+
+impl fmt::Display for FoundLine<'_> {
+    fn fmt<W: fmt::Write>(&self, f: &mut fmt::Formatter<W>) -> fmt::Result {
+        let Some(line) = self.line else {
+            return write!(f, "the end of the text");
+        };
+        match line.strip_suffix(b"\n") {
+            None => write!(f, "a line without a line end"),
+            Some([]) => write!(f, "an empty line"),
+            Some(line) => {
+                let text = if line.len() > 80 || !is_printed(line) {
+                    ".."
+                } else {
+                    shown(line)
+                };
+                write!(f, "`{text}`")
             }
         }
     }
@@ -134,20 +144,18 @@ pub(crate) fn line_shown(line: Option<&[u8]>) -> &str {
 /// What a line of a report is to be, in words; after the end nothing.
 fn form_words(form: LineForm) -> Option<&'static str> {
     match form {
-        LineForm::Version => Some("`lineup report 1`, or 2 or 3"),
-        LineForm::Bound => Some("`bound N`, N from 0 to 256"),
-        LineForm::Serial => Some("`serial S`, S from 1 to 256"),
-        LineForm::Local => Some("`local L`, L from 1 to 16"),
-        LineForm::AnyLocal => Some("`local L`, L from 0 to 16"),
+        LineForm::Version => Some("`lineup report 1` (or 2 or 3)"),
+        LineForm::Bound => Some("`bound N` (0 to 256)"),
+        LineForm::Serial => Some("`serial S` (1 to 256)"),
+        LineForm::Local => Some("`local L` (1 to 16)"),
+        LineForm::AnyLocal => Some("`local L` (0 to 16)"),
         LineForm::Finding => Some(
-            "`pass`, `fail complete`, `fail stuck T` (T from 0 to 7), `nondeterministic` or `serial-cut`",
+            "`pass`, `fail complete`, `fail stuck T` (0 to 7), `nondeterministic` or `serial-cut`",
         ),
-        LineForm::Judgement => Some("`pass`, `fail complete` or `fail stuck T` (T from 0 to 7)"),
-        LineForm::Schedule => Some("`schedule` and its moves, with one space before each"),
-        LineForm::ConflictSchedule => {
-            Some("`schedule` and its moves, with one space before each")
-        }
-        LineForm::Before => Some("`before K`, K from 0 to 15"),
+        LineForm::Judgement => Some("`pass`, `fail complete` or `fail stuck T` (0 to 7)"),
+        LineForm::Schedule => Some("`schedule` and its moves, each after one space"),
+        LineForm::ConflictSchedule => { Some("`schedule` and its moves, each after one space") }
+        LineForm::Before => Some("`before K` (0 to 15)"),
         LineForm::Earlier => Some("`earlier ret N`, `earlier trap` or `earlier stuck`"),
         LineForm::Complete => Some("`complete N`"),
         LineForm::Stuck => Some("`stuck N`"),
@@ -162,21 +170,10 @@ pub(crate) fn report_wording(
     fault: &ReportLineFault,
     line: Option<&[u8]>,
 ) -> Result<String, AllocError> {
-    let here = line_shown(line);
-    let number = fault.line;
+    let found = FoundLine { line };
     match form_words(fault.form) {
-        None => format!(in alloc; "the report ends before this line; here stands {here}"),
-        Some(form) => {
-            if number == 1 {
-                return format!(in alloc;
-                    "the first line of a report is {form}; here stands {here}"
-                );
-            }
-            if number == 2 {
-                return format!(in alloc; "line 2 of a report is {form}; here stands {here}");
-            }
-            format!(in alloc; "line {number} of this report is {form}; here stands {here}")
-        }
+        None => format!(in alloc; "expected the end of the report, found {found}"),
+        Some(form) => format!(in alloc; "expected {form}, found {found}"),
     }
 }
 
@@ -201,9 +198,9 @@ fn no_entry(entries: &[u8]) -> Option<&[u8]> {
 }
 
 fn entry_wording(alloc: Global, entry: &[u8]) -> Result<String, AllocError> {
-    let entry = printed(entry, "this");
+    let entry = printed(entry, "?");
     format!(in alloc;
-        "{entry} is no entry; one is t=n, t=trap or t=stuck, t a thread from 0 to 7, n at most 4294967295"
+        "invalid entry `{entry}`; help: write `t=n`, `t=trap` or `t=stuck`, with a thread t (0 to 7) and a value n (0 to 4294967295)"
     )
 }
 
@@ -215,29 +212,29 @@ fn entries_wording(alloc: Global, entries: &[u8]) -> Result<String, AllocError> 
         .count()
         .saturating_add(1);
     if count > 16 {
-        return format!(in alloc; "a history has at most 16 entries, and here are {count}");
+        return format!(in alloc; "a history has at most 16 entries, found {count}");
     }
     if entries
         .windows(7)
         .any(|seven| seven == b"=stuck ".as_slice())
     {
-        return String::from_str(alloc, "an entry stuck stands last alone");
+        return String::from_str(alloc, "`stuck` must be the last entry of a history");
     }
     String::from_str(
         alloc,
-        "this history is not above the one before it, or begins as that one does; histories rise",
+        "history is out of order, or begins with the one before it; help: `lineup spec` puts histories in order",
     )
 }
 
 /// The words for a line that lists no history where it stands.
 fn history_wording(alloc: Global, line: &[u8]) -> Result<String, AllocError> {
     let Some(line) = line.strip_suffix(b"\n") else {
-        return String::from_str(alloc, "the last line lacks its LF");
+        return String::from_str(alloc, "the last line has no line end");
     };
     let Some(entries) = line.strip_prefix(b"history ") else {
         return String::from_str(
             alloc,
-            "a line of a specification is `history`, and its entries with one space before each",
+            "expected `history` and its entries, each after one space",
         );
     };
     match no_entry(entries) {
@@ -258,17 +255,20 @@ fn is_marked_entry(entry: &[u8]) -> bool {
 fn marked_entries_wording(alloc: Global, entries: &[&[u8]]) -> Result<String, AllocError> {
     for entry in entries {
         if !is_marked_entry(entry) {
-            let entry = printed(entry, "this");
+            let entry = printed(entry, "?");
             return format!(in alloc;
-                "{entry} is no entry; one is t=n, t=trap or t=stuck, with `?` behind it or without, t a thread from 0 to 7, n at most 4294967295"
+                "invalid entry `{entry}`; help: write `t=n`, `t=trap` or `t=stuck`, with or without `?`, with a thread t (0 to 7) and a value n (0 to 4294967295)"
             );
         }
     }
     let count = entries.len();
     if count > 16 {
-        return format!(in alloc; "a history has at most 16 entries, and here are {count}");
+        return format!(in alloc; "a history has at most 16 entries, found {count}");
     }
-    String::from_str(alloc, "a history has an entry, and stuck stands last alone")
+    String::from_str(
+        alloc,
+        "a history needs an entry, and `stuck` must be the last",
+    )
 }
 
 /// The words for a line that lists no history, where entries may have marks.
@@ -278,10 +278,7 @@ fn marked_history_wording(alloc: Global, line: &[u8]) -> Result<String, AllocErr
         Some((first, entries)) if *first == b"history".as_slice() => {
             marked_entries_wording(alloc, entries)
         }
-        _ => String::from_str(
-            alloc,
-            "a line of a specification is `history`, and its entries",
-        ),
+        _ => String::from_str(alloc, "expected `history` and its entries"),
     }
 }
 
@@ -297,7 +294,7 @@ fn free_wording(
         SpecFaultKind::Foreign => foreign_wording(alloc, matrix),
         SpecFaultKind::Nondeterministic => String::from_str(
             alloc,
-            "as a line before up to some entry, and there the same thread ends otherwise, and neither entry has the mark `?`",
+            "conflict with an earlier history: after the same entries the same thread ends differently, and neither entry has the mark `?`",
         ),
     }
 }
@@ -306,7 +303,7 @@ fn free_wording(
 fn foreign_wording(alloc: Global, matrix: &Matrix) -> Result<String, AllocError> {
     let threads = matrix.threads();
     format!(in alloc;
-        "an entry of a thread that has no such call; the matrix has {threads} threads, numbered from 0, and a thread has as many entries as calls at most"
+        "the matrix has no such call; it has {threads} threads, numbered from 0, and a thread has at most as many entries as calls"
     )
 }
 
@@ -325,17 +322,17 @@ pub(crate) fn specification_wording(
     match fault.kind {
         SpecFaultKind::Form => {
             if fault.line == 1 {
-                return String::from_str(alloc, "the first line is `lineup spec 1`");
+                return String::from_str(alloc, "expected `lineup spec 1` on the first line");
             }
             match line {
-                None => String::from_str(alloc, "a line is missing"),
+                None => String::from_str(alloc, "missing line"),
                 Some(line) => history_wording(alloc, line),
             }
         }
         SpecFaultKind::Foreign => foreign_wording(alloc, matrix),
         SpecFaultKind::Nondeterministic => String::from_str(
             alloc,
-            "as a line before up to some entry, and there the same thread ends otherwise",
+            "conflict with an earlier history: after the same entries the same thread ends differently",
         ),
     }
 }

@@ -23,7 +23,7 @@ fn label_at(op: &OpenOp, back: usize) -> &str {
         .iter()
         .find(|label| usize::from(label.place) == place)
     {
-        None => "of this line",
+        None => "?",
         Some(label) => label.name.as_str(),
     }
 }
@@ -31,7 +31,7 @@ fn label_at(op: &OpenOp, back: usize) -> &str {
 /// The name of the open operation.
 fn operation_name(draft: &ComponentDraft) -> &str {
     match &draft.begun {
-        None => "an operation",
+        None => "?",
         Some(op) => op.name.as_str(),
     }
 }
@@ -39,15 +39,15 @@ fn operation_name(draft: &ComponentDraft) -> &str {
 /// The label at the instruction of the open operation that this many of it follow with it.
 fn open_label_at(draft: &ComponentDraft, back: usize) -> &str {
     match &draft.begun {
-        None => "of this line",
+        None => "?",
         Some(op) => label_at(op, back),
     }
 }
 
-/// That no instruction names what this line declares, of this kind.
+/// That no instruction uses what this line declares, of this kind.
 fn unnamed_wording(alloc: Global, text: &[u8], kind: &str) -> Result<String, AllocError> {
     let name = shown(second_word(alloc, text)?);
-    format!(in alloc; "no instruction names the {kind} {name}")
+    format!(in alloc; "unused {kind} `{name}`")
 }
 
 /// That no jump leads to the label at the instruction that this many follow with it.
@@ -57,7 +57,7 @@ fn unused_label_wording(
     back: usize,
 ) -> Result<String, AllocError> {
     let (name, label) = (operation_name(draft), open_label_at(draft, back));
-    format!(in alloc; "no jump of {name} leads to the label {label}")
+    format!(in alloc; "unused label `{label}` in `{name}`")
 }
 
 /// What the open operation does.
@@ -67,7 +67,7 @@ fn operation_wording(
     does: &str,
 ) -> Result<String, AllocError> {
     let name = operation_name(draft);
-    format!(in alloc; "{name} {does}")
+    format!(in alloc; "`{name}` {does}")
 }
 
 /// The words of a warning that is found at a line after this draft, and stands this many lines with
@@ -83,11 +83,11 @@ pub(crate) fn warning_wording(
         Hint::UnnamedArray => unnamed_wording(alloc, text, "array"),
         Hint::UnnamedLock => unnamed_wording(alloc, text, "lock"),
         Hint::UnusedLabel => unused_label_wording(alloc, draft, back),
-        Hint::NoReturn => operation_wording(
+        Hint::NoReturn => operation_wording(alloc, draft, "never returns"),
+        Hint::Spin => operation_wording(
             alloc,
             draft,
-            "reaches no return, so no call of it returns",
+            "loops without waiting; help: wait with `await`",
         ),
-        Hint::Spin => operation_wording(alloc, draft, "jumps back without waiting; await waits"),
     }
 }

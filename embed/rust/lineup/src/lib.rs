@@ -151,8 +151,15 @@ pub struct Case {
 impl Case {
     /// The first two parts of a bundle.
     pub fn of_bundle(bundle: &str) -> Option<Case> {
-        let mut parts = bundle.split("---\n");
-        Some(Case { component: parts.next()?.to_owned(), matrix: parts.next()?.to_owned() })
+        let mut parts = vec![String::new()];
+        for line in bundle.split_inclusive('\n') {
+            match line {
+                "---\n" | "---" => parts.push(String::new()),
+                _ => parts.last_mut()?.push_str(line),
+            }
+        }
+        let mut parts = parts.into_iter();
+        Some(Case { component: parts.next()?, matrix: parts.next()? })
     }
 
     /// What `lineup WORDS` answers to this component and matrix, and further parts.

@@ -11,7 +11,7 @@ returns-in_err-case c =
     let p = c.in_ok-component in
     let refused = err_from_is_err_and c.from_residual-in_err-case.result c.from_residual-in_err-case.ensures.1 in
     let parts : exactly_three (texts c.args.parts.now) ≡ Some (p.component.now, p.matrix.now, p.specification.now) = search rules in
-    rw (refused.1, refused.2, parts) (texts_refused p.component.now p.matrix.now c.in_err-case.field-0.0 (λ d m. IsCheckedAgainstText d m c.args.options p.specification.now) c.in_err-case.ensures.fault)
+    rw (refused.1, refused.2, parts) (texts_refused p.component.now p.matrix.now c.in_err-case.field-0.0 (λ d m. IsCheckedAgainstText d m c.args.options c.args.marks p.specification.now) c.in_err-case.ensures.fault)
 
 pub returns : goal.returns
 returns c =
@@ -19,5 +19,5 @@ returns c =
     let read = c.in_ok-case in
     let parts : exactly_three (texts c.args.parts.now) ≡ Some (p.component.now, p.matrix.now, p.specification.now) = search rules in
     rw parts
-    (texts_answered p.component.now p.matrix.now read.case.component read.case.matrix (λ d m. IsCheckedAgainstText d m c.args.options p.specification.now)
+    (texts_answered p.component.now p.matrix.now read.case.component read.case.matrix (λ d m. IsCheckedAgainstText d m c.args.options c.args.marks p.specification.now)
     read.ensures.read c.check_test_against_alone.result c.check_test_against_alone.ensures)

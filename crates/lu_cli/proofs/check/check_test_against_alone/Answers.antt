@@ -10,7 +10,7 @@ use Rattle.lu_cli.proofs.check.check_test_against_alone.Goals as goal
 pub returns-in_err-specification : goal.returns-in_err-specification
 returns-in_err-specification c =
     let refused = err_from_is_err_and c.from_residual.result c.from_residual.ensures.1 in
-    rw (refused.1, refused.2) (against_refused c.args.test.component.now c.args.test.matrix.now c.args.specification.now c.args.options (Spec c.in_err-specification.field-0.0) c.in_err-specification.ensures.fault)
+    rw (refused.1, refused.2) (against_refused c.args.test.component.now c.args.test.matrix.now c.args.marks c.args.specification.now c.args.options (Spec c.in_err-specification.field-0.0) c.in_err-specification.ensures.fault)
 
 pub returns : goal.returns
 returns c =
@@ -19,4 +19,4 @@ returns c =
     let matrix = c.args.test.matrix.now in
     let report = c.in_ok-report.report in
     let against = subst (λ (x : List (List SerialOp)). IsReportAgainst (IsMember x) component matrix c.bound-bound.result report) c.tree-tree.ensures.set c.in_ok-report.ensures in
-    against_reported component matrix c.args.specification.now c.args.options report c.in_ok-show_report.field-0 (set.specification, set.ensures.read, rw (← c.bound-bound.ensures.bound) against) c.in_ok-show_report.ensures
+    against_reported component matrix c.args.marks c.args.specification.now c.args.options report c.in_ok-show_report.field-0 (set.specification, set.ensures.read, rw (← c.bound-bound.ensures.bound) against) c.in_ok-show_report.ensures

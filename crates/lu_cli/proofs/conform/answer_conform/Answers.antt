@@ -1,7 +1,7 @@
 use Rattle.std.proofs.Common.{◌≡◌, Some, rules}
 use Rattle.std.proofs.lemmas.Result.{err_from_is_err_and}
 use Rattle.lu_text.specs.Lines.{texts}
-use Rattle.lu_cli.specs.Judge.{three_parts}
+use Rattle.lu_cli.specs.Witness.{three_parts}
 use Rattle.lu_cli.specs.Conform.{IsConformedTexts}
 use Rattle.lu_cli.proofs.Refuted.{texts_answered, texts_refused}
 use Rattle.lu_cli.proofs.conform.answer_conform.Goals as goal

@@ -11,7 +11,7 @@ returns-in_err-worded c =
     let p = c.in_ok-component in
     let refused = err_from_is_err_and c.from_residual-in_err-worded.result c.from_residual-in_err-worded.ensures.1 in
     let parts : exactly_four (texts c.args.parts.now) ≡ Some (p.component.now, p.matrix.now, p.target.now, p.specification.now) = search rules in
-    rw (refused.1, refused.2, parts) (worded_refused p.component.now p.matrix.now c.in_err-worded.field-0.0 (λ how d m. IsExplainedAgainstText how d m p.target.now p.specification.now) c.in_err-worded.ensures.refused)
+    rw (refused.1, refused.2, parts) (worded_refused p.component.now p.matrix.now c.in_err-worded.field-0.0 (λ how d m. IsExplainedAgainstText how d m p.target.now c.args.marks p.specification.now) c.in_err-worded.ensures.refused)
 
 pub returns : goal.returns
 returns c =
@@ -19,5 +19,5 @@ returns c =
     let read = c.in_ok-worded in
     let parts : exactly_four (texts c.args.parts.now) ≡ Some (p.component.now, p.matrix.now, p.target.now, p.specification.now) = search rules in
     rw parts
-    (worded_answered p.component.now p.matrix.now read.worded c.wording-how.result (λ how d m. IsExplainedAgainstText how d m p.target.now p.specification.now)
+    (worded_answered p.component.now p.matrix.now read.worded c.wording-how.result (λ how d m. IsExplainedAgainstText how d m p.target.now c.args.marks p.specification.now)
     read.ensures.read c.wording-how.ensures c.explain_against.result c.explain_against.ensures)

@@ -7,5 +7,5 @@ pub returns-in-Ok : goal.returns-in-Ok
 returns-in-Ok c =
     let source = c.args.source.now in
     let parts = texts c.args.parts.now in
-    IfOk-weaker c.lint_after.result (IsLintedAfter c.args.bounds source parts c.in-Ok.component) (IsSourceLinted c.args.bounds source parts)
+    IfOk-weaker c.lint_after.result (IsLintedAfter c.args.asked source parts c.in-Ok.component) (IsSourceLinted c.args.asked source parts)
     (λ answer is. rw c.in-Ok.ensures.exact is) c.lint_after.ensures

@@ -1,12 +1,13 @@
 use Rattle.std.proofs.lemmas.Result.{IfOk-weaker}
-use Rattle.lu_serial.specs.declared.learning.Learnt.TheVariants.{Set, Cut, Conflict}
+use Rattle.lu_serial_graph.specs.declared.learning.LearntGraph.TheVariants.{Set, Cut, Conflict}
+use Rattle.lu_serial_graph.specs.Graphs.{members_of}
 use Rattle.lu_lint.proofs.LearntHints.{can_play, learnt_so, shown_by_conflict, shown_by_cut, shown_by_set}
 use Rattle.lu_lint.proofs.serial_runs.serial_hints.Goals as goal
 
 pub returns-in-Set : goal.returns-in-Set
 returns-in-Set c =
     let all = learnt_so c.args.test.component.now c.args.test.matrix.now c.args.bound c.in_ok-learnt.learnt (Set c.in-Set.set) c.in_ok-learnt.ensures.learnt c.in-Set.is in
-    IfOk-weaker c.set_hints.result _ _ (λ hints is. shown_by_set c.args.test.component.now c.args.test.matrix.now c.args.bound c.in-Set.set hints.items all c.set_hints.ensures.sorted is) c.set_hints.ensures.hints
+    IfOk-weaker c.set_hints.result _ _ (λ hints is. shown_by_set c.args.test.component.now c.args.test.matrix.now c.args.bound (members_of c.in-Set.set) hints.items all c.set_hints.ensures.sorted is) c.set_hints.ensures.hints
 
 pub hints_of_cut-requires : goal.hints_of_cut-requires
 hints_of_cut-requires c =

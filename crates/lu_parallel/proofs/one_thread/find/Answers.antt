@@ -1,4 +1,5 @@
 use Rattle.std.proofs.lemmas.Result.{IfOk-weaker}
+use Rattle.lu_serial_graph.specs.Graphs.{members_of}
 use Rattle.lu_witness.specs.Witnesses.{IsMember}
 use Rattle.lu_replay.specs.Reports.{IsFinding, IsFindingAgainst}
 use Rattle.lu_parallel.proofs.Answers.{against_serially}
@@ -9,9 +10,10 @@ search_all-requires g c = c.requires.few
 
 pub returns-in-Ok-clause-found : goal.returns-in-Ok-clause-found
 returns-in-Ok-clause-found g c = λ s is.
+    let members = members_of c.in-Ok.graph in
     let set = c.in-Ok.ensures.set s c.args.serial (c.in_ok-learnt.ensures.learnt s is) in
-    IfOk-weaker c.search_all.result (IsFindingAgainst (IsMember c.in-Ok.set) s c.args.space.now.bound) (IsFinding s c.args.space.now.bound c.args.serial)
-    (λ finding found. against_serially c.in-Ok.set s c.args.space.now.bound c.args.serial finding set found) (c.search_all.ensures.found s is)
+    IfOk-weaker c.search_all.result (IsFindingAgainst (IsMember members) s c.args.space.now.bound) (IsFinding s c.args.space.now.bound c.args.serial)
+    (λ finding found. against_serially members s c.args.space.now.bound c.args.serial finding set found) (c.search_all.ensures.found s is)
 
 pub returns-in-Err-clause-found : goal.returns-in-Err-clause-found
 returns-in-Err-clause-found g c = λ s is. c.in-Err.ensures.offence s c.args.space.now.bound c.args.serial (c.in_ok-learnt.ensures.learnt s is)

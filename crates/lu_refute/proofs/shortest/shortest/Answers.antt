@@ -4,12 +4,12 @@ use Rattle.lu_test.specs.Schedule.{AreMoves}
 use Rattle.lu_machine.specs.States.{State}
 use Rattle.lu_machine.specs.Starts.{IsStart}
 use Rattle.lu_machine.specs.Runs.{Leads}
-use Rattle.lu_refute.specs.Linearizable.{AreLengths}
+use Rattle.lu_serial.specs.Cuts.{AreLengths}
 use Rattle.lu_refute.specs.Walks.{EndsOutside}
-use Rattle.lu_refute.specs.Whole.{made_calls}
+use Rattle.lu_serial.specs.Whole.{made_calls}
 use Rattle.lu_machine.proofs.Starting.{start_matrix, start_same}
-use Rattle.lu_refute.proofs.Grounds.{ground_of, grounded}
-use Rattle.lu_refute.proofs.Cuts.{made_lengths}
+use Rattle.lu_serial.proofs.Grounds.{ground_of, grounded}
+use Rattle.lu_serial.proofs.Cuts.{made_lengths}
 use Rattle.lu_refute.proofs.Shortening.{cut_over, front_moves}
 use Rattle.lu_refute.proofs.shortest.shortest.Goals as goal
 

@@ -2,4 +2,4 @@ use Rattle.lu_spec.proofs.FreeFaultLines.{given_told}
 use Rattle.lu_spec.proofs.laws.given_listed_as_read.Goals as goal
 
 pub returns : goal.returns
-returns _ = λ matrix text faults are. given_told matrix text faults are
+returns _ = given_told

@@ -5,7 +5,7 @@ use Rattle.lu_machine.specs.declared.event.Event.TheVariants.{Call, Return}
 use Rattle.lu_machine.specs.Steps.{Step}
 use Rattle.lu_history.specs.declared.serial.SerialOp.{SerialOp}
 use Rattle.lu_history.specs.declared.serial.SerialOutcome.{SerialOutcome}
-use Rattle.lu_refute.proofs.Made.{counted_call, made_none, made_return}
+use Rattle.lu_serial.proofs.Made.{counted_call, made_none, made_return}
 use Rattle.lu_refute.proofs.shortest.Walk.go_on.Goals as goal
 
 pub returns-in-None : goal.returns-in-None

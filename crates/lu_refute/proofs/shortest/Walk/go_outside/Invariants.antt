@@ -1,5 +1,5 @@
 use Rattle.std.proofs.Common.{◌≡◌}
-use Rattle.lu_refute.specs.Whole.{made_calls}
+use Rattle.lu_serial.specs.Whole.{made_calls}
 use Rattle.lu_refute.proofs.Shortening.{IsGone}
 use Rattle.lu_refute.proofs.shortest.Walk.go_outside.Given as goal
 

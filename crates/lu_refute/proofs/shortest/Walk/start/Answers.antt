@@ -1,6 +1,6 @@
 use Rattle.std.proofs.Common.{rules, ◌≡◌, ℕ, length, replicate, sym, ◌∙◌}
 use Rattle.lu_serial.proofs.CallsLeft.{none_at_start}
-use Rattle.lu_refute.proofs.Made.{start_made}
+use Rattle.lu_serial.proofs.Made.{start_made}
 use Rattle.lu_refute.proofs.shortest.Walk.start.Goals as goal
 
 pub returns-clause-before : goal.returns-clause-before

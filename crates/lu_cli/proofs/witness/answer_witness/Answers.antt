@@ -1,0 +1,22 @@
+use Rattle.std.proofs.Common.{◌≡◌, Some, rules}
+use Rattle.std.proofs.lemmas.Result.{err_from_is_err_and}
+use Rattle.lu_text.specs.Lines.{texts}
+use Rattle.lu_cli.specs.Witness.{IsJudgedTexts, three_parts}
+use Rattle.lu_cli.proofs.Refuted.{texts_answered, texts_refused}
+use Rattle.lu_cli.proofs.witness.answer_witness.Goals as goal
+
+pub returns-in_err-case : goal.returns-in_err-case
+returns-in_err-case c =
+    let p = c.in_ok-component in
+    let refused = err_from_is_err_and c.from_residual-in_err-case.result c.from_residual-in_err-case.ensures.1 in
+    let parts : three_parts (texts c.args.parts.now) ≡ Some (p.component.now, p.matrix.now, texts p.histories.now) = search rules in
+    rw (refused.1, refused.2, parts) (texts_refused p.component.now p.matrix.now c.in_err-case.field-0.0 (λ d m. IsJudgedTexts d m c.args.bounds (texts p.histories.now)) c.in_err-case.ensures.fault)
+
+pub returns : goal.returns
+returns c =
+    let p = c.in_ok-component in
+    let read = c.in_ok-case in
+    let parts : three_parts (texts c.args.parts.now) ≡ Some (p.component.now, p.matrix.now, texts p.histories.now) = search rules in
+    rw parts
+    (texts_answered p.component.now p.matrix.now read.case.component read.case.matrix (λ d m. IsJudgedTexts d m c.args.bounds (texts p.histories.now))
+    read.ensures.read c.judge_texts.result c.judge_texts.ensures)

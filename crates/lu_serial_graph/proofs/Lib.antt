@@ -1,0 +1,9 @@
+pub mod FlatGraphs
+pub mod FirstMoves
+pub mod Sifting
+pub mod Ordered
+pub mod After
+pub mod Links
+pub mod Explored
+pub mod Graphed
+pub mod Offending

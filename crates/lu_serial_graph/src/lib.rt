@@ -1,0 +1,12 @@
+//! The serial histories of a matrix as a graph without cycles.
+#![tactic(auto)]
+
+mod alone;
+mod answering;
+mod exploring;
+mod graph;
+mod learning;
+mod ordering;
+
+pub use graph::SerialGraph;
+pub use learning::{LearntGraph, learn_graph};

@@ -1,0 +1,130 @@
+//! What is added on standard error to an answer.
+
+use lu_machine::Counts;
+use lu_report::{Finding, read_report};
+use std::alloc::{AllocError, Global};
+use std::str;
+
+/// The meaning of a refusal of a component, a matrix or a schedule.
+fn meaning_of_case(code: &str) -> Option<&'static str> {
+    Some(match code {
+        "L1" | "M1" | "H1" | "O1" => "invalid byte; only ASCII, tabs and line ends are allowed",
+        "L2" => "this is not a line of a component",
+        "L3" => "a name that is not declared, or is declared twice",
+        "L4" | "M5" | "C2" | "H3" => "not a number, or a number that is too large",
+        "L5" => "the component is too large (docs/LANGUAGE.md, Limits)",
+        "L6" => "an operation must end with `return` or `jump`",
+        "L7" => "expected `component` first, and `end` after each operation",
+        "M2" => "expected `setup` or `thread`, and calls separated by `;`",
+        "M3" => "the component has no such operation",
+        "M4" => "wrong number of arguments",
+        "M6" => "no thread, or too many threads or calls",
+        "C1" => "not a schedule",
+        "C3" => "the schedule is too long, or a thread or a pick is above 7",
+        _ => return None,
+    })
+}
+
+/// The meaning of a refusal of a report, a specification or a history.
+fn meaning_of_finding(code: &str) -> Option<&'static str> {
+    Some(match code {
+        "E1" => "this line does not belong to a report",
+        "S1" =>
+            "not a line of a specification, or out of order; `lineup spec` puts lines in order, and `--marks` allows `?`",
+        "S2" => "the matrix has no such history",
+        "S3" => "two histories conflict: no deterministic specification has both",
+        "H2" => "expected `call`, `return` or `stuck`",
+        "H4" => "the matrix has no such call",
+        "H5" => "this call or return cannot come next",
+        _ => return None,
+    })
+}
+
+/// The meaning of a refusal of a source.
+fn meaning_of_source(code: &str) -> Option<&'static str> {
+    Some(match code {
+        "O2" => "unexpected word or sign (docs/SOURCE.md)",
+        "O3" => "a name that is already taken, or that is not declared",
+        "O4" => "expected a number or a constant",
+        "O5" => "the source is too large (docs/SOURCE.md, Refusals)",
+        "O6" =>
+            "unreachable statement, a `break` or `continue` outside of a loop, or an `await` that reads more than its cell",
+        "O7" => "expected `object` first, and `}` after each operation",
+        "O8" => "more than 8 registers are needed; use fewer locals or shorter expressions",
+        _ => return None,
+    })
+}
+
+/// The meaning of a refusal of a command line, a bundle or a run.
+fn meaning_of_request(code: &str) -> Option<&'static str> {
+    Some(match code {
+        "command" =>
+            "these words are not a command; `lineup commands` lists the commands and their options",
+        "B1" =>
+            "wrong number of parts; parts are separated by lines that are exactly `---`, without a carriage return",
+        "B2" => "the input is longer than 1,048,576 bytes",
+        "B3" => "a part after the source is not UTF-8",
+        "F2" => "the report is not a failure, or a run does not show it",
+        "U1" => "this call of the setup does not end",
+        "G2" => "a campaign takes one thread that lists 1 to 8 calls",
+        "G3" => "a matrix of this campaign has more than 16 calls",
+        "G4" => "the trusted component has other operations, or has them in another order",
+        _ => return None,
+    })
+}
+
+/// The meaning of a refusal with this code.
+fn meaning_of(code: &str) -> Option<&'static str> {
+    meaning_of_case(code)
+        .or(meaning_of_finding(code))
+        .or(meaning_of_source(code))
+        .or(meaning_of_request(code))
+}
+
+/// The word after `refused`, where the text begins with that.
+fn refusal_in(text: &str) -> Option<&str> {
+    let mut words = text.split_ascii_whitespace();
+    match words.next() {
+        Some("refused") => words.next(),
+        _ => None,
+    }
+}
+
+/// How many of all schedules a check judged, where it cut some.
+fn judged(alloc: Global, counts: &Counts) -> Result<Option<String>, AllocError> {
+    if counts.cut == 0 {
+        return Ok(None);
+    }
+    let ended = counts.complete.saturating_add(counts.stuck);
+    let all = ended.saturating_add(counts.cut);
+    let note = format!(in alloc;
+        "lineup: note: only {ended} of {all} schedules ended within the bound and were judged\n\
+lineup: help: `lineup certify` judges schedules of any length\n"
+    )?;
+    Ok(Some(note))
+}
+
+/// What to add on standard error to an answer that begins with these bytes: what a refusal means,
+/// or how many of all schedules a check judged, where it cut some. None for any other answer.
+///
+/// # Errors
+///
+/// `AllocError` where there is no memory for it.
+pub fn hint_on(alloc: Global, answer: &[u8]) -> Result<Option<String>, AllocError> {
+    let Ok(text) = str::from_utf8(answer) else {
+        return Ok(None);
+    };
+    if let Some(code) = refusal_in(text) {
+        return match meaning_of(code) {
+            None => Ok(None),
+            Some(meaning) => Ok(Some(format!(in alloc; "lineup: error: {meaning}\n")?)),
+        };
+    }
+    match read_report(alloc, answer) {
+        Ok(report) => match report.finding() {
+            Finding::Pass(counts) => judged(alloc, counts),
+            _ => Ok(None),
+        },
+        Err(_) => Ok(None),
+    }
+}
