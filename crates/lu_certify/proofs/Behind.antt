@@ -17,7 +17,7 @@ use Rattle.lu_report.specs.declared.report.Report.{Report}
 use Rattle.lu_replay.specs.Reports.{IsFinding, IsReport}
 use Rattle.lu_replay.proofs.Determined.{one_report}
 use Rattle.lu_certify.specs.declared.limits.Limits.{Limits}
-use Rattle.lu_certify.specs.Certificates.{Fails, FailsAfter, IsClear, IsFailingReport, IsFailure, IsFullPass, IsProvedGood, IsProvedLive}
+use Rattle.lu_certify.specs.Certificates.{Fails, FailsAfter, IsClear, IsFailingReport, IsFailure, IsFullPass, IsProvedGood, IsLivelockFree}
 use Rattle.lu_certify.specs.Cuts.{IsLeftOpen}
 use Rattle.lu_certify.proofs.Linear.{IsWell, clear_at, good_at, never_bad, never_good, well_not_failing}
 
@@ -128,10 +128,10 @@ module _ (c : Component) (matrix : Matrix) (limits : Limits) (settles : Settles 
   open_never_clear r report less left (inl has) = less (subst (λ (x : Report). IsFullPass x.finding) (one_report c matrix limits.bound limits.serial has.0 r settles has.1 report) has.2)
   open_never_clear r report less left (inr proved) = left.unproved proved.0
 
-  -- nor is it where its schedules are not proved live
-  pub unlive_never_clear : (r : Report) → IsReport c matrix limits.bound limits.serial r → (IsFullPass r.finding → ⊥) → (IsProvedLive c limits matrix → ⊥) → IsClear c limits matrix → ⊥
-  unlive_never_clear r report less unlive (inl has) = less (subst (λ (x : Report). IsFullPass x.finding) (one_report c matrix limits.bound limits.serial has.0 r settles has.1 report) has.2)
-  unlive_never_clear r report less unlive (inr proved) = unlive proved.1
+  -- nor is it where it is not known to be free of livelocks
+  pub unknown_never_clear : (r : Report) → IsReport c matrix limits.bound limits.serial r → (IsFullPass r.finding → ⊥) → (IsLivelockFree c limits matrix → ⊥) → IsClear c limits matrix → ⊥
+  unknown_never_clear r report less unfree (inl has) = less (subst (λ (x : Report). IsFullPass x.finding) (one_report c matrix limits.bound limits.serial has.0 r settles has.1 report) has.2)
+  unknown_never_clear r report less unfree (inr proved) = unfree proved.1
 
 -- it was tried first, or it is tried then
 pub tried_either : (P : Type 0) (tried : Bool) → (tried ≡ true → P) → (not tried ≡ true → P) → P

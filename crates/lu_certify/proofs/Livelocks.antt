@@ -34,7 +34,7 @@ use Rattle.lu_certify.specs.declared.judged.Standing.{Standing}
 use Rattle.lu_certify.specs.declared.judged.Standing.TheVariants.{FullPass, Good, Open}
 use Rattle.lu_certify.specs.declared.so_far.SoFar.{SoFar}
 use Rattle.lu_certify.specs.declared.so_far.SoFar.TheVariants.{Clear, Lost, Unclear}
-use Rattle.lu_certify.specs.Certificates.{HasNoLivelock, HasReport, IsClear, IsFullPass, IsLivelock, IsProvedGood, IsProvedLive}
+use Rattle.lu_certify.specs.Certificates.{HasNoLivelock, HasReport, IsClear, IsFullPass, IsLivelock, IsProvedGood, IsLivelockFree}
 use Rattle.lu_certify.specs.Cuts.{IsFirstLostOf, IsLivelockIfAny, IsLivelockOf, IsNext, IsStanding, asked_by, report_of, so_far_after}
 use Rattle.lu_certify.specs.Looking.{IsAnswer, IsClearUnless, TellsUnclear}
 use Rattle.lu_certify.proofs.Linear.{full_at}
@@ -149,10 +149,10 @@ first_lost_of c matrix limits (Err e) is = tt
 -- ---- what is answered of it
 
 -- where no schedule leads to a state from which none ends, it is clear but for its ended ones
-pub live_answer : (asked : Asked) (c : Component) (matrix : Matrix) (limits : Limits) (standing : Standing) → Settles c matrix → IsStanding c limits matrix standing → IsProvedLive c limits matrix → IsAnswer asked c limits matrix None (report_of standing)
-live_answer FailureOnly c matrix limits standing settles stands live = tt
-live_answer LivelockOnly c matrix limits standing settles stands live = never_lost_none c matrix limits settles (λ s at. (live s at).1)
-live_answer Clearness c matrix limits standing settles stands live = (never_lost_none c matrix limits settles (λ s at. (live s at).1), (λ _. told standing stands))
+pub free_answer : (asked : Asked) (c : Component) (matrix : Matrix) (limits : Limits) (standing : Standing) → Settles c matrix → IsStanding c limits matrix standing → IsLivelockFree c limits matrix → IsAnswer asked c limits matrix None (report_of standing)
+free_answer FailureOnly c matrix limits standing settles stands live = tt
+free_answer LivelockOnly c matrix limits standing settles stands live = never_lost_none c matrix limits settles (λ s at. (live s at).1)
+free_answer Clearness c matrix limits standing settles stands live = (never_lost_none c matrix limits settles (λ s at. (live s at).1), (λ _. told standing stands))
   where
     told : (standing : Standing) → IsStanding c limits matrix standing → IsClearUnless c limits matrix (report_of standing)
     told FullPass stands = inl stands

@@ -45,15 +45,16 @@ IsProvedGood c limits matrix =
 
 -- There are no more states than the limit, and no schedule, of any length, leads to a state from
 -- which none ends.
-abbrev pub IsProvedLive : Component → Limits → Matrix → Type 0
-IsProvedLive c limits matrix =
+abbrev pub IsLivelockFree : Component → Limits → Matrix → Type 0
+IsLivelockFree c limits matrix =
     FromEachStart c matrix (λ s. HasFewStates s limits.nodes × NeverLosesHope s)
 
--- its report is a pass, and no schedule was cut; or all of its schedules are proved good, and live
+-- its report is a pass, and no schedule was cut; or its schedules are proved good, and it is free of
+-- livelocks
 abbrev pub IsClear : Component → Limits → Matrix → Type 0
 IsClear c limits matrix =
     HasReport IsFullPass c limits.bound limits.serial matrix
-    ⊎ (IsProvedGood c limits matrix × IsProvedLive c limits matrix)
+    ⊎ (IsProvedGood c limits matrix × IsLivelockFree c limits matrix)
 
 -- No serial run offends, there are no more nodes than the limit, and the shortest schedule that
 -- ends badly has this many moves: more than the bound, and at most 256.

@@ -29,7 +29,7 @@ use Rattle.lu_certify.specs.declared.judged.Standing.{Standing}
 use Rattle.lu_certify.specs.declared.judged.Standing.TheVariants.{FullPass, Good, Open}
 use Rattle.lu_certify.specs.declared.by_nodes.ByNodes.{ByNodes}
 use Rattle.lu_certify.specs.declared.by_nodes.ByNodes.TheVariants.{AllGood, BadAfter, Nothing}
-use Rattle.lu_certify.specs.Certificates.{AreBeginnings, Fails, FailsAfter, HasNoLivelock, HasReport, IsClear, IsFailingReport, IsFullPass, IsLivelock, IsProvedGood, IsProvedLive}
+use Rattle.lu_certify.specs.Certificates.{AreBeginnings, Fails, FailsAfter, HasNoLivelock, HasReport, IsClear, IsFailingReport, IsFullPass, IsLivelock, IsProvedGood, IsLivelockFree}
 
 -- how many lengths a cut can have of each thread: 0 to all of its calls
 abbrev pub length_counts : Matrix → List ℕ
@@ -157,12 +157,12 @@ AsksForLost standing false =
 
 -- What is found of the livelock of a cut that stands so: that no schedule leads to a state from
 -- which none ends; or its livelock; or that none is found. Then, where its schedules are proved
--- good, they are not proved live.
+-- good, it is not known to be free of livelocks.
 abbrev pub IsLivelockOf : Component → Limits → Matrix → Standing → FirstLost → Type 0
-IsLivelockOf c limits matrix standing Never = IsProvedLive c limits matrix
+IsLivelockOf c limits matrix standing Never = IsLivelockFree c limits matrix
 IsLivelockOf c limits matrix standing (First u) = IsLivelock c limits matrix u
 IsLivelockOf c limits matrix standing Unknown =
-    HasNoLivelock c limits matrix × (standing ≡ Good → IsProvedLive c limits matrix → ⊥)
+    HasNoLivelock c limits matrix × (standing ≡ Good → IsLivelockFree c limits matrix → ⊥)
 
 -- so it is of the result, if there is one, where the cut stands so
 abbrev pub SeeksLivelock : {E : Type 0} → Component → Limits → Matrix → Standing

@@ -4,7 +4,7 @@ ghost use Rattle.std.specs.Prelude.{◌≡◌, ◌<◌, IfErr, IfOk, IfSome, OnO
 ghost use Rattle.lu_graph.specs.declared.halted.Halted.TheVariants.{Stopped};
 ghost use Rattle.lu_certify.specs.Limited.{AreFoundIn, IsFoundIn, IsReportAtBounds, OfTest};
 ghost use Rattle.lu_certify.specs.declared.judged.Standing.TheVariants.{Good};
-ghost use Rattle.lu_certify.specs.Certificates.{IsProvedLive};
+ghost use Rattle.lu_certify.specs.Certificates.{IsLivelockFree};
 ghost use Rattle.lu_certify.specs.Looking.{IsFound, IsLooked, TellsUnclear};
 ghost use Rattle.lu_certify.specs.Cuts.{IsFirstLostOf, IsJudged, IsStanding, cut_count};
 
@@ -33,7 +33,7 @@ fn unclear_report(
     asked: Asked,
 ) -> Result<Option<Report>, AllocError>
     requires standing { OfTest IsStanding cut standing }
-    requires unknown { standing ≡ Good → OfTest IsProvedLive cut → ⊥ }
+    requires unknown { standing ≡ Good → OfTest IsLivelockFree cut → ⊥ }
     ensures { IfOk result (OfTest (TellsUnclear asked) cut.entry) }
 {
     match standing {

@@ -7,9 +7,8 @@ ghost use Rattle.lu_tree.specs.Tables.{AreRunTables};
 use crate::serial_runs::set_of;
 use crate::trees::{assert_bad, assert_clean, beginning};
 use lu_fixtures::{Fixture, ROWS, fixture_of};
-use lu_graph::{Alone, Ending, Halted, ends_well_watched, first_lost_watched};
+use lu_graph::{Alone, Ending, FirstLost, Halted, ends_well_watched, first_lost_watched};
 use lu_machine::Test;
-use lu_test::Schedule;
 use lu_tree::{Found, SearchSpace, Tables, Unwatched, Watch, search_watched, search_with};
 use lu_trie::{PackedTrie, SerialTree};
 use lu_witness::{Cache, Why};
@@ -157,17 +156,18 @@ fn ending_watched(
     ))
 }
 
-/// The first schedule of the matrix to a state from which none ends.
+/// The first schedule of the matrix to a state from which none ends, of at most this many states.
 fn lost_watched(
     rt: &(impl AllocGlobal + Abort),
     matrix: &[u8],
+    most: u32,
     watch: &mut Patience,
-) -> Result<Result<Option<Schedule>, Halted>, Fail>
+) -> Result<Result<FirstLost, Halted>, Fail>
     requires { watch.old.stopped ≡ false }
 {
     let case = fixture_of(rt, ROWS.as_bytes(), matrix)?;
     let (component, matrix) = (&case.component, &case.matrix);
-    Ok(first_lost_watched(rt.alloc(), component, matrix, 1000, watch))
+    Ok(first_lost_watched(rt.alloc(), component, matrix, most, watch))
 }
 
 const EXCHANGES: &[u8] = b"thread cinc\nthread cinc\n";
@@ -208,16 +208,27 @@ fn a_watch_is_asked_before_each_node(rt: HostRuntime) -> Result<(), Fail> {
     Ok(())
 }
 
-/// They have 87 states, of which histories are no part.
+/// They have 87 states, of which histories are no part. With room for fewer it is not known whether
+/// each of them can end.
+#[test]
+fn too_many_states_are_not_known_to_end(rt: HostRuntime) -> Result<(), Fail> {
+    let lost = lost_watched(&rt, EXCHANGES, 87, &mut stops_at(0))?;
+    assert!(&rt; matches!(lost, Ok(FirstLost::Never)));
+    let lost = lost_watched(&rt, EXCHANGES, 86, &mut stops_at(0))?;
+    assert!(&rt; matches!(lost, Ok(FirstLost::Unknown)));
+    Ok(())
+}
+
+/// The watch is asked once more where none is left.
 #[test]
 fn a_watch_is_asked_before_each_state(rt: HostRuntime) -> Result<(), Fail> {
     let mut watch = stops_at(0);
-    let lost = lost_watched(&rt, EXCHANGES, &mut watch)?;
-    assert!(&rt; matches!(lost, Ok(None)));
+    let lost = lost_watched(&rt, EXCHANGES, 1000, &mut watch)?;
+    assert!(&rt; matches!(lost, Ok(FirstLost::Never)));
     assert!(&rt; watch.asked == 88, "{}", watch.asked);
     for last in [1, 5] {
         let mut watch = stops_at(last);
-        let lost = lost_watched(&rt, EXCHANGES, &mut watch)?;
+        let lost = lost_watched(&rt, EXCHANGES, 1000, &mut watch)?;
         assert!(&rt; matches!(lost, Err(Halted::Stopped)));
         assert!(&rt; watch.asked == last, "{last}");
     }

@@ -3,7 +3,7 @@ use Rattle.lu_graph.specs.declared.lost.FirstLost.TheVariants.{First, Never, Unk
 use Rattle.lu_report.specs.declared.report.Report.{Report}
 use Rattle.lu_certify.specs.Cuts.{IsLivelockOf}
 use Rattle.lu_certify.specs.Looking.{IsAnswer}
-use Rattle.lu_certify.proofs.Livelocks.{live_answer, lost_answer, open_answer}
+use Rattle.lu_certify.proofs.Livelocks.{free_answer, lost_answer, open_answer}
 use Rattle.lu_certify.proofs.Rounds.{standing_never_fails}
 use Rattle.lu_certify.proofs.looking.look_standing.Goals as goal
 
@@ -23,7 +23,7 @@ returns-in-Never-clause-looked g c =
     subst (IsLivelockOf cut.component.now cut.limits cut.matrix.now c.args.standing) c.in-Never.is (c.in_ok-schedule.ensures.livelock c.requires.standing) in (
       standing_never_fails cut.component.now cut.matrix.now cut.limits cut.can_run.settles c.args.standing c.requires.standing,
       subst (λ (x : Option Report). IsAnswer c.args.asked cut.component.now cut.limits cut.matrix.now None x) (sym c.report.ensures)
-          (live_answer c.args.asked cut.component.now cut.matrix.now cut.limits c.args.standing cut.can_run.settles c.requires.standing found),
+          (free_answer c.args.asked cut.component.now cut.matrix.now cut.limits c.args.standing cut.can_run.settles c.requires.standing found),
     )
 
 pub returns-in_ok-unclear-in-Unknown-clause-looked : goal.returns-in_ok-unclear-in-Unknown-clause-looked
