@@ -33,6 +33,7 @@ fn meaning_of_finding(code: &str) -> Option<&'static str> {
             "not a line of a specification, or out of order; `lineup spec` puts lines in order, and `--marks` allows `?`",
         "S2" => "the matrix has no such history",
         "S3" => "two histories conflict: no deterministic specification has both",
+        "S4" => "too many serial histories to list; try fewer calls",
         "H2" => "expected `call`, `return` or `stuck`",
         "H4" => "the matrix has no such call",
         "H5" => "this call or return cannot come next",
