@@ -1,34 +1,19 @@
 -- Answers to serial runs and to removals.
-use Rattle.std.proofs.Common.{◌≡◌, ℕ, subst, List, Result, Ok, Err, inl, inr}
+use Rattle.std.proofs.Common.{◌≡◌, ℕ, subst, Result, Ok, Err, inl, inr}
 use Rattle.std.specs.Prelude.{IfOk}
 use Rattle.lu_component.specs.Component.{Component}
 use Rattle.lu_test.specs.Matrix.{Matrix}
-use Rattle.lu_machine.specs.States.{State}
-use Rattle.lu_machine.specs.Starts.{IsStart, Settles}
-use Rattle.lu_machine.proofs.Starting.{start_there}
-use Rattle.lu_history.specs.declared.serial.SerialOp.{SerialOp}
-use Rattle.lu_serial.specs.Offences.{IsSetOf}
 use Rattle.lu_report.specs.Parts.{Report}
 use Rattle.lu_replay.specs.Reports.{IsReport}
-use Rattle.lu_spec.specs.Beginnings.{IsClosureOf}
 use Rattle.lu_refine.specs.declared.shrink_fault.ShrinkFault.{ShrinkFault}
 use Rattle.lu_refine.specs.declared.shrink_fault.ShrinkFault.TheVariants.{NotFailing}
 use Rattle.lu_refine.specs.Removals.{IsShrinkFault, IsShrunk}
 use Rattle.lu_report.specs.Limits.{Bounds}
 use Rattle.lu_cli.specs.Outcomes.{Answer}
-use Rattle.lu_cli.specs.Serial.{IsRunSerially}
-use Rattle.lu_cli.specs.Shows.{IsListed, reported, with_matrix}
+use Rattle.lu_cli.specs.Shows.{reported, with_matrix}
 use Rattle.lu_cli.specs.Shrink.{ShowsShrunk}
 
 module _ {E : Type 0} (c : Component) (matrix : Matrix) (limits : Bounds) where
-  -- the specification of the serial histories
-  pub set_serial : (histories members : List (List SerialOp)) → Settles c matrix → ((s : State) → IsStart c matrix s → IsSetOf s limits.serial histories) → IsClosureOf histories members → (result : Result Answer E) → IfOk result (IsListed members) → IfOk result (IsRunSerially c matrix limits)
-  set_serial histories members settles is closure (Ok answer) listed =
-      let start = start_there c matrix settles in
-      let set = is start.0 start.1 in
-      inl (start.0, start.1, set.none, (histories, members, set.are, closure, listed))
-  set_serial histories members settles is closure (Err e) h = tt
-
   -- a matrix that does not fail is not shrunk
   pub not_failing : (bound serial : ℕ) → bound ≡ limits.bound → serial ≡ limits.serial → (fault : ShrinkFault) (r : Report) → fault ≡ NotFailing r → IsShrinkFault c matrix bound serial fault → (result : Result Answer E) → IfOk result (λ answer. answer ≡ reported r) → IfOk result (ShowsShrunk c matrix limits)
   not_failing bound serial b s fault r f is (Ok answer) e =

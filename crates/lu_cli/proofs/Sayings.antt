@@ -1,5 +1,5 @@
 -- Answers that go out.
-use Rattle.std.specs.Prelude.{if◌then◌else◌}
+use Rattle.std.specs.Prelude.{if◌then◌else◌, min, ◌-◌, ◌^◌}
 use Rattle.std.proofs.Common.{◌≡◌, ◌≢◌, ℕ, suc, ◌<◌, Bool, true, false, List, [], ◌∷◌, ◌++◌, Option, Some, None, length, replicate, Result, Ok, Err, refl, ◌⊎◌, inl, inr, ap, sym, ◌∙◌, arith, subst, get_or, MatchResult}
 use Rattle.std.specs.Prelude.{IfSome, MatchBool, MatchOption, codes, nat_lt, ◌||◌}
 use Rattle.std.specs.Fmt.{decimal}
@@ -196,8 +196,9 @@ scheduled_else (Ok u) IsAnswer answer h is = h u is
 scheduled_else (Err fault) IsAnswer answer h is = refused_else _ answer is
 
 serial_else : (c : Component) (m : Matrix) (limits : Bounds) (answer : Answer) → IsRunSerially c m limits answer → IsElse answer
-serial_else c m limits answer (inl is) = status_else answer 0 (ap (λ (a : Answer). a.status) is.3.4.2) (λ e. omega arith)
-serial_else c m limits answer (inr is) = reported_else is.0 answer is.3
+serial_else c m limits answer (inl is) = status_else answer 0 (ap (λ (a : Answer). a.status) is.lists.4.2) (λ e. omega arith)
+serial_else c m limits answer (inr (inl is)) = refused_else (codes "S4 histories " ++ decimal (min is.count (2 ^ 64 - 1))) answer is.says
+serial_else c m limits answer (inr (inr is)) = reported_else is.0 answer is.3
 
 checked_else : (c : Component) (m : Matrix) (choice : Options) (answer : Answer) → IsChecked c m choice answer → IsElse answer
 checked_else c m choice answer (inl is) = reported_else is.0 answer is.2

@@ -11,6 +11,7 @@ use Rattle.lu_machine.specs.declared.test.Test.{Test}
 use Rattle.lu_machine.specs.Starts.{FromEachStart, IsStart}
 use Rattle.lu_history.specs.declared.serial.SerialOp.{SerialOp}
 use Rattle.lu_serial.specs.Offences.{IsSetOf}
+use Rattle.lu_serial_graph.specs.Graphs.{members_of}
 use Rattle.lu_report.specs.declared.report.Finding.{Finding}
 use Rattle.lu_report.specs.Parts.{IsOfOffence}
 use Rattle.lu_witness.specs.Witnesses.{IsMember, IsVerdict}
@@ -142,12 +143,16 @@ SaysOffence c m serial answer =
 abbrev pub AreSerialHistories : Component → Matrix → ℕ → List (List SerialOp) → Type 0
 AreSerialHistories c m serial members = (s : State) × IsStart c m s × IsSetOf s serial members
 
--- the results are the serial histories, or that a serial run offends
+-- this is a graph of the serial histories, where none offends
+abbrev pub IsGraphOfHistories : Component → Matrix → ℕ → List (List (List SerialOp)) × ℕ → Type 0
+IsGraphOfHistories c m serial graph = AreSerialHistories c m serial (members_of graph)
+
+-- the results are a graph of the serial histories, or that a serial run offends
 abbrev pub LearnsOrSays : {E : Type 0} → Test → ℕ
-    → Result (Result (List (List SerialOp)) Answer) E → Type 0
+    → Result (Result (List (List (List SerialOp)) × ℕ) Answer) E → Type 0
 LearnsOrSays test serial result =
     IfOk result (λ learnt. MatchResult learnt
-    (AreSerialHistories test.component.now test.matrix.now serial)
+    (IsGraphOfHistories test.component.now test.matrix.now serial)
     (SaysOffence test.component.now test.matrix.now serial))
 
 -- by the serial histories, where no serial run offends; else that one does

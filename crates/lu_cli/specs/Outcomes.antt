@@ -28,6 +28,10 @@ no_command = record { text = codes "refused command line\n"; status = 2 }
 abbrev pub no_device : Answer
 no_device = record { text = codes "refused device\n"; status = 4 }
 
+-- there are this many serial histories, too many to list
+abbrev pub too_many : ℕ → Answer
+too_many n = refused (codes "S4 histories " ++ decimal n)
+
 -- the start of a worker's thread was refused
 abbrev pub no_worker : Answer
 no_worker = record { text = codes "refused K2\n"; status = 4 }

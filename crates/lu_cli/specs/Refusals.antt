@@ -23,7 +23,7 @@ use Rattle.lu_cli.specs.declared.texts.Fault.{Fault as TextsFault}
 use Rattle.lu_cli.specs.declared.texts.Fault.TheVariants.{Component, Matrix, Setup, Spec, Check}
 use Rattle.lu_cli.specs.declared.refusal.Refusal.{Refusal}
 use Rattle.lu_cli.specs.declared.refusal.Refusal.TheVariants as refusal
-use Rattle.lu_cli.specs.Outcomes.{Answer, refused, refused_on_line, no_worker, unsettled}
+use Rattle.lu_cli.specs.Outcomes.{Answer, refused, refused_on_line, no_worker, too_many, unsettled}
 
 -- a fault by line; nothing is written for refused memory here
 abbrev pub line_answer : {Kind : Type 0} → (Kind → List ℕ) → Fault Kind → Option Answer
@@ -73,6 +73,7 @@ refusal_answer (refusal.Refute fault) = refute_refusal fault
 refusal_answer (refusal.Campaign fault) = campaign_refusal fault
 refusal_answer (refusal.Source fault) = line_answer source_code_of fault
 refusal_answer refusal.Operations = Some (refused (codes "G4"))
+refusal_answer (refusal.Histories n) = Some (too_many n)
 refusal_answer (refusal.Recorded fault) = history_answer fault.number fault.fault
 refusal_answer refusal.Memory = None
 

@@ -15,10 +15,10 @@ use lu_history::{History, HistoryFault};
 use lu_machine::{Status, Test};
 use lu_replay::{Replay, ReplayFault, replay};
 use lu_report::{Bounds, Finding, MOST_MOVES, Report};
-use lu_serial::{Learnt, learn};
+use lu_serial_graph::{LearntGraph, SerialGraph, learn_graph};
 use lu_test::{Schedule, write_schedule};
 use lu_trace::Wording;
-use lu_trie::{SerialTree, Trie};
+use lu_trie::SerialTree;
 use lu_witness::{Verdict, verdict};
 use std::alloc::{AllocError, Global};
 
@@ -227,19 +227,19 @@ pub(crate) fn explain<T: SerialTree>(
     }
 }
 
-/// The serial histories of a test; or, where one of its serial runs offends, what is said of that.
+/// The serial histories of a test as a graph; or, where one of its serial runs offends, what is said of that.
 fn learn_or_say(
     alloc: Global,
     test: Test<'_>,
     serial: u16,
-) -> Result<Result<Trie<Global>, Answer>, AllocError>
+) -> Result<Result<SerialGraph<Global>, Answer>, AllocError>
     requires { IsSerialBound serial }
     ensures { LearnsOrSays test.entry serial result }
 {
-    match learn(alloc, alloc, test.component, test.matrix, serial)? {
-        Learnt::Set(set) => Ok(Ok(set)),
-        Learnt::Cut(schedule) => Ok(Err(say_with(alloc, "serial-cut", &schedule)?)),
-        Learnt::Conflict { schedule, .. } => {
+    match learn_graph(alloc, alloc, test.component, test.matrix, serial)? {
+        LearntGraph::Set(graph) => Ok(Ok(graph)),
+        LearntGraph::Cut(schedule) => Ok(Err(say_with(alloc, "serial-cut", &schedule)?)),
+        LearntGraph::Conflict { schedule, .. } => {
             Ok(Err(say_with(alloc, "nondeterministic", &schedule)?))
         }
     }
@@ -256,7 +256,7 @@ pub(crate) fn explain_finding_serially(
     ensures { ExplainsFindingSerially by.entry test.entry finding.now result }
 {
     match learn_or_say(alloc, test, MOST_MOVES)? {
-        Ok(set) => explain_finding(alloc, test, &&set, finding, by),
+        Ok(graph) => explain_finding(alloc, test, &&graph, finding, by),
         Err(answer) => Ok(answer),
     }
 }
@@ -272,7 +272,7 @@ pub(crate) fn explain_serially(
     ensures { ExplainsSerially by.entry bounds test.entry target.now result }
 {
     match learn_or_say(alloc, test, bounds.serial())? {
-        Ok(set) => explain(alloc, test, &&set, target, by),
+        Ok(graph) => explain(alloc, test, &&graph, target, by),
         Err(answer) => Ok(answer),
     }
 }

@@ -46,6 +46,9 @@ pub(crate) enum Refusal {
     /// `G4`: the trusted component has other operations.
     Operations,
 
+    /// `S4`: there are this many serial histories, too many to list.
+    Histories(u64),
+
     /// What is wrong with the text of a recorded history.
     Recorded(PartFault),
 
@@ -178,6 +181,16 @@ fn answer_unsettled(alloc: Global, call: u8) -> Result<Answer, AllocError>
     })
 }
 
+/// That there are this many serial histories, too many to list.
+fn too_many(alloc: Global, count: u64) -> Result<Answer, AllocError>
+    ensures { IfOk result (λ answer. answer ≡ outcomes.too_many count) }
+{
+    Ok(Answer {
+        text: format!(in alloc; "refused S4 histories {count}\n")?,
+        status: 2,
+    })
+}
+
 /// That the start of a worker's thread was refused.
 fn no_worker(alloc: Global) -> Result<Answer, AllocError>
     ensures { IfOk result (λ answer. answer ≡ outcomes.no_worker) }
@@ -218,6 +231,7 @@ pub(crate) fn show_refusal(alloc: Global, refusal: Refusal) -> Result<Answer, Al
         Refusal::Campaign(CampaignFault::Limit) => refused(alloc, "G3"),
         Refusal::Source(Fault::At(kind, line)) => refused_on_line(alloc, kind.code(), line),
         Refusal::Operations => refused(alloc, "G4"),
+        Refusal::Histories(count) => too_many(alloc, count),
         Refusal::Recorded(
             PartFault {
                 number,

@@ -2,21 +2,28 @@
 
 ghost use Rattle.lu_text.specs.Lines.{texts};
 ghost use Rattle.lu_test.specs.Matrix.{IsMatrix};
+ghost use Rattle.lu_report.specs.Limits.{IsSerialBound};
 ghost use Rattle.lu_report.specs.Parts.{IsOfOffence};
+ghost use Rattle.lu_serial_graph.specs.Graphs.{members_of};
 ghost use Rattle.lu_cli.specs.Refusals.{Answered};
 ghost use Rattle.lu_cli.specs.Serial as spec;
-ghost use Rattle.lu_cli.specs.Serial.{IsFoundWithin, ReportsOffence, RunsSerially};
+ghost use Rattle.lu_cli.specs.Serial.{IsFoundWithin, IsSetFromStarts, ListsFromStarts, NoneOffends, ReportsOffence, RunsSerially};
 
 use crate::answer::{Answer, show_report, show_spec};
 use crate::refusal::Refusal;
 use crate::texts::read_texts;
 use lu_machine::Test;
-use lu_replay::set_or_offence;
+use lu_replay::{graph_or_offence, set_or_offence};
 use lu_report::{Bounds, Finding, Report};
 use lu_serial::learn;
+use lu_serial_graph::{SerialGraph, learn_graph};
 use lu_spec::Spec;
 use lu_text::exactly_two;
 use std::alloc::{AllocError, Global};
+
+/// The greatest number of serial histories that are listed. The text of more is longer than a bundle
+/// may be: a history has 16 bytes or more where there are several.
+pub(crate) const MOST_LISTED: u64 = 65_536;
 
 /// The report of a serial offence.
 pub(crate) fn show_offence(
@@ -41,14 +48,42 @@ pub(crate) fn show_offence(
     )
 }
 
-/// The serial histories, or the report of the least serial offence.
-fn run_serially(alloc: Global, test: Test<'_>, bounds: Bounds) -> Result<Answer, AllocError>
+/// The specification of the serial histories. No serial run may offend.
+fn list_histories(alloc: Global, test: Test<'_>, serial: u16) -> Result<Answer, AllocError>
+    requires serial { IsSerialBound serial }
+    requires none { NoneOffends test serial }
+    ensures { ListsFromStarts test.entry result }
+{
+    let learnt = learn(alloc, alloc, test.component, test.matrix, serial)?;
+    let set = set_or_offence(learnt).unwrap();
+    show_spec(alloc, &Spec::closure(alloc, test.matrix, &set)?)
+}
+
+/// The specification of the serial histories of this graph, or how many there are.
+fn list_or_count(
+    alloc: Global,
+    test: Test<'_>,
+    bounds: Bounds,
+    graph: &SerialGraph<Global>,
+) -> Result<Answer, Refusal>
+    requires { IsSetFromStarts test bounds.serial (members_of graph.now) }
     ensures { RunsSerially test.entry bounds result }
 {
-    let learnt = learn(alloc, alloc, test.component, test.matrix, bounds.serial())?;
-    match set_or_offence(learnt) {
-        Ok(set) => show_spec(alloc, &Spec::closure(alloc, test.matrix, &set)?),
-        Err(finding) => show_offence(alloc, test, bounds, finding),
+    let count = graph.member_count();
+    if count > MOST_LISTED {
+        return Err(Refusal::Histories(count));
+    }
+    Ok(list_histories(alloc, test, bounds.serial())?)
+}
+
+/// The serial histories, or how many there are, or the report of the least serial offence.
+fn run_serially(alloc: Global, test: Test<'_>, bounds: Bounds) -> Result<Answer, Refusal>
+    ensures { RunsSerially test.entry bounds result }
+{
+    let learnt = learn_graph(alloc, alloc, test.component, test.matrix, bounds.serial())?;
+    match graph_or_offence(learnt) {
+        Ok(graph) => list_or_count(alloc, test, bounds, &graph),
+        Err(finding) => Ok(show_offence(alloc, test, bounds, finding)?),
     }
 }
 
@@ -66,5 +101,5 @@ pub(crate) fn answer_serial(
         component: &case.component,
         matrix: &case.matrix,
     };
-    Ok(run_serially(alloc, test, bounds)?)
+    run_serially(alloc, test, bounds)
 }

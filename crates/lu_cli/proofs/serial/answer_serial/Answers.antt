@@ -1,4 +1,4 @@
-use Rattle.std.proofs.Common.{◌≡◌, Ok, Some, rules}
+use Rattle.std.proofs.Common.{◌≡◌, Some, rules}
 use Rattle.std.proofs.lemmas.Result.{err_from_is_err_and}
 use Rattle.lu_text.specs.Lines.{texts}
 use Rattle.lu_text.specs.Words.{exactly_two}
@@ -20,4 +20,4 @@ returns c =
     let parts : exactly_two (texts c.args.parts.now) ≡ Some (p.component.now, p.matrix.now) = search rules in
     rw parts
     (texts_answered p.component.now p.matrix.now read.case.component read.case.matrix (λ d m. IsRunSerially d m c.args.bounds)
-    read.ensures.read (Ok c.in_ok-run_serially.field-0) c.in_ok-run_serially.ensures)
+    read.ensures.read c.run_serially.result c.run_serially.ensures)
