@@ -1,5 +1,7 @@
 //! A writer that remembers how its output begins.
 
+ghost use Rattle.std.specs.Prelude.{◌≤◌};
+
 use std::io;
 use std::io::Write;
 

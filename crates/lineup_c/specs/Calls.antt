@@ -26,10 +26,10 @@ use Rattle.lineup_c.specs.Numbers.{number_of, run_numbers}
 use Rattle.lineup_c.specs.Rooms.{filled}
 use Rattle.lineup_c.specs.Stack.{stack_for}
 
--- the same words as strings; none where one is no UTF-8
+-- the same words as strings, each UTF-8; none where one is not UTF-8
 abbrev pub AreStrings : {Z : Type 0} → List (List ℕ) → Option (Vec (Bor (List ℕ)) Z) → Type 0
 AreStrings words None = All IsUtf8 words → ⊥
-AreStrings words (Some strings) = texts strings.items ≡ words
+AreStrings words (Some strings) = (texts strings.items ≡ words) × All IsUtf8 words
 
 -- that the stack is too small
 abbrev pub no_stack : Answer
