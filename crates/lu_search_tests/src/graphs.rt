@@ -1,9 +1,8 @@
 //! The serial histories of small matrices as graphs.
 
-use crate::serial_runs::{assert_spelled, set_of};
-use lu_fixtures::{fixture_of, same_members};
+use crate::serial_runs::assert_spelled;
+use lu_fixtures::fixture_of;
 use lu_serial_graph::{LearntGraph, SerialGraph, learn_graph};
-use lu_trie::SerialTree;
 use std::alloc::Global;
 use std::process::Abort;
 use std::test::Fail;
@@ -41,18 +40,6 @@ fn assert_counts(
     let graph = graph_of(rt, component, matrix)?;
     assert!(rt; graph.member_count() == members, "{members}");
     assert!(rt; graph.node_count() == nodes, "{nodes}");
-    Ok(())
-}
-
-/// The graph has the same members as the trie.
-fn assert_same(
-    rt: &(impl AllocGlobal + Abort),
-    component: &[u8],
-    matrix: &[u8],
-) -> Result<(), Fail> {
-    let graph = graph_of(rt, component, matrix)?;
-    let set = set_of(rt, component, matrix)?;
-    assert!(rt; same_members(&&graph, (&graph).root(), &&set, (&set).root()));
     Ok(())
 }
 
@@ -116,16 +103,6 @@ fn histories_that_continue_alike_share_a_node(rt: HostRuntime) -> Result<(), Fai
     assert_counts(&rt, COMPONENT, EIGHT_OF_TWO, 81_729_648_000, 6_561)?;
     // After both calls the rests are found in two orders.
     assert_counts(&rt, COMPONENT, b"thread up\nthread down\n", 2, 4)
-}
-
-#[test]
-fn a_graph_has_the_members_of_the_trie(rt: HostRuntime) -> Result<(), Fail> {
-    assert_same(
-        &rt,
-        COMPONENT,
-        b"thread inc;take;inc\nthread take;inc\nthread take\n",
-    )?;
-    assert_same(&rt, COMPONENT, b"thread up;up\nthread down\n")
 }
 
 #[test]
