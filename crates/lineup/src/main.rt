@@ -4,9 +4,11 @@
 #![tactic(auto)]
 
 mod head;
+mod mistake;
 
 use head::Head;
 use lu_cli::{Counted, Terminal, hint_on, run_with_progress};
+use mistake::mistake_in;
 use std::io;
 use std::io::IsTerminal;
 use std::process::ExitCode;
@@ -24,10 +26,14 @@ fn asks_for_hints(words: &[String]) -> bool {
     words.iter().any(|word| word.as_str() == "--hints")
 }
 
-/// Says on standard error what there is to add to an answer that begins with these bytes. What
-/// can't be shown is left out.
-fn show_hint(rt: &(impl AllocGlobal + Eprint), answer: &[u8]) {
-    if let Ok(Some(hint)) = hint_on(rt.alloc(), answer) {
+/// Says on standard error what there is to add to the answer to these words, which begins with these
+/// bytes. What can't be shown is left out.
+fn show_hint(rt: &(impl AllocGlobal + Eprint), words: &[String], answer: &[u8]) {
+    if answer == b"refused command line\n".as_slice() {
+        if let Ok(mistake) = mistake_in(rt.alloc(), words) {
+            drop(eprint!(rt; "lineup: error: {mistake}\n"));
+        }
+    } else if let Ok(Some(hint)) = hint_on(rt.alloc(), answer) {
         drop(eprint!(rt; "{hint}"));
     }
 }
@@ -50,7 +56,7 @@ fn main(rt: HostRuntime) -> ExitCode {
     let status = run_with_progress(&rt, &terminal, &words, &mut input, &mut output);
     if asks_for_hints(&words) {
         let head = output.into_inner();
-        show_hint(&rt, head.bytes());
+        show_hint(&rt, &words, head.bytes());
     }
     ExitCode::from(status)
 }

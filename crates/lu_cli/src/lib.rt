@@ -42,11 +42,13 @@ pub use args::read_request;
 pub use compile::strings_of;
 pub use counted::Counted;
 pub use lu_certify::{Progress, Silent};
+pub use lu_source_lint::is_near;
 pub use lu_wording::hint_on;
 pub use program::{answer_alone, answer_request, run, run_with_progress};
 pub use request::{
     ArgsFault, BundleCommand, CampaignOptions, CampaignPart, CampaignThreads, CertifyOptions,
     LintRequest, Request, Showing, TraceStart,
 };
+pub use table::{CommandRow, Kind, OptionRow, commands, options};
 pub use terminal::Terminal;
 pub use texts::{Case, Fault, check_texts, check_texts_against, read_texts};

@@ -30,6 +30,11 @@ is_missing _ = false
 abbrev pub opens : List Word → Bool
 opens words = word_is words (length words - 1) (codes "{")
 
+-- whether a line opens a block and closes it again
+abbrev pub is_whole_block : List Word → Bool
+is_whole_block words =
+    not (word_is words 0 (codes "}")) && word_is words (length words - 1) (codes "}")
+
 abbrev pub ends_arguments : Word → Bool
 ends_arguments word = is_word word (codes ")") || is_word word (codes "{")
 
@@ -50,10 +55,12 @@ meant_op words =
     else (min (arguments_end words) 10, codes ") {")
 
 -- The same of any line, by its fault and its first word: a name that the line declares is declared,
--- a block that it opens is open, and one that should have named the object names it.
+-- a block that it opens is open, one that it also closes is left out, and one that should have named
+-- the object names it.
 abbrev pub meant : Kind → List Word → ℕ × List ℕ
 meant kind words =
     if is_missing kind || word_is words 0 (codes "object") then (0, codes "object a")
+    else (if is_whole_block words then (0, [])
     else (if word_is words 0 (codes "let") || word_is words 0 (codes "const") then (2, codes "= 0")
     else (if word_is words 0 (codes "word") && word_is words 2 (codes "[") then (2, codes "[1]")
     else (if word_is words 0 (codes "word") || word_is words 0 (codes "lock") then (2, [])
@@ -62,7 +69,7 @@ meant kind words =
     else (if word_is words 0 (codes "loop") then (1, codes "{")
     else (if word_is words 0 (codes "}") then meant_end words
     else (if opens words then (0, codes "if 1 {")
-    else (0, [])))))))))
+    else (0, []))))))))))
 
 -- each word, and a blank after it
 abbrev pub spelled : List Word → List ℕ

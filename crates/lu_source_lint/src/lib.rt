@@ -2,12 +2,16 @@
 #![tactic(auto)]
 
 mod faults;
+mod foreign;
 mod meaning;
 mod message;
 mod saying;
+mod scope;
+mod spelling;
 mod warnings;
 
 pub use faults::faults_of;
 pub use message::{SourceMessage, Warning, What};
 pub use saying::wording;
+pub use spelling::is_near;
 pub use warnings::warnings_of;

@@ -39,6 +39,13 @@ pub(crate) fn opens(words: &[&[u8]]) -> bool
     words.last().is_some_and(|word| *word == b"{".as_slice())
 }
 
+/// Whether a line opens a block and closes it again.
+fn is_whole_block(words: &[&[u8]]) -> bool
+    ensures { result ≡ spec.is_whole_block (texts words.now) }
+{
+    !word_is(words, 0, b"}") && words.last().is_some_and(|word| *word == b"}".as_slice())
+}
+
 /// A line that begins with `}`.
 fn meant_end(words: &[&[u8]]) -> Mending
     ensures { (result.kept, result.after.now) ≡ spec.meant_end (texts words.now) }
@@ -80,6 +87,8 @@ fn meant(kind: SourceFaultKind, words: &[&[u8]]) -> Mending
 {
     if matches!(kind, SourceFaultKind::Missing) || word_is(words, 0, b"object") {
         keep(0, b"object a")
+    } else if is_whole_block(words) {
+        keep(0, b"")
     } else if word_is(words, 0, b"let") || word_is(words, 0, b"const") {
         keep(2, b"= 0")
     } else if word_is(words, 0, b"word") && word_is(words, 2, b"[") {

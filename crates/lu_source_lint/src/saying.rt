@@ -1,7 +1,9 @@
 //! What is said of a line, in words.
 
+use crate::foreign::{foreign_word, foreign_words};
 use crate::meaning::word_is;
 use crate::message::{SourceMessage, Warning, What};
+use crate::scope::{Declared, Scope};
 use lu_source_text::{SourceFaultKind, is_free_name, source_words};
 use lu_text::value_in;
 use std::alloc::{AllocError, Global};
@@ -22,56 +24,139 @@ fn declares(words: &[&[u8]]) -> bool {
         || word_is(words, 0, b"object")
 }
 
-/// Whether one of the lines declares the name.
-fn are_declaring(alloc: Global, lines: &[&[u8]], name: &[u8]) -> Result<bool, AllocError> {
-    for line in lines {
-        let words = source_words(alloc, line)?;
-        let declared = if word_is(&words, 0, b"op") {
-            words.contains(&name)
-        } else {
-            declares(&words) && word_is(&words, 1, name)
-        };
-        if declared {
-            return Ok(true);
+/// The first name among these words that is not declared.
+fn unknown_among<'a>(scope: &Scope<'_>, words: &[&'a [u8]]) -> Option<&'a [u8]> {
+    for word in words {
+        if is_free_name(word) && scope.declared(word).is_none() {
+            return Some(*word);
         }
     }
-    Ok(false)
+    None
 }
 
-/// The first name among these words that none of the lines above declares.
-fn unknown_among<'a>(
+/// A name that is not declared, in a line with these words.
+fn unknown_words(
     alloc: Global,
-    above: &[&[u8]],
-    words: &[&'a [u8]],
-) -> Result<Option<&'a [u8]>, AllocError> {
-    for word in words {
-        if is_free_name(word) && !are_declaring(alloc, above, word)? {
-            return Ok(Some(*word));
+    scope: &Scope<'_>,
+    words: &[&[u8]],
+    name: &[u8],
+) -> Result<String, AllocError> {
+    if let Some(foreign) = foreign_word(name) {
+        return String::from_str(alloc, foreign);
+    }
+    let said = shown(name);
+    if let Some(near) = scope.near(name) {
+        let near = shown(near);
+        return format!(in alloc;
+            "cannot find `{said}` in this scope; help: a word with a similar name exists: `{near}`"
+        );
+    }
+    if word_is(words, 0, name) && word_is(words, 1, b"=") {
+        return format!(in alloc;
+            "cannot find `{said}` in this scope; help: declare it with `let {said} = ..`"
+        );
+    }
+    format!(in alloc; "cannot find `{said}` in this scope")
+}
+
+/// What is wrong with the use of a name that is declared so, before the word `next`, where the line
+/// begins with it or not.
+fn misuse_words(
+    alloc: Global,
+    name: &str,
+    declared: Declared,
+    is_first: bool,
+    next: &[u8],
+) -> Result<Option<String>, AllocError> {
+    let is_indexed = next == b"[".as_slice();
+    let is_assigned = is_first && next == b"=".as_slice();
+    let said = match declared {
+        Declared::Operation => format!(in alloc;
+            "an operation cannot call another one, found `{name}`"
+        )?,
+        Declared::Array if !is_indexed => format!(in alloc;
+            "`{name}` is an array; help: write `{name}[EXPR]`"
+        )?,
+        Declared::Lock => format!(in alloc;
+            "`{name}` is a lock and has no value; help: write `lock {name}` and `unlock {name}`"
+        )?,
+        Declared::Constant if is_assigned => format!(in alloc;
+            "cannot assign to constant `{name}`"
+        )?,
+        Declared::Object
+        | Declared::Constant
+        | Declared::Word
+        | Declared::Argument
+        | Declared::Local
+            if is_indexed => {
+            let kind = declared.words();
+            format!(in alloc; "`{name}` is {kind} and has no index")?
+        }
+        _ => return Ok(None),
+    };
+    Ok(Some(said))
+}
+
+/// The first name among these words, which are those of a line from word `from` on, that is not used
+/// as what it is.
+fn misused_among(
+    alloc: Global,
+    scope: &Scope<'_>,
+    words: &[&[u8]],
+    from: usize,
+) -> Result<Option<String>, AllocError> {
+    for index in from..words.len() {
+        let word = words[index];
+        let Some(declared) = scope.declared(word) else {
+            continue;
+        };
+        let next = words.get(index.saturating_add(1)).copied().unwrap_or(&[]);
+        if let Some(said) = misuse_words(alloc, shown(word), declared, index == 0, next)? {
+            return Ok(Some(said));
         }
     }
     Ok(None)
 }
 
-/// The name that is at fault in a line, where it can be found. A line `lock NAME` in an operation
-/// declares none, so the name of such a line is looked up too.
-fn name_words(alloc: Global, above: &[&[u8]], words: &[&[u8]]) -> Result<String, AllocError> {
-    let read = if declares(words) && !word_is(words, 0, b"lock") {
-        2
-    } else {
-        0
+/// A name after `lock` or `unlock` in an operation that is not a lock.
+fn no_lock_words(
+    alloc: Global,
+    scope: &Scope<'_>,
+    words: &[&[u8]],
+) -> Result<Option<String>, AllocError> {
+    let locks = word_is(words, 0, b"lock") || word_is(words, 0, b"unlock");
+    if !locks || !scope.is_in_operation() {
+        return Ok(None);
+    }
+    let Some(name) = words.get(1) else {
+        return Ok(None);
     };
-    let (_, rest) = words.split_at(read.min(words.len()));
-    if let Some(name) = unknown_among(alloc, above, rest)? {
-        let said = shown(name);
-        if word_is(words, 0, name) && word_is(words, 1, b"=") {
-            return format!(in alloc;
-                "cannot find `{said}` in this scope; help: declare it with `let {said} = ..`"
-            );
-        }
-        return format!(in alloc; "cannot find `{said}` in this scope");
+    let Some(declared) = scope.declared(name) else {
+        return Ok(None);
+    };
+    if declared == Declared::Lock {
+        return Ok(None);
+    }
+    let (name, kind) = (shown(name), declared.words());
+    Ok(Some(format!(in alloc; "expected a lock, found {kind}: `{name}`")?))
+}
+
+/// The name that is at fault in a line, where it can be found.
+fn name_words(alloc: Global, scope: &Scope<'_>, words: &[&[u8]]) -> Result<String, AllocError> {
+    let declares = declares(words) && !(scope.is_in_operation() && word_is(words, 0, b"lock"));
+    let from = if declares { 2 } else { 0 };
+    let (_, read) = words.split_at(from.min(words.len()));
+    if let Some(name) = unknown_among(scope, read) {
+        return unknown_words(alloc, scope, words, name);
+    }
+    if let Some(said) = no_lock_words(alloc, scope, words)? {
+        return Ok(said);
+    }
+    if let Some(said) = misused_among(alloc, scope, words, from)? {
+        return Ok(said);
     }
     match words.get(1) {
-        Some(name) if declares(words) => {
+        Some(name) if declares => {
             let name = shown(name);
             format!(in alloc; "`{name}` is already declared; help: choose another name")
         }
@@ -80,111 +165,6 @@ fn name_words(alloc: Global, above: &[&[u8]], words: &[&[u8]]) -> Result<String,
             "a name in this line is not declared, or is not what the line needs",
         ),
     }
-}
-
-/// Words and signs of other languages, and what sources have in their place.
-const FOREIGN: [(&str, &str); 17] = [
-    (";", "unexpected `;`; help: a statement ends with its line"),
-    (
-        "%",
-        "`%` is not an operator of sources; help: subtract in a loop",
-    ),
-    (
-        "&",
-        "`&` is not an operator of sources; help: `&&` is the logical one",
-    ),
-    (
-        "|",
-        "`|` is not an operator of sources; help: `||` is the logical one",
-    ),
-    ("^", "`^` is not an operator of sources"),
-    (
-        "mut",
-        "unexpected `mut`; help: a local may always be assigned, so write `let NAME = EXPR`",
-    ),
-    (
-        "fn",
-        "expected an operation, found `fn`; help: write `op NAME(A, B) {`",
-    ),
-    ("for", "there is no `for` loop; help: write `while EXPR {`"),
-    (
-        "match",
-        "there is no `match`; help: write `if EXPR {` and `} else if EXPR {`",
-    ),
-    (
-        "struct",
-        "there is no `struct`; help: declare each shared field as a `word`",
-    ),
-    (
-        "fetch_add",
-        "there is no `fetch_add`; help: try `cas(CELL, OLD, OLD + N)` in a loop",
-    ),
-    (
-        "fetch_sub",
-        "there is no `fetch_sub`; help: try `cas(CELL, OLD, OLD - N)` in a loop",
-    ),
-    (
-        "swap",
-        "there is no `swap`; help: try `cas(CELL, OLD, NEW)` in a loop",
-    ),
-    (
-        "compare_exchange",
-        "there is no `compare_exchange`; help: write `cas(CELL, OLD, NEW)`",
-    ),
-    (
-        "assert",
-        "there is no `assert`; help: return a value that no serial run returns",
-    ),
-    ("true", "there is no `true`; help: write 1"),
-    ("false", "there is no `false`; help: write 0"),
-];
-
-/// Two signs of other languages that stand side by side, and what sources have in their place.
-const FOREIGN_PAIRS: [(&str, &str, &str); 7] = [
-    ("/", "/", "a comment begins with `#`, not with `//`"),
-    (
-        "<",
-        "<",
-        "`<<` is not an operator of sources; help: multiply by a power of two",
-    ),
-    (">", ">", "`>>` is not an operator of sources"),
-    (
-        "+",
-        "=",
-        "`+=` is not an operator of sources; help: write `NAME = NAME + EXPR`",
-    ),
-    (
-        "-",
-        "=",
-        "`-=` is not an operator of sources; help: write `NAME = NAME - EXPR`",
-    ),
-    (
-        "=",
-        "-",
-        "a number has no sign; help: write `0 - N`, which is taken modulo 2^32",
-    ),
-    (
-        "return",
-        "-",
-        "a number has no sign; help: write `0 - N`, which is taken modulo 2^32",
-    ),
-];
-
-/// What to write in place of a word or sign of another language, where one of these is one.
-fn foreign_words(words: &[&[u8]]) -> Option<&'static str> {
-    for (first, second, help) in &FOREIGN_PAIRS {
-        if words.windows(2).any(|pair| word_is(pair, 0, first.as_bytes())
-            && word_is(pair, 1, second.as_bytes()))
-        {
-            return Some(*help);
-        }
-    }
-    for (word, help) in &FOREIGN {
-        if words.iter().any(|other| *other == word.as_bytes()) {
-            return Some(*help);
-        }
-    }
-    None
 }
 
 /// A word that begins a line, and how such a line looks.
@@ -214,23 +194,78 @@ const FORMS: [(&str, &str); 17] = [
     ("continue", "`continue` alone on its line"),
 ];
 
+/// A line that begins with `op` in an operation, or `else` without `}`, or that goes on after the `{`
+/// of its block.
+fn block_words(
+    alloc: Global,
+    scope: &Scope<'_>,
+    words: &[&[u8]],
+) -> Result<Option<String>, AllocError> {
+    if word_is(words, 0, b"op") {
+        return Ok(match scope.unclosed() {
+            Some(line) => Some(format!(in alloc;
+                "`op` in an operation; help: add a `}}` for the `{{` of line {line}"
+            )?),
+            None => None,
+        });
+    }
+    if word_is(words, 0, b"else") {
+        let said = "expected `}` before `else`; help: write `} else {` in one line";
+        return Ok(Some(String::from_str(alloc, said)?));
+    }
+    let tests = word_is(words, 0, b"if") || word_is(words, 0, b"while") || word_is(words, 2, b"if");
+    if tests && words.contains(&b"=".as_slice()) {
+        let said = "expected a condition, found `=`; help: `==` compares";
+        return Ok(Some(String::from_str(alloc, said)?));
+    }
+    let brace = words.iter().position(|word| *word == b"{".as_slice());
+    let Some(brace) = brace else {
+        return Ok(None);
+    };
+    match words.get(brace.saturating_add(1)) {
+        Some(next) => {
+            let next = shown(next);
+            Ok(Some(format!(in alloc;
+                "expected the end of the line after `{{`, found `{next}`; help: write each statement, and the `}}`, in a line of its own"
+            )?))
+        }
+        None => Ok(None),
+    }
+}
+
 /// What is expected in place of a line that has no form of a source.
-fn form_words(alloc: Global, words: &[&[u8]]) -> Result<String, AllocError> {
+fn form_words(alloc: Global, scope: &Scope<'_>, words: &[&[u8]]) -> Result<String, AllocError> {
     if let Some(foreign) = foreign_words(words) {
         return String::from_str(alloc, foreign);
+    }
+    if let Some(said) = block_words(alloc, scope, words)? {
+        return Ok(said);
+    }
+    let from = if declares(words) { 2 } else { 0 };
+    if let Some(said) = misused_among(alloc, scope, words, from)? {
+        return Ok(said);
     }
     let form = FORMS
         .iter()
         .find(|(word, _)| word_is(words, 0, word.as_bytes()))
-        .map_or(
-            "`NAME = EXPR` or `NAME[EXPR] = EXPR` in an operation, or a declaration outside of one",
-            |(_, looks)| *looks,
-        );
-    format!(in alloc; "expected {form}")
+        .map(|(_, looks)| *looks);
+    match (form, words.first()) {
+        (Some(form), _) => format!(in alloc; "expected {form}"),
+        (None, Some(first)) => {
+            let first = shown(first);
+            format!(in alloc;
+                "expected a statement, as `NAME = EXPR`, or a declaration, found `{first}`"
+            )
+        }
+        (None, None) => String::from_str(alloc, "expected a statement or a declaration"),
+    }
 }
 
 /// A word of digits that is no number.
 fn number_words(alloc: Global, words: &[&[u8]]) -> Result<String, AllocError> {
+    if let Some(foreign) = foreign_words(words) {
+        return String::from_str(alloc, foreign);
+    }
     let large = words.iter().find(|word| matches!(**word, [b'0'..=b'9', ..])
         && value_in(word).is_none());
     match large {
@@ -277,24 +312,24 @@ fn flow_words(words: &[&[u8]]) -> &'static str {
     }
 }
 
-/// A fault of a line with these words, and these lines above it.
+/// A fault of a line with these words, in this scope.
 fn fault_words(
     alloc: Global,
     kind: SourceFaultKind,
-    above: &[&[u8]],
+    scope: &Scope<'_>,
     words: &[&[u8]],
 ) -> Result<String, AllocError> {
     let text = match kind {
         SourceFaultKind::Byte =>
             "invalid byte; only printable ASCII, tabs and carriage returns are allowed, also in comments",
         SourceFaultKind::Missing => "expected `object NAME` first",
-        SourceFaultKind::Form => return form_words(alloc, words),
+        SourceFaultKind::Form => return form_words(alloc, scope, words),
         SourceFaultKind::Number => return number_words(alloc, words),
         SourceFaultKind::Limit => limit_words(words),
         SourceFaultKind::Registers =>
             "too many registers: the locals in scope and intermediate results need more than 8; help: end a block earlier, or split the line",
         SourceFaultKind::Flow => flow_words(words),
-        SourceFaultKind::Name => return name_words(alloc, above, words),
+        SourceFaultKind::Name => return name_words(alloc, scope, words),
     };
     String::from_str(alloc, text)
 }
@@ -312,6 +347,19 @@ fn warning_words(alloc: Global, warning: Warning, words: &[&[u8]]) -> Result<Str
     }
 }
 
+/// A text that ends too early.
+fn end_words(alloc: Global, scope: &Scope<'_>) -> Result<String, AllocError> {
+    match scope.unclosed() {
+        Some(line) => format!(in alloc;
+            "unexpected end of the text; help: add a `}}` for the `{{` of line {line}"
+        ),
+        None => String::from_str(
+            alloc,
+            "unexpected end of the text; expected `object NAME` first",
+        ),
+    }
+}
+
 /// What a message says of the lines of its source, in one line, with what to do.
 ///
 /// # Errors
@@ -323,16 +371,13 @@ pub fn wording(
     lines: &[&[u8]],
 ) -> Result<String, AllocError> {
     let index = message.line.saturating_sub(1);
+    let (above, _) = lines.split_at(index.min(lines.len()));
     let Some(line) = lines.get(index) else {
-        return String::from_str(
-            alloc,
-            "unexpected end of the text; help: begin with `object NAME`, and close each operation with `}`",
-        );
+        return end_words(alloc, &Scope::after(alloc, above)?);
     };
-    let (above, _) = lines.split_at(index);
     let words = source_words(alloc, line)?;
     match message.what {
-        What::Fault(kind) => fault_words(alloc, kind, above, &words),
+        What::Fault(kind) => fault_words(alloc, kind, &Scope::after(alloc, above)?, &words),
         What::Warning(warning) => warning_words(alloc, warning, &words),
     }
 }

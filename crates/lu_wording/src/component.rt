@@ -429,7 +429,7 @@ fn comma(alloc: Global, word: &[u8]) -> Result<String, AllocError> {
 
 fn missing(alloc: Global, word: &[u8]) -> Result<String, AllocError> {
     let word = shown(word);
-    format!(in alloc; "expected `component NAME` first, found `{word}`")
+    format!(in alloc; "expected `component NAME` or `object NAME` first, found `{word}`")
 }
 
 /// Inside an operation, a line of no form after its label.

@@ -1,7 +1,8 @@
 //! The words for a fault of a matrix's line: what was found, and what was expected.
 
 use crate::component::{Slip, first_no_number, is_register, shown, unknown_byte};
-use crate::spelling::{is_near, near};
+use crate::spelling::near;
+use lu_source_lint::is_near;
 use lu_test::{MatrixDraft, MatrixFaultKind, Signature};
 use lu_text::{Name, before_comment, has_name_form, parts_of, words_of};
 use std::alloc::{AllocError, Global};

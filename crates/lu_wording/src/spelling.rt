@@ -2,44 +2,9 @@
 
 use lu_component::{Array, Op};
 use lu_lang::Label;
+use lu_source_lint::is_near;
 use lu_test::Signature;
 use lu_text::Name;
-
-/// How many bytes two words have in common before they differ.
-fn common_front(left: &[u8], right: &[u8]) -> usize {
-    match left
-        .iter()
-        .zip(right.iter())
-        .position(|(one, other)| !one.eq_ignore_ascii_case(other))
-    {
-        None => left.len().min(right.len()),
-        Some(common) => common,
-    }
-}
-
-fn common_back(left: &[u8], right: &[u8]) -> usize {
-    match left
-        .iter()
-        .rev()
-        .zip(right.iter().rev())
-        .position(|(one, other)| !one.eq_ignore_ascii_case(other))
-    {
-        None => left.len().min(right.len()),
-        Some(common) => common,
-    }
-}
-
-/// Whether one word may be a slip for the other: capitals apart, one byte more, less or other, or
-/// two neighbours in the wrong order.
-pub fn is_near(word: &[u8], meant: &[u8]) -> bool {
-    if word.eq_ignore_ascii_case(meant) {
-        return true;
-    }
-    let most = word.len().max(meant.len());
-    let slack = if word.len() == meant.len() { 2 } else { 1 };
-    let left = most.saturating_sub(common_front(word, meant));
-    most > slack && left.saturating_sub(common_back(word, meant)) <= slack
-}
 
 /// What has a name for which a word may be a slip.
 pub(crate) trait HasName {

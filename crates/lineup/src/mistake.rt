@@ -1,0 +1,162 @@
+//! What is wrong with a command line that was refused.
+
+use lu_cli::{Kind, OptionRow, commands, is_near, options};
+use std::alloc::{AllocError, Global};
+
+/// Whether there is a command with this name.
+fn is_command(name: &str) -> bool {
+    commands().iter().any(|row| row.name == name)
+}
+
+/// The command for whose name the word may be a slip.
+fn near_command(word: &str) -> Option<&'static str> {
+    commands()
+        .iter()
+        .find(|row| is_near(word.as_bytes(), row.name.as_bytes()))
+        .map(|row| row.name)
+}
+
+/// The option with this name that the command takes.
+fn option_of(command: &str, name: &str) -> Option<&'static OptionRow> {
+    options()
+        .iter()
+        .find(|row| row.name == name && row.commands.contains(&command))
+}
+
+/// The option of the command for whose name the word may be a slip.
+fn near_option(command: &str, word: &str) -> Option<&'static str> {
+    options()
+        .iter()
+        .find(|row| row.commands.contains(&command)
+            && is_near(word.as_bytes(), row.name.as_bytes()))
+        .map(|row| row.name)
+}
+
+/// Whether some command takes an option with this name.
+fn is_option(name: &str) -> bool {
+    options().iter().any(|row| row.name == name)
+}
+
+/// The least and the greatest number that an option takes, where it takes one.
+fn range_of(kind: Kind) -> Option<(u64, u64)> {
+    match kind {
+        Kind::Flag => None,
+        Kind::Number { least, most } => Some((u64::from(least), u64::from(most))),
+        Kind::Long => Some((0, u64::MAX)),
+    }
+}
+
+/// A first word that is not a command.
+fn unknown_command(alloc: Global, word: &str) -> Result<String, AllocError> {
+    match near_command(word) {
+        Some(near) => format!(in alloc;
+            "unknown command `{word}`; help: a command with a similar name exists: `{near}`"
+        ),
+        None => format!(in alloc;
+            "unknown command `{word}`; help: `lineup commands` lists the commands"
+        ),
+    }
+}
+
+/// An option `--NAME` that the command does not take.
+fn unknown_option(alloc: Global, command: &str, name: &str) -> Result<String, AllocError> {
+    if let Some(near) = near_option(command, name) {
+        return format!(in alloc;
+            "unknown option `--{name}`; help: an option with a similar name exists: `--{near}`"
+        );
+    }
+    if is_option(name) {
+        return format!(in alloc;
+            "`{command}` has no option `--{name}`; help: `lineup commands` lists the commands that have it"
+        );
+    }
+    format!(in alloc;
+        "unknown option `--{name}`; help: `lineup commands` lists the options of `{command}`"
+    )
+}
+
+/// What is wrong with the value of an option that takes a number in this range.
+fn value_fault(
+    alloc: Global,
+    name: &str,
+    value: Option<&str>,
+    least: u64,
+    most: u64,
+) -> Result<Option<String>, AllocError> {
+    let Some(value) = value else {
+        return Ok(Some(format!(in alloc;
+            "expected a number from {least} to {most} after `--{name}`"
+        )?));
+    };
+    match value.parse::<u64>() {
+        Ok(number) if least <= number && number <= most => Ok(None),
+        _ => Ok(Some(format!(in alloc;
+            "invalid value `{value}` for `--{name}`; expected a number from {least} to {most}"
+        )?)),
+    }
+}
+
+/// Whether the words before this one give the option too.
+fn is_given(words: &[String], name: &str) -> bool {
+    words.iter().any(|word| word
+        .as_str()
+        .strip_prefix("--")
+        .is_some_and(|given| given == name))
+}
+
+/// What is wrong with the words after those of a command, the first of which are well.
+fn option_fault(
+    alloc: Global,
+    command: &str,
+    words: &[String],
+) -> Result<Option<String>, AllocError> {
+    let mut index = 0;
+    while index < words.len() {
+        let word = words[index].as_str();
+        let Some(name) = word.strip_prefix("--") else {
+            return Ok(Some(format!(in alloc;
+                "unexpected `{word}`; help: the input is read from standard input, or by `./lineup` from one file"
+            )?));
+        };
+        let Some(row) = option_of(command, name) else {
+            return Ok(Some(unknown_option(alloc, command, name)?));
+        };
+        if is_given(&words[..index], name) {
+            return Ok(Some(format!(in alloc; "`--{name}` is given twice")?));
+        }
+        index += 1;
+        if let Some((least, most)) = range_of(row.kind) {
+            let value = words.get(index).map(|value| value.as_str());
+            if let Some(fault) = value_fault(alloc, name, value, least, most)? {
+                return Ok(Some(fault));
+            }
+            index = index.saturating_add(1);
+        }
+    }
+    Ok(None)
+}
+
+/// What is wrong with the words of a command line that was refused, in words.
+///
+/// # Errors
+///
+/// `AllocError` where there is no memory for it.
+pub fn mistake_in(alloc: Global, words: &[String]) -> Result<String, AllocError> {
+    let Some((first, rest)) = words.split_first() else {
+        return String::from_str(
+            alloc,
+            "expected a command; help: `lineup commands` lists them",
+        );
+    };
+    let command = first.as_str();
+    if !is_command(command) {
+        return unknown_command(alloc, command);
+    }
+    match option_fault(alloc, command, rest)? {
+        Some(fault) => Ok(fault),
+        None => String::from_str(
+            alloc,
+            "these options do not go together; help: `lineup commands` says what each of them does",
+        ),
+    }
+}

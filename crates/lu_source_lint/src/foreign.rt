@@ -1,0 +1,176 @@
+//! Words and signs of other languages, and what sources have in their place.
+
+use crate::meaning::word_is;
+
+/// Words of other languages.
+const FOREIGN: [(&str, &str); 29] = [
+    (";", "unexpected `;`; help: a statement ends with its line"),
+    (
+        ":",
+        "unexpected `:`; help: leave types out, every value is a number from 0 to 4294967295",
+    ),
+    (
+        "%",
+        "`%` is not an operator of sources; help: subtract in a loop",
+    ),
+    (
+        "/",
+        "`/` is not an operator of sources; help: subtract in a loop",
+    ),
+    (
+        "&",
+        "`&` is not an operator of sources; help: `&&` is the logical one",
+    ),
+    (
+        "|",
+        "`|` is not an operator of sources; help: `||` is the logical one",
+    ),
+    ("^", "`^` is not an operator of sources"),
+    (
+        "and",
+        "`and` is not an operator of sources; help: write `&&`",
+    ),
+    ("or", "`or` is not an operator of sources; help: write `||`"),
+    (
+        "not",
+        "`not` is not an operator of sources; help: write `!`",
+    ),
+    (
+        "mut",
+        "unexpected `mut`; help: a local may always be assigned, so write `let NAME = EXPR`",
+    ),
+    (
+        "fn",
+        "expected an operation, found `fn`; help: write `op NAME(A, B) {`",
+    ),
+    ("for", "there is no `for` loop; help: write `while EXPR {`"),
+    (
+        "match",
+        "there is no `match`; help: write `if EXPR {` and `} else if EXPR {`",
+    ),
+    (
+        "switch",
+        "there is no `switch`; help: write `if EXPR {` and `} else if EXPR {`",
+    ),
+    ("elif", "there is no `elif`; help: write `} else if EXPR {`"),
+    (
+        "struct",
+        "there is no `struct`; help: declare each shared field as a `word`",
+    ),
+    (
+        "fetch_add",
+        "there is no `fetch_add`; help: try `cas(CELL, OLD, OLD + N)` in a loop",
+    ),
+    (
+        "fetch_sub",
+        "there is no `fetch_sub`; help: try `cas(CELL, OLD, OLD - N)` in a loop",
+    ),
+    (
+        "swap",
+        "there is no `swap`; help: try `cas(CELL, OLD, NEW)` in a loop",
+    ),
+    (
+        "exchange",
+        "there is no `exchange`; help: try `cas(CELL, OLD, NEW)` in a loop",
+    ),
+    (
+        "compare_exchange",
+        "there is no `compare_exchange`; help: write `cas(CELL, OLD, NEW)`",
+    ),
+    (
+        "compare_and_swap",
+        "there is no `compare_and_swap`; help: write `cas(CELL, OLD, NEW)`",
+    ),
+    (
+        "load",
+        "there is no `load`; help: write the name of the word, as in `let seen = x`",
+    ),
+    (
+        "store",
+        "there is no `store`; help: assign to the word, as in `x = 1`",
+    ),
+    (
+        "assert",
+        "there is no `assert`; help: return a value that no serial run returns",
+    ),
+    ("true", "there is no `true`; help: write 1"),
+    ("false", "there is no `false`; help: write 0"),
+    (
+        "self",
+        "there is no `self`; help: write the name of the word",
+    ),
+];
+
+/// Two signs of other languages, side by side.
+const FOREIGN_PAIRS: [(&str, &str, &str); 10] = [
+    ("/", "/", "a comment begins with `#`, not with `//`"),
+    (
+        "<",
+        "<",
+        "`<<` is not an operator of sources; help: multiply by a power of two",
+    ),
+    (">", ">", "`>>` is not an operator of sources"),
+    (
+        "+",
+        "+",
+        "`++` is not an operator of sources; help: write `NAME = NAME + 1`",
+    ),
+    (
+        "-",
+        "-",
+        "`--` is not an operator of sources; help: write `NAME = NAME - 1`",
+    ),
+    (
+        "+",
+        "=",
+        "`+=` is not an operator of sources; help: write `NAME = NAME + EXPR`",
+    ),
+    (
+        "-",
+        "=",
+        "`-=` is not an operator of sources; help: write `NAME = NAME - EXPR`",
+    ),
+    (
+        "*",
+        "=",
+        "`*=` is not an operator of sources; help: write `NAME = NAME * EXPR`",
+    ),
+    (
+        "=",
+        "-",
+        "a number has no sign; help: write `0 - N`, which is taken modulo 2^32",
+    ),
+    (
+        "return",
+        "-",
+        "a number has no sign; help: write `0 - N`, which is taken modulo 2^32",
+    ),
+];
+
+/// What to write in place of this word, where it is one of another language.
+pub(crate) fn foreign_word(word: &[u8]) -> Option<&'static str> {
+    for (foreign, help) in &FOREIGN {
+        if word == foreign.as_bytes() {
+            return Some(*help);
+        }
+    }
+    None
+}
+
+/// What to write in place of the first pair of signs, or else of the first word, of another
+/// language.
+pub(crate) fn foreign_words(words: &[&[u8]]) -> Option<&'static str> {
+    for (first, second, help) in &FOREIGN_PAIRS {
+        if words.windows(2).any(|pair| word_is(pair, 0, first.as_bytes())
+            && word_is(pair, 1, second.as_bytes()))
+        {
+            return Some(*help);
+        }
+    }
+    for word in words {
+        if let Some(help) = foreign_word(word) {
+            return Some(help);
+        }
+    }
+    None
+}
