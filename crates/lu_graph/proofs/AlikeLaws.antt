@@ -19,7 +19,7 @@ use Rattle.lu_graph.specs.Alive.{IsPossible}
 use Rattle.lu_graph.specs.Laws.{AlikeEndAlike, AlikeGoOn}
 use Rattle.lu_graph.proofs.StatesAlike.{progress_alike, states_good, states_step}
 use Rattle.lu_graph.specs.Nodes.{longer}
-use Rattle.lu_graph.proofs.Possible.{EndsAs, alive_kept, kept_formed, others_calls, own_calls, possible_goes_on, possible_witness, witness_possible}
+use Rattle.lu_graph.proofs.Possible.{EndsAs, precedence_kept, kept_formed, others_calls, own_calls, possible_goes_on, possible_witness, witness_possible}
 
 -- two histories of one state
 module _ (s : State) (h k : List Event) (agree : Agree (progress s) h) (too : Agree (progress s) k) where
@@ -81,8 +81,8 @@ module _ (s : State) (h k : List Event) (agree : Agree (progress s) h) (too : Ag
 
       kept_witness : HasWitness Set (keep_pending t h) → HasWitness Set (keep_pending t k)
       kept_witness (q, of, w) =
-          let parts = witness_possible q h (keep_pending t h) well (kept_formed t h well) (λ u. outcomes_kept t h u h) (alive_kept t h well q) w in
-          (q, of, possible_witness q k (keep_pending t k) formed (kept_formed t k formed) (λ u. outcomes_kept t k u k) (alive_kept t k formed q) (both q of parts.0) (kept_ends q parts.1))
+          let parts = witness_possible q h (keep_pending t h) well (kept_formed t h well) (λ u. outcomes_kept t h u h) (precedence_kept t h well q) w in
+          (q, of, possible_witness q k (keep_pending t k) formed (kept_formed t k formed) (λ u. outcomes_kept t k u k) (precedence_kept t k formed q) (both q of parts.0) (kept_ends q parts.1))
 
     good_same : IsGoodAt Set s h → IsGoodAt Set s k
     good_same (inl good) = inl (good.0, witness_same good.1)

@@ -15,9 +15,9 @@ use Rattle.lu_history.proofs.Events.{last_at, split_at, take_next, same_number}
 use Rattle.lu_witness.specs.Witnesses.{IsEntryAt, entries}
 use Rattle.lu_witness.proofs.Entries.{counted_entry, entries-append, entries_more, entries_own, entry_before, entry_of}
 use Rattle.lu_graph.specs.declared.possibilities.ReturnAt.{ReturnAt}
-use Rattle.lu_graph.specs.Alive.{IsCalledBefore}
+use Rattle.lu_linearization.specs.Precedence.{IsCalledBefore}
+use Rattle.lu_linearization.proofs.Standing.{one_place}
 use Rattle.lu_graph.specs.Judging.{AreCalled, FindsEntry, TellsAdmits}
-use Rattle.lu_graph.proofs.StayAlive.{one_place}
 
 module _ (q : List SerialOp) (t i : ℕ) (d : SerialOp) (within : i < length q) where
   next_front : take (i + 1) q ≡ take i q ++ get_or q i d ∷ []

@@ -1,6 +1,6 @@
 -- What the graph of all states tells of the first schedule that loses hope.
-use Rattle.std.proofs.Common.{arith, ◌≡◌, ℕ, ◌<◌, Bool, false, List, [], ◌++◌, length, map, take, drop, Result, Ok, Err, Option, Some, None, sym, ◌∙◌, ap, subst}
-use Rattle.std.specs.Prelude.{All, IfOk, not, position}
+use Rattle.std.proofs.Common.{arith, ◌≡◌, ℕ, ◌<◌, Bool, false, List, [], ◌++◌, length, map, take, drop, Some, None, sym, ◌∙◌, ap, subst}
+use Rattle.std.specs.Prelude.{All, not, position}
 use Rattle.std.proofs.lemmas.List.{append-nil, drop_all, length-map, take_all}
 use Rattle.std.proofs.lemmas.List.Elements.{All-map, All-weaker}
 use Rattle.std.proofs.lemmas.Option.{slice_get_within}

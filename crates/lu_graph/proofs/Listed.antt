@@ -109,7 +109,7 @@ member_one (w ∷ members) q is = by (same_history q w.items) refl (member_one m
 pub possible_first : (q : List SerialOp) → IsPossible q []
 possible_first q = record {
   outcomes = λ i a o at. absurd (cc);
-  alive = λ i a ret. absurd (let at = ret.1 in cc);
+  precedence = λ i a ret. absurd (let at = ret.1 in cc);
 }
 
 pub told_first : (members : List (Vec SerialOp)) (alive : List Bool) → length alive ≡ length members → ((i : ℕ) (b : Bool) → slice_get alive i ≡ Some b → b ≡ true) → ArePossible members [] alive

@@ -17,16 +17,18 @@ use Rattle.lu_history.proofs.Events.{at_push, call_of, called_at, in_turn, kept_
 use Rattle.lu_history.proofs.Filtered.{calls_kept, filtered_fits, is_kept_count, outcomes_kept}
 use Rattle.lu_history.proofs.PartEntries.{ltb_false, part_below, part_last, part_length, part_past}
 use Rattle.lu_witness.specs.Witnesses.{IsEntryAt, IsWitness, entries}
-use Rattle.lu_graph.specs.Alive.{Admits, HasOutcomes, IsAlive, IsPossible}
-use Rattle.lu_graph.proofs.StayAlive.{alive_goes_on, alive_is_witness, is_called}
+use Rattle.lu_linearization.specs.Precedence.{HasOutcomes, KeepsPrecedence}
+use Rattle.lu_linearization.proofs.Standing.{precedence_goes_on}
+use Rattle.lu_graph.specs.Alive.{Admits, IsPossible}
+use Rattle.lu_graph.proofs.StayAlive.{is_called, precedence_is_witness}
 
 -- ---- one event more
 
 pub possible_goes_on : (q : List SerialOp) (h : List Event) (e : Event) → IsPossible q (h ++ e ∷ []) ↔ (IsPossible q h × ((a : OpId) (outcome : Outcome) → e ≡ Return a.t a.k outcome → Admits q h a outcome))
 possible_goes_on q h e = (
   (λ is.
-      let both = (alive_goes_on q h e).0 is.alive in (
-        record { outcomes = λ i a o at. is.outcomes i a o (kept_at h (e ∷ []) (Return a.t a.k o) i at); alive = both.0 },
+      let both = (precedence_goes_on q h e).0 is.precedence in (
+        record { outcomes = λ i a o at. is.outcomes i a o (kept_at h (e ∷ []) (Return a.t a.k o) i at); precedence = both.0 },
         λ a o same. record { ended = is.outcomes (length h) a o (last_at h [] e ∙ ap Some same); before = both.1 a o same },
       )),
   (λ both. record {
@@ -34,7 +36,7 @@ possible_goes_on q h e = (
       | inl old ↦ both.0.outcomes i a o old.1
       | inr new ↦ (both.1 a o (sym new.1)).ended
     ];
-    alive = (alive_goes_on q h e).1 (both.0.alive, λ a o same. (both.1 a o same).before);
+    precedence = (precedence_goes_on q h e).1 (both.0.precedence, λ a o same. (both.1 a o same).before);
   }),
 )
 
@@ -90,17 +92,17 @@ module _ (t : ℕ) (h : List Event) (well : IsWellFormed h) where
       let there = kept_place (is_kept t h) (take j h) call.0 (Call b.t b.k) call.1 is in
       called_at (filter (is_kept t h) (take j h)) there.0 b formed there.1
 
-  pub alive_kept : (q : List SerialOp) → ((b : OpId) (l : ℕ) → IsEntryAt q l b → b.k < calls b.t (keep_pending t h)) → IsAlive q h ↔ IsAlive q (keep_pending t h)
-  alive_kept q called = (
-    (λ alive i a ret j l b at lt bt.
+  pub precedence_kept : (q : List SerialOp) → ((b : OpId) (l : ℕ) → IsEntryAt q l b → b.k < calls b.t (keep_pending t h)) → KeepsPrecedence q h ↔ KeepsPrecedence q (keep_pending t h)
+  precedence_kept q called = (
+    (λ precedence i a ret j l b at lt bt.
         let there = place_of (is_kept t h) h i (Return a.t a.k ret.0) ret.1 in
-        let before = alive there.0 a (ret.0, there.1) j l b at lt bt in
+        let before = precedence there.0 a (ret.0, there.1) j l b at lt bt in
         let call = call_of (keep_pending t h) kept_formed b (called b l bt) in
         let kept = (place_of (is_kept t h) h call.0 (Call b.t b.k) call.1).2 in
         subst (λ g. b.k < calls b.t g) (sym there.3) (called_still b there.0 (front_kept there.0 i there.3) kept before)),
-    (λ alive j a ret k l b at lt bt.
+    (λ precedence j a ret k l b at lt bt.
         let there = kept_place (is_kept t h) h j (Return a.t a.k ret.0) ret.1 refl in
-        let before = alive there.0 a (ret.0, there.1) k l b at lt bt in
+        let before = precedence there.0 a (ret.0, there.1) k l b at lt bt in
         called_more b j (front_kept j there.0 there.2) (subst (λ g. b.k < calls b.t g) there.2 before)),
   )
 
@@ -139,7 +141,7 @@ pub record EndsAs (q : List SerialOp) (h : List Event) : Type 0 where
   pub long : (u : ℕ) → length (entries u q) ≡ calls u h
   pub stuck : (u : ℕ) → length (outcomes u h) < calls u h → slice_get (entries u q) (length (outcomes u h)) ≡ Some Stuck
 
-module _ (q : List SerialOp) (h g : List Event) (well : IsWellFormed h) (formed : IsWellFormed g) (same : (u : ℕ) → outcomes u g ≡ outcomes u h) (alive_too : ((b : OpId) (l : ℕ) → IsEntryAt q l b → b.k < calls b.t g) → IsAlive q h ↔ IsAlive q g) where
+module _ (q : List SerialOp) (h g : List Event) (well : IsWellFormed h) (formed : IsWellFormed g) (same : (u : ℕ) → outcomes u g ≡ outcomes u h) (precedence_too : ((b : OpId) (l : ℕ) → IsEntryAt q l b → b.k < calls b.t g) → KeepsPrecedence q h ↔ KeepsPrecedence q g) where
   returned : (u k : ℕ) → k < length (outcomes u h) → HasOutcomes q h → slice_get (entries u q) k ≡ slice_get (part u g) k
   returned u k lt had =
       let a : OpId = record { t = u; k = k } in
@@ -170,7 +172,7 @@ module _ (q : List SerialOp) (h g : List Event) (well : IsWellFormed h) (formed 
   pub possible_witness : IsPossible q h → EndsAs q g → IsWitness q g
   possible_witness is ends =
       let all : (u : ℕ) → entries u q ≡ part u g = λ u. same_list (entries u q) (part u g) (parts is.outcomes ends u) in
-      (alive_is_witness q g formed all).0 ((alive_too (λ b l at. is_called q g formed all b l at)).0 is.alive)
+      (precedence_is_witness q g formed all).0 ((precedence_too (λ b l at. is_called q g formed all b l at)).0 is.precedence)
 
   pub witness_possible : IsWitness q g → IsPossible q h × EndsAs q g
   witness_possible w = (
@@ -178,7 +180,7 @@ module _ (q : List SerialOp) (h g : List Event) (well : IsWellFormed h) (formed 
       outcomes = λ i a o at.
           (let here : slice_get (outcomes a.t g) a.k ≡ Some o = ap (λ x. slice_get x a.k) (same a.t) ∙ outcome_at h well i a o at in
           ap (λ x. slice_get x a.k) (w.parts a.t) ∙ (part_below a.t g a.k o (slice_get_within (outcomes a.t g) a.k o here) ∙ ap (λ x. Some (as_serial x)) (get_or_from_slice_get (outcomes a.t g) a.k o o here)));
-      alive = (alive_too (λ b l at. is_called q g formed w.parts b l at)).1 ((alive_is_witness q g formed w.parts).1 w);
+      precedence = (precedence_too (λ b l at. is_called q g formed w.parts b l at)).1 ((precedence_is_witness q g formed w.parts).1 w);
     },
     record {
       long = λ u. ap length (w.parts u) ∙ part_length g formed u;

@@ -62,7 +62,7 @@ pub use ending::Ending;
 pub use expanders::{Alone, ByThreads, Expanders, Helpers};
 pub use exploring::{ends_well, ends_well_watched};
 pub use halted::{Halted, unhalted};
-pub use laws::{alike_laws, alive_laws, first_law, guard_law, hopeless_law};
+pub use laws::{alike_laws, first_law, guard_law, hopeless_law, precedence_law};
 pub use losing::{first_lost, first_lost_watched};
 pub use lost::FirstLost;
 pub use lu_tree::{Unwatched, Watch};

@@ -1,4 +1,4 @@
-use Rattle.std.proofs.Common.{arith, rules, ◌≡◌, false, true}
+use Rattle.std.proofs.Common.{rules, ◌≡◌, false, true}
 use Rattle.lu_graph.proofs.Counted.{left_next, left_none, left_past}
 use Rattle.lu_graph.proofs.alive.are_called.Goals.{then-thread-ge8-via-then-thread-ge8, then-thread-ge8-via-else-thread-ge8+then-left-thread-eq0}
 use Rattle.lu_graph.proofs.alive.are_called.Goals as goal

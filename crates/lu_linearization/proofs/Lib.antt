@@ -1,0 +1,11 @@
+pub mod Sequential
+pub mod Standing
+pub mod Goes
+pub mod Keeping
+pub mod Ended
+pub mod Configured
+pub mod Compared
+pub mod Held
+pub mod Entered
+pub mod Layers
+pub mod Monitored

@@ -1,0 +1,6 @@
+use Rattle.std.proofs.Common.{take}
+use Rattle.lu_linearization.specs.Monitors.{AreNext, SomeTakesEffect, by_thread}
+use Rattle.lu_linearization.proofs.closing.next_layer.Given as goal
+
+abbrev pub invariant-loop-one : goal.invariant-loop-one
+invariant-loop-one g l = AreNext (SomeTakesEffect (g.A.Automaton.next l.automaton) (by_thread l.pending)) (take l.one-index l.from) l.to.items

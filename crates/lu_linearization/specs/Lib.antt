@@ -1,0 +1,4 @@
+pub mod Precedence
+pub mod Linearizations
+pub mod Configurations
+pub mod Monitors
