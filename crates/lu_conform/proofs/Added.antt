@@ -5,11 +5,10 @@ use Rattle.std.proofs.lemmas.List.Elements.{All-cons, All-nil}
 use Rattle.std.specs.Map.{lookup}
 use Rattle.indexmap.specs.IndexMap.{IndexMap, get, insert_entry}
 use Rattle.indexmap.proofs.CallerLemmas.{insert_entry-new}
-use Rattle.lu_test.specs.declared.schedule.Move.{Move}
 use Rattle.lu_machine.specs.Positions.{CanStandAt, at_position}
 use Rattle.lu_machine.specs.States.{State}
+use Rattle.lu_conform.specs.declared.kept.Arrival.{Arrival}
 use Rattle.lu_conform.specs.declared.kept.Kept.{Kept}
-use Rattle.lu_conform.specs.declared.kept.Way.{Way}
 use Rattle.lu_conform.specs.Growing.{AddsStage, Entry, IsKeptAs, stands_for}
 use Rattle.lu_conform.specs.Stages.{stage_of}
 use Rattle.lu_conform.proofs.Among.{at_last}
@@ -29,27 +28,27 @@ none_of None h = refl
 none_of (Some x) h = absurd (cc)
 
 module _ {S : Type 0} where
-  module _ (s : State) (seen : ℕ) (key : Kept) (here : at_position s key.position ≡ s) (stands : CanStandAt s.component s.matrix key.position) (seen_is : key.seen ≡ seen) (moves : List Move) (old : IndexMap Kept Way S) where
+  module _ (s : State) (seen : ℕ) (key : Kept) (here : at_position s key.position ≡ s) (stands : CanStandAt s.component s.matrix key.position) (seen_is : key.seen ≡ seen) (arrival : Option Arrival) (old : IndexMap Kept (Option Arrival) S) where
     stage_is : stands_for s.component s.matrix key ≡ stage_of s seen
     stage_is = ap (λ (x : State). stage_of x key.seen) here ∙ ap (λ n. stage_of s n) seen_is
 
     -- the stage is there
-    pub stays : is_some (get kept_eq old key) ≡ true → AddsStage s.component s.matrix (stage_of s seen) moves old.entries old.entries
+    pub stays : is_some (get kept_eq old key) ≡ true → AddsStage s.component s.matrix (stage_of s seen) arrival old.entries old.entries
     stays there =
         let found = found_at key old.entries there in
         let same = (same_kept s.component s.matrix key found.1.0).0 found.3 in
         record {
           there = (found.0, found.1, found.2, sym same ∙ stage_is);
-          grows = ([], sym (append-nil old.entries), All-nil (IsKeptAs s.component s.matrix (stage_of s seen) moves));
+          grows = ([], sym (append-nil old.entries), All-nil (IsKeptAs s.component s.matrix (stage_of s seen) arrival));
         }
 
     -- it is new
-    pub grows_one : is_some (get kept_eq old key) ≡ false → (way : Way) → way.moves.items ≡ moves → (new : List Entry) → new ≡ insert_entry kept_eq old.entries key way → AddsStage s.component s.matrix (stage_of s seen) moves old.entries new
-    grows_one absent way way_is new is =
-        let entry : Entry = (key, way) in
-        let more : new ≡ old.entries ++ entry ∷ [] = is ∙ insert_entry-new kept_eq old key way (none_of (get kept_eq old key) absent) in
-        let kept : IsKeptAs s.component s.matrix (stage_of s seen) moves entry = record { stands = stands; stage_is = stage_is; way_is = way_is } in
+    pub grows_one : is_some (get kept_eq old key) ≡ false → (new : List Entry) → new ≡ insert_entry kept_eq old.entries key arrival → AddsStage s.component s.matrix (stage_of s seen) arrival old.entries new
+    grows_one absent new is =
+        let entry : Entry = (key, arrival) in
+        let more : new ≡ old.entries ++ entry ∷ [] = is ∙ insert_entry-new kept_eq old key arrival (none_of (get kept_eq old key) absent) in
+        let kept : IsKeptAs s.component s.matrix (stage_of s seen) arrival entry = record { stands = stands; stage_is = stage_is; arrival_is = refl } in
         record {
           there = (length old.entries, entry, subst (λ (x : List Entry). slice_get x (length old.entries) ≡ Some entry) (sym more) (at_last old.entries entry), stage_is);
-          grows = (entry ∷ [], more, All-cons (IsKeptAs s.component s.matrix (stage_of s seen) moves) entry [] kept (All-nil (IsKeptAs s.component s.matrix (stage_of s seen) moves)));
+          grows = (entry ∷ [], more, All-cons (IsKeptAs s.component s.matrix (stage_of s seen) arrival) entry [] kept (All-nil (IsKeptAs s.component s.matrix (stage_of s seen) arrival)));
         }

@@ -20,6 +20,11 @@ module _ {A : Type 0} where
   all_at P xs all i x is =
       subst P (get_or_from_slice_get xs i x x is) (All-get_or P xs i x (slice_get_within xs i x is) all)
 
+  pub some_at : (xs : List A) (i : ℕ) → i < length xs → (x : A) × (slice_get xs i ≡ Some x)
+  some_at [] i lt = absurd (omega arith)
+  some_at (x ∷ xs) zero lt = (x, refl)
+  some_at (x ∷ xs) (suc i) lt = some_at xs i (omega arith)
+
   pub at_last : (xs : List A) (x : A) → slice_get (xs ++ x ∷ []) (length xs) ≡ Some x
   at_last [] x = refl
   at_last (y ∷ xs) x = at_last xs x

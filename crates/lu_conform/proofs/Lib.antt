@@ -3,6 +3,7 @@ mod Same
 mod Added
 mod Grown
 mod Onward
+mod WaysBack
 mod Explored
 mod Many
 mod Visiting

@@ -1,6 +1,5 @@
 -- Where more stages are kept than a list has that has all, two of them would be one.
-use Rattle.std.proofs.Common.{arith, ◌≡◌, ℕ, zero, suc, ◌<◌, ◌≤◌, true, false, List, [], ◌∷◌, length, map, Option, Some, None, slice_get, get_or, refl, sym, ◌∙◌, ap, subst, inl, inr}
-use Rattle.std.specs.Prelude.{All}
+use Rattle.std.proofs.Common.{arith, ◌≡◌, ℕ, ◌<◌, ◌≤◌, true, false, List, length, map, reverse, Option, Some, None, slice_get, get_or, refl, sym, ◌∙◌, ap, subst, inl, inr}
 use Rattle.std.specs.List.{IsDistinct}
 use Rattle.std.specs.Map.{keys_of}
 use Rattle.std.proofs.lemmas.Bool.{cases_lt}
@@ -13,21 +12,16 @@ use Rattle.lu_recorded.specs.declared.recorded.Recorded.{Recorded}
 use Rattle.lu_conform.specs.declared.kept.Kept.{Kept}
 use Rattle.lu_conform.specs.Growing.{Entry}
 use Rattle.lu_conform.specs.Stages.{HasAllStages, IsAmong, Stage}
-use Rattle.lu_conform.proofs.Among.{all_at, image_at}
+use Rattle.lu_conform.proofs.Among.{image_at, some_at}
 use Rattle.lu_conform.proofs.Explored.{IsReached, its}
 use Rattle.lu_conform.proofs.Onward.{all_are_among}
 use Rattle.lu_conform.proofs.Same.{kept_eq, same_kept}
 
-some_at : {A : Type 0} (xs : List A) (i : ℕ) → i < length xs → (x : A) × (slice_get xs i ≡ Some x)
-some_at [] i lt = absurd (omega arith)
-some_at (x ∷ xs) zero lt = (x, refl)
-some_at (x ∷ xs) (suc i) lt = some_at xs i (omega arith)
-
-module _ (s : State) (recorded : Recorded) (list : List Entry) (reached : All (IsReached s recorded) list) (distinct : IsDistinct kept_eq (keys_of list)) (stages : List Stage) (all : HasAllStages s recorded.history stages) where
+module _ (s : State) (recorded : Recorded) (list : List Entry) (far : ℕ → ℕ) (reached : (i : ℕ) (entry : Entry) → slice_get list i ≡ Some entry → IsReached s recorded list far i entry) (distinct : IsDistinct kept_eq (keys_of list)) (stages : List Stage) (all : HasAllStages s recorded.history stages) where
   abbrev there : (i : ℕ) (entry : Entry) → slice_get list i ≡ Some entry → IsAmong stages (its s entry.0)
   there i entry is =
-      let known = all_at (IsReached s recorded) list reached i entry is in
-      let met = all_are_among s recorded.history stages entry.1.moves.items (its s entry.0).state known.history known.rest all known.leads known.whole in
+      let known = reached i entry is in
+      let met = all_are_among s recorded.history stages (reverse known.back) (its s entry.0).state known.history known.rest all known.leads known.whole in
       (met.0, subst (λ n. slice_get stages met.0 ≡ Some (record { state = (its s entry.0).state; seen = n })) (sym known.seen) met.1)
 
   abbrev slot : (i : ℕ) (o : Option Entry) → slice_get list i ≡ o → ℕ

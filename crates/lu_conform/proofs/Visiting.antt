@@ -1,5 +1,5 @@
 -- One stage is visited.
-use Rattle.std.proofs.Common.{arith, ◌≡◌, ℕ, ◌+◌, ◌<◌, ◌≤◌, List, [], ◌∷◌, length, Some, slice_get, sym, ◌∙◌, ap, subst}
+use Rattle.std.proofs.Common.{arith, ◌≡◌, ℕ, ◌+◌, ◌<◌, ◌≤◌, List, [], ◌∷◌, length, reverse, Some, None, slice_get, sym, ◌∙◌, ap, subst}
 use Rattle.std.specs.Prelude.{All}
 use Rattle.std.specs.List.{IsDistinct}
 use Rattle.std.specs.Map.{keys_of}
@@ -23,10 +23,12 @@ use Rattle.lu_recorded.specs.declared.recorded.Recorded.{Recorded}
 use Rattle.lu_conform.specs.Growing.{AddsNext, AddsStage, Entry}
 use Rattle.lu_conform.specs.Showing.{HasManyStages, IsEndOf, IsShortest, IsShownBy, IsShownByNone}
 use Rattle.lu_conform.specs.Stages.{stage_of}
+use Rattle.lu_conform.specs.Ways.{HasParentsBefore, IsWayTo}
 use Rattle.lu_conform.proofs.Explored.{Explored, IsReached, ShowsFrom, explored_more, explored_none, its, known, none_shows, shortest_here}
 use Rattle.lu_conform.proofs.Many.{no_more}
 use Rattle.lu_conform.proofs.Same.{kept_eq}
-use Rattle.std.proofs.lemmas.List.{length-replicate}
+use Rattle.lu_conform.proofs.WaysBack.{way_back_same}
+use Rattle.std.proofs.lemmas.List.{length-replicate, reverse-reverse}
 
 -- the moves of a schedule are moves of threads
 all_moves : (u : List Move) (s end : State) (h : List Event) → IsComponent s.component → length s.threads ≤ 8 → Leads s u end h → All IsMove u
@@ -43,12 +45,11 @@ abbrev pub KnownTo : Component → Matrix → Recorded → List Entry → ℕ �
 KnownTo c matrix recorded list place = (s : State) → IsStart c matrix s → Explored s recorded list place
 
 module _ (c : Component) (matrix : Matrix) (settles : Settles c matrix) (recorded : Recorded) where
-  pub known_none : (s : State) → IsStart c matrix s → (old list : List Entry) → old ≡ [] → (moves : List Move) → moves ≡ [] → AddsStage s.component s.matrix (stage_of s 0) moves old list → KnownTo c matrix recorded list 0
-  known_none s at old list none moves empty adds r is =
+  pub known_none : (s : State) → IsStart c matrix s → (old list : List Entry) → old ≡ [] → AddsStage s.component s.matrix (stage_of s 0) None old list → KnownTo c matrix recorded list 0
+  known_none s at old list none adds r is =
       let same = start_same c matrix s r at is in
       explored_none r recorded list
-      (subst (λ (x : State). AddsStage x.component x.matrix (stage_of x 0) [] [] list) same
-      (subst (λ u. AddsStage s.component s.matrix (stage_of s 0) u [] list) empty (subst (λ x. AddsStage s.component s.matrix (stage_of s 0) moves x list) none adds)))
+      (subst (λ (x : State). AddsStage x.component x.matrix (stage_of x 0) None [] list) same (subst (λ x. AddsStage s.component s.matrix (stage_of s 0) None x list) none adds))
 
   -- what shows it shows it from the start
   from_start : (s : State) → IsStart c matrix s → (u : List Move) → IsShownBy c matrix recorded u → ShowsFrom s recorded u
@@ -66,7 +67,7 @@ module _ (c : Component) (matrix : Matrix) (settles : Settles c matrix) (recorde
     pub too_many : IsDistinct kept_eq (keys_of list) → (most : ℕ) → most < length list → HasManyStages c matrix recorded most
     too_many distinct most many s is few =
         let x = all s is in
-        let within = no_more s recorded list x.reached distinct few.0 few.1 in
+        let within = no_more s recorded list x.far x.reached distinct few.0 few.1 in
         omega (arith, within, few.2, many)
 
     module _ (m : State) (component : m.component ≡ c) (matrix_is : m.matrix ≡ matrix) (entry : Entry) (at : slice_get list place ≡ Some entry) where
@@ -76,8 +77,11 @@ module _ (c : Component) (matrix : Matrix) (settles : Settles c matrix) (recorde
           let make : Component → Matrix → State = λ d x. record { component = d; matrix = x; cells = entry.0.position.cells.items; locks = entry.0.position.locks.items; threads = entry.0.position.threads.items } in
           ap (λ d. make d m.matrix) (component ∙ sym (start_component c matrix s is)) ∙ ap (λ x. make s.component x) (matrix_is ∙ sym (start_matrix c matrix s is))
 
-      reached : (s : State) (is : IsStart c matrix s) → IsReached s recorded entry
+      reached : (s : State) (is : IsStart c matrix s) → IsReached s recorded list (all s is).far place entry
       reached s is = known s recorded list list place entry at (all s is)
+
+      pub parents_before : HasParentsBefore list
+      parents_before = let there = start_there c matrix settles in (all there.0 there.1).parents
 
       pub can_stand : CanStandAt m.component m.matrix entry.0.position
       can_stand =
@@ -87,30 +91,32 @@ module _ (c : Component) (matrix : Matrix) (settles : Settles c matrix) (recorde
           let y = subst (λ d. CanStandAt d s.matrix entry.0.position) (start_component c matrix s there.1 ∙ sym component) x in
           subst (λ d. CanStandAt m.component d entry.0.position) (start_matrix c matrix s there.1 ∙ sym matrix_is) y
 
-      pub are_moves : IsComponent c → IsMatrix matrix → All IsMove entry.1.moves.items
-      are_moves sound limits =
+      pub are_moves : IsComponent c → IsMatrix matrix → (u : List Move) → IsWayTo list place u → All IsMove u
+      are_moves sound limits u way =
           let there = start_there c matrix settles in
           let s = there.0 in
           let idle : Thread = record { done = 0; activity = Idle } in
           let threads = ap length (start_threads c matrix s there.1) ∙ length-replicate (length matrix.threads) idle in
           let most = limits.limits.few in
           let r = reached s there.1 in
-          all_moves entry.1.moves.items s (its s entry.0).state r.history (subst IsComponent (sym (start_component c matrix s there.1)) sound) (omega (arith, threads, most)) r.leads
+          let is : u ≡ reverse r.back = sym (reverse-reverse u) ∙ ap reverse (way_back_same list place (reverse u) r.back way r.way) in
+          subst (All IsMove) (sym is)
+          (all_moves (reverse r.back) s (its s entry.0).state r.history (subst IsComponent (sym (start_component c matrix s there.1)) sound) (omega (arith, threads, most)) r.leads)
 
-      pub shortest_way : IsEndOf recorded (stage_of (at_position m entry.0.position) entry.0.seen) → IsShortest c matrix recorded entry.1.moves.items
-      shortest_way ends =
+      pub shortest_way : (u : List Move) → IsWayTo list place u → IsEndOf recorded (stage_of (at_position m entry.0.position) entry.0.seen) → IsShortest c matrix recorded u
+      shortest_way u way ends =
           let there = start_there c matrix settles in
           let s = there.0 in
           let ends' : IsEndOf recorded (its s entry.0) = subst (λ (x : State). IsEndOf recorded (stage_of x entry.0.seen)) (here s there.1) ends in
-          let best = shortest_here s recorded list list place entry at (all s there.1) ends' in
+          let best = shortest_here s recorded list list place entry at (all s there.1) u way ends' in
           record {
             shows = (best.0.0, (s, there.1, best.0.1), best.0.2);
             shortest = λ v shows. best.1 v (from_start s there.1 v shows);
           }
 
-      pub known_more : (IsEndOf recorded (stage_of (at_position m entry.0.position) entry.0.seen) → ⊥) → (new : List Entry) → AddsNext (at_position m entry.0.position) recorded.history entry.0.seen entry.1.moves.items list new → KnownTo c matrix recorded new (place + 1)
+      pub known_more : (IsEndOf recorded (stage_of (at_position m entry.0.position) entry.0.seen) → ⊥) → (new : List Entry) → AddsNext (at_position m entry.0.position) recorded.history entry.0.seen place list new → KnownTo c matrix recorded new (place + 1)
       known_more not_here new adds s is =
           let same = here s is in
           explored_more s recorded list new place entry at (all s is)
-          (subst (λ z. AddsNext z recorded.history entry.0.seen entry.1.moves.items list new) same adds)
+          (subst (λ z. AddsNext z recorded.history entry.0.seen place list new) same adds)
           (λ ends. not_here (subst (λ (z : State). IsEndOf recorded (stage_of z entry.0.seen)) (sym same) ends))

@@ -1,6 +1,7 @@
 pub mod Stages
 pub mod Showing
 pub mod Growing
+pub mod Ways
 pub mod Conforming
 pub mod Laws
 pub mod Stretching

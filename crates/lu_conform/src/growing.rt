@@ -1,33 +1,33 @@
 //! How the stages that are kept grow.
 
-ghost use Rattle.std.specs.Prelude.{◌≡◌, [], ◌∷◌, ◌++◌, IfOk, OnOk};
+ghost use Rattle.std.specs.Prelude.{◌≡◌, OnOk};
 ghost use Rattle.lu_conform.specs.Growing.{AddsAhead, AddsAfter, AddsHere};
 
 use crate::following::seen_after;
-use crate::kept::{Kept, Stages, Way};
+use crate::kept::{Arrival, Kept, Stages};
 use lu_machine::{Event, Machine};
 use lu_test::Move;
 use std::alloc::{AllocError, Global};
 
-/// How far a search has come at the stage from which moves are made: the first `seen` events of the
-/// history were seen, and these moves led there.
+/// How far a search has come at the stage from which moves are made, which is kept at this place:
+/// the first `seen` events of the history were seen.
 #[derive(Clone, Copy)]
 pub(crate) struct SoFar<'a> {
     pub(crate) events: &'a [Event],
     pub(crate) seen: usize,
-    pub(crate) moves: &'a [Move],
+    pub(crate) place: usize,
 }
 
-/// Adds the stage at which the machine stands, after this many events, unless it is there. This way
-/// leads to it.
+/// Adds the stage at which the machine stands, after this many events, unless it is there, and how
+/// it was reached.
 pub(crate) fn add(
     alloc: Global,
     machine: &Machine<'_>,
     seen: usize,
-    way: Way,
+    arrival: Option<Arrival>,
     stages: &mut Stages,
 ) -> Result<(), AllocError>
-    ensures { OnOk result (AddsHere machine.now seen way stages.old stages.new) }
+    ensures { OnOk result (AddsHere machine.now seen arrival stages.old stages.new) }
 {
     let kept = Kept {
         position: machine.position(alloc)?,
@@ -36,18 +36,8 @@ pub(crate) fn add(
     if stages.contains_key(&kept) {
         return Ok(());
     }
-    stages.insert(kept, way)?;
+    stages.insert(kept, arrival)?;
     Ok(())
-}
-
-/// The way with one more move.
-fn longer(alloc: Global, moves: &[Move], next: Move) -> Result<Way, AllocError>
-    ensures { IfOk result (λ way. way.moves.items ≡ moves.now ++ next ∷ []) }
-{
-    let mut longer = Vec::with_capacity(alloc, moves.len() + 1)?;
-    longer.extend_from_slice(moves)?;
-    longer.push(next)?;
-    Ok(Way { moves: longer })
 }
 
 /// Adds the stage at which the machine stands after this move, which had this event, or none,
@@ -64,13 +54,13 @@ fn add_after(
 {
     match seen_after(so_far.events, so_far.seen, event) {
         None => Ok(()),
-        Some(after) => add(
-            alloc,
-            machine,
-            after,
-            longer(alloc, so_far.moves, next)?,
-            stages,
-        ),
+        Some(after) => {
+            let arrival = Arrival {
+                parent: so_far.place,
+                by: next,
+            };
+            add(alloc, machine, after, Some(arrival), stages)
+        }
     }
 }
 

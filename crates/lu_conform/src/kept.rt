@@ -11,11 +11,13 @@ pub(crate) struct Kept {
     pub(crate) seen: usize,
 }
 
-/// The moves of a schedule that leads to a stage.
-#[derive(Drop)]
-pub(crate) struct Way {
-    pub(crate) moves: Vec<Move>,
+/// How a stage was first reached: from the stage at the place `parent`, by one move.
+#[derive(Clone, Copy)]
+pub(crate) struct Arrival {
+    pub(crate) parent: usize,
+    pub(crate) by: Move,
 }
 
-/// Stages, each with a way to it, in the order in which they were met.
-pub(crate) type Stages = IndexMap<Kept, Way>;
+/// Stages in the order in which they were met, each with how it was first reached, which is `None`
+/// for the start.
+pub(crate) type Stages = IndexMap<Kept, Option<Arrival>>;

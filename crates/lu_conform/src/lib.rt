@@ -23,6 +23,7 @@ mod kept;
 mod laws;
 mod searching;
 mod shown;
+mod ways;
 
 pub use conforming::conformance;
 pub use laws::{stage_law, stretching_laws};

@@ -12,8 +12,8 @@ ghost use Rattle.lu_conform.specs.declared.shown.Shown.TheVariants.{By, Undecide
 
 use crate::ending::is_end;
 use crate::growing::{SoFar, add, add_next};
-use crate::kept::Way;
 use crate::shown::Shown;
+use crate::ways::way_to;
 use indexmap::IndexMap;
 use lu_component::Component;
 use lu_machine::Machine;
@@ -24,7 +24,8 @@ use std::alloc::{AllocError, Global};
 /// How many stages are kept at most.
 const MOST_STAGES: usize = 262_144;
 
-/// That this way shows the history, where it is no longer than the text of a schedule can be.
+/// The answer that these moves show the history, or that it is not decided where they are more than
+/// the text of a schedule has.
 fn by_way(moves: Vec<Move>) -> Shown
     requires { All IsMove moves.items }
     ensures short { length moves.items ≤ 4112 → result ≡ By moves.items }
@@ -60,28 +61,25 @@ pub fn shown_by(
     let mut machine = Machine::start(alloc, component, matrix)?;
     let events = recorded.history.events();
     let mut stages = IndexMap::new(alloc);
-    let none = Way {
-        moves: Vec::new(alloc),
-    };
-    add(alloc, &machine, 0, none, &mut stages)?;
+    add(alloc, &machine, 0, None, &mut stages)?;
     for at in 0..MOST_STAGES {
         if stages.len() > MOST_STAGES {
             return Ok(Shown::Undecided);
         }
-        let (kept, way) = match stages.get_index(at) {
+        let (kept, _) = match stages.get_index(at) {
             None => return Ok(Shown::ByNone),
             Some(entry) => entry,
         };
         machine.stand_at(&kept.position);
         let seen = kept.seen;
-        let moves = Vec::from_slice(alloc, &way.moves)?;
         if is_end(&machine, recorded, seen) {
+            let moves = way_to(alloc, &stages, at)?;
             return Ok(by_way(moves));
         }
         let so_far = SoFar {
             events,
             seen,
-            moves: &moves,
+            place: at,
         };
         add_next(alloc, &mut machine, so_far, &mut stages)?;
     }

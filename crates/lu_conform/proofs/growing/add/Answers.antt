@@ -6,11 +6,11 @@ use Rattle.lu_conform.proofs.growing.add.Goals as goal
 pub returns-then-contains_key : goal.returns-then-contains_key
 returns-then-contains_key c =
     let kept : Kept = record { position = c.in_ok-position.field-0; seen = c.args.seen } in
-    stays c.args.machine.now c.args.seen kept c.in_ok-position.ensures.here c.in_ok-position.ensures.stands refl c.args.way.moves.items c.args.stages.now
+    stays c.args.machine.now c.args.seen kept c.in_ok-position.ensures.here c.in_ok-position.ensures.stands refl c.args.arrival c.args.stages.now
     (sym c.contains_key.ensures ∙ c.if-contains_key.true)
 
 pub returns : goal.returns
 returns c =
     let kept : Kept = record { position = c.in_ok-position.field-0; seen = c.args.seen } in
-    grows_one c.args.machine.now c.args.seen kept c.in_ok-position.ensures.here c.in_ok-position.ensures.stands refl c.args.way.moves.items c.args.stages.now
-    (sym c.contains_key.ensures ∙ c.if-contains_key.false) c.args.way refl c.insert.new.self.entries c.in_ok-insert.ensures.entries
+    grows_one c.args.machine.now c.args.seen kept c.in_ok-position.ensures.here c.in_ok-position.ensures.stands refl c.args.arrival c.args.stages.now
+    (sym c.contains_key.ensures ∙ c.if-contains_key.false) c.insert.new.self.entries c.in_ok-insert.ensures.entries

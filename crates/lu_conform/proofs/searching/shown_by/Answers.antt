@@ -1,9 +1,7 @@
 use Rattle.std.proofs.Common.{arith, ◌≡◌, ◌<◌, ◌≤◌, Bool, true, false, List, length, sym, ◌∙◌, ap, subst, inl, inr}
-use Rattle.std.specs.Prelude.{All}
 use Rattle.lu_component.specs.Component.{Component}
 use Rattle.lu_test.specs.declared.schedule.Move.{Move}
 use Rattle.lu_test.specs.Matrix.{Matrix}
-use Rattle.lu_test.specs.Schedule.{IsMove}
 use Rattle.lu_machine.specs.declared.event.Event.{Event}
 use Rattle.lu_recorded.specs.declared.recorded.Recorded.{Recorded}
 use Rattle.lu_conform.specs.declared.shown.Shown.{Shown}
@@ -15,7 +13,7 @@ use Rattle.lu_machine.specs.Positions.{at_position}
 use Rattle.lu_machine.specs.States.{State}
 use Rattle.lu_machine.proofs.Starting.{start_component, start_matrix}
 use Rattle.lu_conform.specs.Growing.{AddsNext, Entry}
-use Rattle.lu_conform.proofs.Visiting.{are_moves, can_stand, known_more, known_none, none_there, shortest_way, too_many}
+use Rattle.lu_conform.proofs.Visiting.{are_moves, can_stand, known_more, known_none, none_there, parents_before, shortest_way, too_many}
 use Rattle.lu_conform.proofs.searching.shown_by.Goals as goal
 
 pub loop-at-init : goal.loop-at-init
@@ -23,7 +21,7 @@ loop-at-init c = record {
   component = start_component c.args.component.now c.args.matrix.now c.in_ok-machine.machine c.in_ok-machine.ensures.starts;
   matrix_is = start_matrix c.args.component.now c.args.matrix.now c.in_ok-machine.machine c.in_ok-machine.ensures.starts;
   known = known_none c.args.component.now c.args.matrix.now c.requires.settles c.args.recorded.now c.in_ok-machine.machine c.in_ok-machine.ensures.starts
-      c.new-stages.result.entries c.add.new.stages.entries c.new-stages.ensures.empty c.new.result.items c.new.ensures.items c.in_ok-add.ensures;
+      c.new-stages.result.entries c.add.new.stages.entries c.new-stages.ensures.empty c.in_ok-add.ensures;
 }
 
 pub returns-then-len-gt-MOST_STAGES : goal.returns-then-len-gt-MOST_STAGES
@@ -56,13 +54,18 @@ stand_at-requires c =
     can_stand c.args.component.now c.args.matrix.now c.requires.settles c.args.recorded.now c.loop-at.stages.entries c.loop-at.at c.loop-at.invariant.known
     c.loop-at.machine c.loop-at.invariant.component c.loop-at.invariant.matrix_is entry (sym c.in-Some.ensures.entry)
 
+pub way_to-requires-clause-parents : goal.way_to-requires-clause-parents
+way_to-requires-clause-parents c =
+    let entry : Entry = (c.in-Some.entry.0.now, c.in-Some.entry.1.now) in
+    parents_before c.args.component.now c.args.matrix.now c.requires.settles c.args.recorded.now c.loop-at.stages.entries c.loop-at.at c.loop-at.invariant.known
+    c.loop-at.machine c.loop-at.invariant.component c.loop-at.invariant.matrix_is entry (sym c.in-Some.ensures.entry)
+
 pub by_way-requires : goal.by_way-requires
 by_way-requires c =
     let entry : Entry = (c.in-Some.entry.0.now, c.in-Some.entry.1.now) in
-    let same : c.in_ok-moves.moves.items ≡ entry.1.moves.items = c.in_ok-moves.ensures.items ∙ c.deref.ensures.value in
-    subst (All IsMove) (sym same)
-    (are_moves c.args.component.now c.args.matrix.now c.requires.settles c.args.recorded.now c.loop-at.stages.entries c.loop-at.at c.loop-at.invariant.known
-    c.loop-at.machine c.loop-at.invariant.component c.loop-at.invariant.matrix_is entry (sym c.in-Some.ensures.entry) c.in_ok-machine.ensures.limits.0 c.in_ok-machine.ensures.limits.1)
+    are_moves c.args.component.now c.args.matrix.now c.requires.settles c.args.recorded.now c.loop-at.stages.entries c.loop-at.at c.loop-at.invariant.known
+    c.loop-at.machine c.loop-at.invariant.component c.loop-at.invariant.matrix_is entry (sym c.in-Some.ensures.entry) c.in_ok-machine.ensures.limits.0 c.in_ok-machine.ensures.limits.1
+    c.in_ok-moves.moves.items c.in_ok-moves.ensures
 
 -- what is said of a shortest schedule
 told : (c : Component) (matrix : Matrix) (recorded : Recorded) (moves : List Move) (shown : Shown) → (length moves ≤ 4112 → shown ≡ By moves) → (4112 < length moves → shown ≡ Undecided) → IsShortest c matrix recorded moves → IsShown c matrix recorded shown
@@ -75,13 +78,11 @@ told c matrix recorded moves shown short long best =
 pub returns-then-is_end : goal.returns-then-is_end
 returns-then-is_end c =
     let entry : Entry = (c.in-Some.entry.0.now, c.in-Some.entry.1.now) in
-    let same : c.in_ok-moves.moves.items ≡ entry.1.moves.items = c.in_ok-moves.ensures.items ∙ c.deref.ensures.value in
     let ends : IsEndOf c.args.recorded.now (stage_of (at_position c.loop-at.machine entry.0.position) entry.0.seen) =
     subst (λ (s : State). IsEndOf c.args.recorded.now (stage_of s entry.0.seen)) c.stand_at.ensures (c.is_end.ensures.0 c.if-is_end.true) in
     told c.args.component.now c.args.matrix.now c.args.recorded.now c.in_ok-moves.moves.items c.by_way.result c.by_way.ensures.short c.by_way.ensures.long
-    (subst (IsShortest c.args.component.now c.args.matrix.now c.args.recorded.now) (sym same)
     (shortest_way c.args.component.now c.args.matrix.now c.requires.settles c.args.recorded.now c.loop-at.stages.entries c.loop-at.at c.loop-at.invariant.known
-    c.loop-at.machine c.loop-at.invariant.component c.loop-at.invariant.matrix_is entry (sym c.in-Some.ensures.entry) ends))
+    c.loop-at.machine c.loop-at.invariant.component c.loop-at.invariant.matrix_is entry (sym c.in-Some.ensures.entry) c.in_ok-moves.moves.items c.in_ok-moves.ensures ends)
 
 different : (b : Bool) → b ≡ true → b ≡ false → ⊥
 different true p q = cc
@@ -92,13 +93,10 @@ loop-at-preserved c =
     let entry : Entry = (c.in-Some.entry.0.now, c.in-Some.entry.1.now) in
     let there = at_position c.loop-at.machine entry.0.position in
     let home : c.add_next.new.machine ≡ there = c.in_ok-add_next.ensures.home ∙ c.stand_at.ensures in
-    let moves : c.deref-in-loop-at.result.now ≡ entry.1.moves.items = c.deref-in-loop-at.ensures.value ∙ (c.in_ok-moves.ensures.items ∙ c.deref.ensures.value) in
-    let as_moves : AddsNext c.stand_at.new.self c.events-events.result.now entry.0.seen entry.1.moves.items c.loop-at.stages.entries c.add_next.new.stages.entries =
-    subst (λ (u : List Move). AddsNext c.stand_at.new.self c.events-events.result.now entry.0.seen u c.loop-at.stages.entries c.add_next.new.stages.entries) moves c.in_ok-add_next.ensures.next in
-    let as_events : AddsNext c.stand_at.new.self c.args.recorded.now.history entry.0.seen entry.1.moves.items c.loop-at.stages.entries c.add_next.new.stages.entries =
-    subst (λ (h : List Event). AddsNext c.stand_at.new.self h entry.0.seen entry.1.moves.items c.loop-at.stages.entries c.add_next.new.stages.entries) c.events-events.ensures.events as_moves in
-    let adds : AddsNext there c.args.recorded.now.history entry.0.seen entry.1.moves.items c.loop-at.stages.entries c.add_next.new.stages.entries =
-    subst (λ (s : State). AddsNext s c.args.recorded.now.history entry.0.seen entry.1.moves.items c.loop-at.stages.entries c.add_next.new.stages.entries) c.stand_at.ensures as_events in
+    let as_events : AddsNext c.stand_at.new.self c.args.recorded.now.history entry.0.seen c.loop-at.at c.loop-at.stages.entries c.add_next.new.stages.entries =
+    subst (λ (h : List Event). AddsNext c.stand_at.new.self h entry.0.seen c.loop-at.at c.loop-at.stages.entries c.add_next.new.stages.entries) c.events-events.ensures.events c.in_ok-add_next.ensures.next in
+    let adds : AddsNext there c.args.recorded.now.history entry.0.seen c.loop-at.at c.loop-at.stages.entries c.add_next.new.stages.entries =
+    subst (λ (s : State). AddsNext s c.args.recorded.now.history entry.0.seen c.loop-at.at c.loop-at.stages.entries c.add_next.new.stages.entries) c.stand_at.ensures as_events in
     let not_here : IsEndOf c.args.recorded.now (stage_of there entry.0.seen) → ⊥ =
     λ ends. different c.is_end.result (c.is_end.ensures.1 (subst (λ (s : State). IsEndOf c.args.recorded.now (stage_of s entry.0.seen)) (sym c.stand_at.ensures) ends)) c.if-is_end.false in
     record {
