@@ -2,7 +2,7 @@
 use Rattle.std.proofs.Common.{◌≡◌, ◌≢◌, ◌⊎◌, ◌&&◌, ◌||◌, ℕ, zero, suc, ◌<◌, ◌≤◌, ◌+◌, Bool, true, false, List, [], ◌∷◌, ◌++◌, length, get_or, Some, slice_get, if◌then◌else◌, nat_eq, refl, sym, ap, subst, ◌∙◌, inl, inr, arith}
 use Rattle.std.specs.Prelude.{slice_index_or}
 use Rattle.std.specs.List.{list_any}
-use Rattle.std.proofs.lemmas.Bool.{cases_lt, eqb-true}
+use Rattle.std.proofs.lemmas.Bool.{cases_lt, eq-eqb, eqb-true}
 use Rattle.std.proofs.lemmas.Option.{get_or_from_slice_get}
 use Rattle.indexmap.specs.IndexSet.{insert_key}
 use Rattle.lu_history.specs.declared.serial.SerialOp.{SerialOp}
@@ -123,22 +123,50 @@ pub found_among : (pair : Pair) (pairs : List Pair) → list_any (pair_eq pair) 
 found_among pair [] e = absurd cc
 found_among pair (x ∷ pairs) e = or_either (pair_eq pair x) (list_any (pair_eq pair) pairs) (IsAmong pair (x ∷ pairs)) (λ is. inl (equal_pairs pair x is)) (λ later. inr (found_among pair pairs later)) e
 
+same_pair : (pair : Pair) → pair_eq pair pair ≡ true
+same_pair pair = ap (λ t. t && nat_eq pair.1 pair.1) (eq-eqb pair.0 pair.0 refl) ∙ eq-eqb pair.1 pair.1 refl
+
+or_left : (a b : Bool) → a ≡ true → (a || b) ≡ true
+or_left true b e = refl
+or_left false b e = absurd cc
+
+or_right : (a b : Bool) → b ≡ true → (a || b) ≡ true
+or_right true b e = refl
+or_right false b e = e
+
+pub among_found : (pair : Pair) (pairs : List Pair) → IsAmong pair pairs → list_any (pair_eq pair) pairs ≡ true
+among_found pair [] none = absurd none
+among_found pair (x ∷ pairs) (inl is) = or_left (pair_eq pair x) (list_any (pair_eq pair) pairs) (ap (pair_eq pair) (sym is) ∙ same_pair pair)
+among_found pair (x ∷ pairs) (inr later) = or_right (pair_eq pair x) (list_any (pair_eq pair) pairs) (among_found pair pairs later)
+
 among_push : (pair other : Pair) (pairs : List Pair) → IsAmong other (pairs ++ pair ∷ []) → IsAmong other pairs ⊎ (other ≡ pair)
 among_push pair other [] (inl is) = inr is
 among_push pair other [] (inr none) = absurd none
 among_push pair other (x ∷ pairs) (inl is) = inl (inl is)
 among_push pair other (x ∷ pairs) (inr later) = elim (among_push pair other pairs later) [ inl among ↦ inl (inr among) | inr is ↦ inr is ]
 
+push_among : (pair other : Pair) (pairs : List Pair) → IsAmong other pairs ⊎ (other ≡ pair) → IsAmong other (pairs ++ pair ∷ [])
+push_among pair other [] (inl none) = absurd none
+push_among pair other [] (inr is) = inl is
+push_among pair other (x ∷ pairs) (inl (inl is)) = inl is
+push_among pair other (x ∷ pairs) (inl (inr later)) = inr (push_among pair other pairs (inl later))
+push_among pair other (x ∷ pairs) (inr is) = inr (push_among pair other pairs (inr is))
+
 pub adds_pair : (pair : Pair) (pairs : List Pair) → AddsPair pair pairs (insert_key pair_eq pairs pair)
-adds_pair pair pairs other has = either (list_any (pair_eq pair) pairs) has
+adds_pair pair pairs other = ((λ has. forth (list_any (pair_eq pair) pairs) has), (λ has. back (list_any (pair_eq pair) pairs) refl has))
   where
-    either : (t : Bool) → IsAmong other (if t then pairs else pairs ++ pair ∷ []) → IsAmong other pairs ⊎ (other ≡ pair)
-    either true among = inl among
-    either false among = among_push pair other pairs among
+    forth : (t : Bool) → IsAmong other (if t then pairs else pairs ++ pair ∷ []) → IsAmong other pairs ⊎ (other ≡ pair)
+    forth true among = inl among
+    forth false among = among_push pair other pairs among
+
+    back : (t : Bool) → list_any (pair_eq pair) pairs ≡ t → IsAmong other pairs ⊎ (other ≡ pair) → IsAmong other (if t then pairs else pairs ++ pair ∷ [])
+    back true found (inl among) = among
+    back true found (inr is) = subst (λ (x : Pair). IsAmong x pairs) (sym is) (found_among pair pairs found)
+    back false found has = push_among pair other pairs has
 
 -- one more pair is so
 pub one_more_within : (one other : List (List (List SerialOp))) (pair : Pair) (old new : List Pair) → IsWithin one other pair → AddsPair pair old new → AreWithin one other old → AreWithin one other new
-one_more_within one other pair old new within adds are x among = elim (adds x among) [
+one_more_within one other pair old new within adds are x among = elim ((adds x).0 among) [
   | inl before ↦ are x before
   | inr is ↦ subst (IsWithin one other) (sym is) within
 ]

@@ -1,5 +1,5 @@
 -- Sets that are within another.
-use Rattle.std.specs.Prelude.{◌≡◌, ◌⊎◌, ℕ, true, false, List, [], ◌∷◌, slice_index_or}
+use Rattle.std.specs.Prelude.{◌≡◌, ◌↔◌, ◌⊎◌, ℕ, true, false, List, [], ◌∷◌, slice_index_or}
 use Rattle.lu_history.specs.declared.serial.SerialOp.{SerialOp}
 use Rattle.lu_trie.specs.Members.{contains}
 use Rattle.lu_serial_graph.specs.Playing.{IsAmong}
@@ -33,6 +33,7 @@ IsWithin one other pair =
 abbrev pub AreWithin : List (List (List SerialOp)) → List (List (List SerialOp)) → List Pair → Type 0
 AreWithin one other pairs = (pair : Pair) → IsAmong pair pairs → IsWithin one other pair
 
--- each new pair is an old one, or this one
+-- the new pairs are the old ones and this one
 abbrev pub AddsPair : Pair → List Pair → List Pair → Type 0
-AddsPair pair old new = (other : Pair) → IsAmong other new → IsAmong other old ⊎ (other ≡ pair)
+AddsPair pair old new =
+    (other : Pair) → IsAmong other new ↔ (IsAmong other old ⊎ (other ≡ pair))

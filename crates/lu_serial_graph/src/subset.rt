@@ -13,7 +13,7 @@ use std::alloc::{AllocError, Allocator, Global};
 
 /// Whether the pair is among those that were looked at.
 fn is_known(known: &IndexSet<(usize, usize)>, pair: (usize, usize)) -> bool
-    ensures { IsTrue result → IsAmong pair known.now.keys }
+    ensures { IsTrue result ↔ IsAmong pair known.now.keys }
 {
     known.contains(&pair)
 }

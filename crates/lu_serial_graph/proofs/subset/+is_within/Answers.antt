@@ -10,7 +10,7 @@ use Rattle.lu_serial_graph.proofs.subset.+is_within.Goals as goal
 
 pub returns-then-is_known-clause-within : goal.returns-then-is_known-clause-within
 returns-then-is_known-clause-within g t c = (
-  (λ _. c.requires.known (c.args.here, c.args.there) (c.is_known.ensures c.if-is_known.true)),
+  (λ _. c.requires.known (c.args.here, c.args.there) (c.is_known.ensures.0 c.if-is_known.true)),
   (λ _. search rules),
 )
 
