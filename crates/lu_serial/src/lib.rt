@@ -24,4 +24,4 @@ mod walk;
 
 pub use laws::{one_conflict, serial_short};
 pub use learning::{Learnt, learn};
-pub use outside::first_outside;
+pub use outside::{first_outside, first_outside_tree};

@@ -13,24 +13,45 @@ use lu_component::Component;
 use lu_history::SerialOp;
 use lu_machine::Test;
 use lu_test::{Matrix, Schedule};
-use lu_trie::Trie;
+use lu_trie::{SerialTree, Trie};
 use std::alloc::{AllocError, Allocator, Global};
 
-/// A search for a history outside the set. It stops at the first one.
-#[derive(Drop)]
-struct Search<'a, A: Allocator> {
-    set: &'a Trie<A>,
+/// Whether the history is a member below a place.
+fn contains_below<T: SerialTree>(tree: &T, place: T::Place, history: &[SerialOp]) -> bool
+    requires { T.is_place tree.now place }
+    ensures { result ≡ contains (T.below tree.now place) history.now }
+{
+    match history {
+        [] => tree.ends(place),
+        [op, rest @ ..] => {
+            for i in 0..tree.kid_count(place) {
+                let (label, below) = tree.kid(place, i);
+                if label == *op {
+                    return contains_below(tree, below, rest);
+                }
+            }
+            false
+        }
+    }
 }
 
-impl<'a, A: Allocator> HistoryVisitor for Search<'a, A> {
+/// A search for a history outside the tree. It stops at the first one.
+#[derive(Drop)]
+struct Search<'a, T: SerialTree> {
+    tree: &'a T,
+}
+
+impl<'a, T: SerialTree> HistoryVisitor for Search<'a, T> {
     type Stop = ();
 
-    ghost was_shown = { λ search first shown. Seeks first.set.now search.set.now shown };
+    ghost was_shown = { λ search first shown.
+        Seeks (T.members first.tree.now) (T.members search.tree.now) shown };
 
-    ghost stops = { λ search history _. contains search.set.now history ≡ false };
+    ghost stops = { λ search history _. contains (T.members search.tree.now) history ≡ false };
 
     fn at_end(&mut self, history: &[SerialOp]) -> Result<Option<()>, AllocError> {
-        if self.set.contains(history) {
+        let tree = self.tree;
+        if contains_below(tree, tree.root(), history) {
             return Ok(None);
         }
         Ok(Some(()))
@@ -56,12 +77,33 @@ pub fn first_outside<A: Allocator>(
     requires few { bound ≤ MOST_MOVES }
     ensures { FindsOutside component.now matrix.now bound set.now result }
 {
+    first_outside_tree(alloc, component, matrix, bound, &set)
+}
+
+/// The least serially ended schedule whose history is not in the tree's set, as [`first_outside`]
+/// finds it for a trie.
+///
+/// # Errors
+///
+/// `AllocError` where memory was refused.
+pub fn first_outside_tree<T: SerialTree>(
+    alloc: Global,
+    component: &Component,
+    matrix: &Matrix,
+    bound: u16,
+    tree: &T,
+) -> Result<Option<Schedule>, AllocError>
+    requires of { CanRun component.now matrix.now }
+    requires some { 1 ≤ bound }
+    requires few { bound ≤ MOST_MOVES }
+    ensures { FindsOutside component.now matrix.now bound (T.members tree.now) result }
+{
     let node = SerialNode::start(alloc, Test { component, matrix })?;
     let path = Vec::new(alloc);
     let mut walk_state = WalkState {
         node,
         path,
-        visitor: Search { set },
+        visitor: Search { tree },
     };
     match walk(bound, &mut walk_state, None)? {
         Some(EarlyEnd::Stopped(())) => Ok(Some(Schedule::new(walk_state.path))),

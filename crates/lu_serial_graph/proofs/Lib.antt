@@ -7,3 +7,4 @@ pub mod Links
 pub mod Explored
 pub mod Graphed
 pub mod Offending
+pub mod Within

@@ -1,5 +1,5 @@
 -- What a call answers from several rests.
-use Rattle.std.specs.Prelude.{◌≡◌, ◌≢◌, ◌⊎◌, ℕ, ◌<◌, List, [], Option, Some, None}
+use Rattle.std.specs.Prelude.{◌≡◌, ◌≢◌, ◌⊎◌, ℕ, ◌<◌, List, [], Option, Some, None, Result, IfOk, IfSome}
 use Rattle.lu_component.specs.Component.{Component}
 use Rattle.lu_test.specs.Matrix.{Matrix}
 use Rattle.lu_machine.specs.declared.position.Position.{Position}
@@ -106,3 +106,7 @@ LastsSomewhere c matrix rests t n =
 abbrev pub Asks : Component → Matrix → List Position → ℕ → ℕ → Option Answer → Type 0
 Asks c matrix rests t n (Some answer) = IsAnswer c matrix rests t n answer
 Asks c matrix rests t n None = LastsSomewhere c matrix rests t n ⊎ TwoOutcomes c matrix rests t
+
+-- the fact holds where there is an answer
+abbrev pub IfAnswered : {E : Type 0} → Result (Option Answer) E → Type 0 → Type 0
+IfAnswered result fact = IfOk result (λ found. IfSome found (λ _. fact))

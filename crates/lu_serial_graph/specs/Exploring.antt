@@ -13,7 +13,7 @@ use Rattle.lu_serial.specs.Offences.{NoOffence}
 use Rattle.lu_serial_graph.specs.declared.exploring.Rests.{Rests}
 use Rattle.lu_serial_graph.specs.declared.exploring.Search.{Search}
 use Rattle.lu_serial_graph.specs.Playing.{IsAmong}
-use Rattle.lu_serial_graph.specs.Answers.{HasRest}
+use Rattle.lu_serial_graph.specs.Answers.{HasRest, RestsStand}
 use Rattle.lu_serial_graph.specs.Continuing.{LeadsTo, AreContinuations}
 
 -- the outcome of a call that is blocked
@@ -55,6 +55,14 @@ abbrev pub IsReached : Component → Matrix → Bool → List Position → ℕ �
 IsReached c matrix stuck rests left =
     (s : State) × (q : List SerialOp) × IsStart c matrix s × LeadsTo c matrix s q stuck rests
     × (MOST_CALLS < length q + left)
+
+-- a search reaches them so, and its machine can stand at each of them
+abbrev pub Reaches : {A : Type 0} → Search A → Bool → List Position → ℕ → Type 0
+Reaches search stuck rests left =
+    IsReached search.machine.component search.machine.matrix stuck rests left
+
+abbrev pub CanStandAtEach : {A : Type 0} → Search A → List Position → Type 0
+CanStandAtEach search rests = RestsStand search.machine.component search.machine.matrix rests
 
 -- some serial run offends
 abbrev pub Offends : Component → Matrix → ℕ → Type 0

@@ -5,3 +5,4 @@ pub mod Continuing
 pub mod Ordering
 pub mod Exploring
 pub mod Learning
+pub mod Subsets

@@ -1,8 +1,8 @@
 //! What a call answers from several rests.
 
-ghost use Rattle.std.specs.Prelude.{◌≡◌, ◌↔◌, ◌<◌, ◌≤◌, ◌+◌, length, IsTrue, IfOk, IfSome, OnOk};
+ghost use Rattle.std.specs.Prelude.{◌≡◌, ◌↔◌, ◌<◌, ◌≤◌, ◌+◌, length, IsTrue, IfOk, OnOk};
 ghost use Rattle.lu_machine.specs.declared.TheConstants.{MOST_MOVES};
-ghost use Rattle.lu_serial_graph.specs.Answers.{AddsRest, AnswersFor, Asks, MayCall, RestsStand};
+ghost use Rattle.lu_serial_graph.specs.Answers.{AddsRest, AnswersFor, Asks, IfAnswered, MayCall, RestsStand};
 
 use crate::alone::{Ending, run_alone};
 use crate::ordering::in_order;
@@ -67,8 +67,8 @@ pub(crate) fn ask(
     requires calls { MayCall machine.old.component machine.old.matrix rests.now t }
     requires some { 0 < length rests.now }
     requires few { bound ≤ MOST_MOVES }
-    ensures component { IfOk result (λ a. IfSome a (λ _. machine.new.component ≡ machine.old.component)) }
-    ensures matrix { IfOk result (λ a. IfSome a (λ _. machine.new.matrix ≡ machine.old.matrix)) }
+    ensures component { IfAnswered result (machine.new.component ≡ machine.old.component) }
+    ensures matrix { IfAnswered result (machine.new.matrix ≡ machine.old.matrix) }
     ensures answer { IfOk result
         (Asks machine.old.component machine.old.matrix rests.now t (bound + 1)) }
 {

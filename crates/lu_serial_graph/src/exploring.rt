@@ -3,8 +3,7 @@
 ghost use Rattle.std.specs.Prelude.{◌≡◌, ◌≤◌, IfOk, IfSome, OnOk};
 ghost use Rattle.lu_machine.specs.declared.TheConstants.{MOST_MOVES};
 ghost use Rattle.lu_test.specs.Matrix.{IsMatrix};
-ghost use Rattle.lu_serial_graph.specs.Answers.{RestsStand};
-ghost use Rattle.lu_serial_graph.specs.Exploring.{AllKnown, ExploresOrOffends, IsKept, IsReached, Keeps, is_stuck};
+ghost use Rattle.lu_serial_graph.specs.Exploring.{AllKnown, CanStandAtEach, ExploresOrOffends, IsKept, Keeps, Reaches, is_stuck};
 
 use crate::answering::ask;
 use crate::graph::Table;
@@ -71,9 +70,8 @@ pub(crate) fn explore<A: Allocator>(
     requires known { AllKnown search.old }
     requires few { search.old.bound ≤ MOST_MOVES }
     requires limits { IsMatrix search.old.machine.matrix }
-    requires reached { IsReached search.old.machine.component search.old.machine.matrix stuck
-        rests.positions.items left }
-    requires stand { RestsStand search.old.machine.component search.old.machine.matrix rests.positions.items }
+    requires reached { Reaches search.old stuck rests.positions.items left }
+    requires stand { CanStandAtEach search.old rests.positions.items }
     ensures { IfOk result (ExploresOrOffends search.old stuck rests.positions.items search.new) }
 {
     if stuck {

@@ -7,7 +7,7 @@ ghost use Rattle.lu_machine.specs.Starts.{CanRun, FromEachStart};
 ghost use Rattle.lu_serial.specs.Offences.{IsSetOf};
 ghost use Rattle.lu_serial_graph.specs.Exploring.{Offends};
 ghost use Rattle.lu_serial_graph.specs.Graphs.{members_of};
-ghost use Rattle.lu_serial_graph.specs.Learning.{IsLearntGraph};
+ghost use Rattle.lu_serial_graph.specs.Learning.{LearnsGraph};
 ghost use Rattle.lu_test.specs.Matrix.{IsMatrix};
 
 use crate::exploring::{Rests, Search, explore};
@@ -84,7 +84,7 @@ fn offence_of<A: Allocator + Clone>(
     requires some { 1 ≤ bound }
     requires few { bound ≤ MOST_MOVES }
     requires offence { Offends component.now matrix.now bound }
-    ensures { FromEachStart component.now matrix.now (λ s. IfOk result (IsLearntGraph s bound)) }
+    ensures { LearnsGraph component.now matrix.now bound result }
 {
     match learn(alloc, set_alloc, component, matrix, bound)? {
         Learnt::Set(_) => unreachable!(),
@@ -123,7 +123,7 @@ pub fn learn_graph<A: Allocator + Clone>(
     requires of { CanRun component.now matrix.now }
     requires some { 1 ≤ bound }
     requires few { bound ≤ MOST_MOVES }
-    ensures learnt { FromEachStart component.now matrix.now (λ s. IfOk result (IsLearntGraph s bound)) }
+    ensures learnt { LearnsGraph component.now matrix.now bound result }
     ensures limits { OnOk result (IsComponent component.now × IsMatrix matrix.now) }
 {
     match graph_of(alloc, set_alloc.clone()?, component, matrix, bound)? {

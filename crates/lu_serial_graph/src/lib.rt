@@ -7,6 +7,7 @@ mod exploring;
 mod graph;
 mod learning;
 mod ordering;
+mod subset;
 
 pub use graph::SerialGraph;
 pub use learning::{LearntGraph, learn_graph};

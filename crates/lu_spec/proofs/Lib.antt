@@ -19,3 +19,4 @@ pub mod FirmSets
 pub mod FreeLines
 pub mod FreeAlike
 pub mod FreeFaultLines
+pub mod Deepened

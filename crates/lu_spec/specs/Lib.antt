@@ -1,4 +1,5 @@
 pub mod Beginnings
+pub mod BeginningsInOrder
 pub mod Specs
 pub mod SpecText
 pub mod Codes

@@ -3,7 +3,8 @@
 //!
 //! A [`Spec`] says which serial histories of a matrix are right. [`Spec::closure`] makes one of a
 //! set of serial histories, [`read_spec`] of a text, and [`write_spec`] writes it. [`spec_faults`]
-//! tells every fault of a text.
+//! tells every fault of a text. [`Beginnings`] reads the beginnings of a tree's members from that
+//! tree.
 //!
 //! A [`FreeSpec`] may leave outcomes free: [`collect_free_spec`] reads it of a text whose entries
 //! may have the mark `?`, and [`read_given_spec`] reads a text of the one kind or the other, of
@@ -14,6 +15,7 @@
 //! ```
 #![tactic(auto)]
 
+mod beginnings;
 mod closing;
 mod collecting;
 mod fault;
@@ -31,6 +33,7 @@ mod reader;
 mod spec;
 mod writer;
 
+pub use beginnings::Beginnings;
 pub use collecting::collect_spec;
 pub use fault::{SpecFault, SpecFaultKind, SpecLineFault};
 pub use faults::spec_faults;

@@ -1,7 +1,7 @@
 //! Specifications.
 
 ghost use Rattle.std.specs.Prelude.{◌≡◌, ◌↔◌, IsTrue, IfOk};
-ghost use Rattle.lu_trie.specs.Members.{contains};
+ghost use Rattle.lu_trie.specs.Members.{AllSerial, contains};
 ghost use Rattle.lu_trie.specs.Conflicts.{IsDeterministic};
 ghost use Rattle.lu_spec.specs.Beginnings.{IsClosureOf};
 ghost use Rattle.lu_spec.specs.Specs.{AreOf, IsSpec};
@@ -51,8 +51,30 @@ impl Spec {
         ensures closure { IfOk result (IsClosureOf set.now) }
         ensures of { IfOk result (AreOf matrix.now) }
     {
-        let mut closed = Trie::new(alloc);
         let tree = &set;
+        // That each member is serial is known where the root is read.
+        let _ = tree.root();
+        Self::closure_of(alloc, matrix, tree)
+    }
+
+    /// The specification of all beginnings of a tree's members, as [`Spec::closure`] makes it of a
+    /// trie. Asks for serial histories.
+    ///
+    /// # Errors
+    ///
+    /// `AllocError` where memory was refused.
+    pub fn closure_of<T: SerialTree>(
+        alloc: Global,
+        matrix: &Matrix,
+        tree: &T,
+    ) -> Result<Spec, AllocError>
+        requires deterministic { IsDeterministic (T.members tree.now) }
+        requires serial { AllSerial (T.members tree.now) }
+        requires of { AreOf matrix.now (T.members tree.now) }
+        ensures closure { IfOk result (IsClosureOf (T.members tree.now)) }
+        ensures of { IfOk result (AreOf matrix.now) }
+    {
+        let mut closed = Trie::new(alloc);
         add_below(&mut closed, tree, tree.root(), &mut Vec::new(alloc))?;
         Ok(Spec { set: closed })
     }
