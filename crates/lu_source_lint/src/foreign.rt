@@ -3,7 +3,7 @@
 use crate::meaning::word_is;
 
 /// Words of other languages.
-const FOREIGN: [(&str, &str); 29] = [
+const FOREIGN: [(&str, &str); 27] = [
     (";", "unexpected `;`; help: a statement ends with its line"),
     (
         ":",
@@ -93,8 +93,6 @@ const FOREIGN: [(&str, &str); 29] = [
         "assert",
         "there is no `assert`; help: return a value that no serial run returns",
     ),
-    ("true", "there is no `true`; help: write 1"),
-    ("false", "there is no `false`; help: write 0"),
     (
         "self",
         "there is no `self`; help: write the name of the word",
