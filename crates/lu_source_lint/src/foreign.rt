@@ -3,7 +3,7 @@
 use crate::meaning::word_is;
 
 /// Words of other languages.
-const FOREIGN: [(&str, &str); 27] = [
+const FOREIGN: [(&str, &str); 30] = [
     (";", "unexpected `;`; help: a statement ends with its line"),
     (
         ":",
@@ -43,6 +43,9 @@ const FOREIGN: [(&str, &str); 27] = [
         "fn",
         "expected an operation, found `fn`; help: write `op NAME(A, B) {`",
     ),
+    ("mutex", "there is no `mutex`; help: declare `lock NAME`"),
+    ("atomic", "there is no `atomic`; help: declare `word NAME`"),
+    ("var", "there is no `var`; help: write `let NAME = EXPR`"),
     ("for", "there is no `for` loop; help: write `while EXPR {`"),
     (
         "match",
