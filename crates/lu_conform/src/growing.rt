@@ -15,7 +15,7 @@ use std::alloc::{AllocError, Global};
 pub(crate) struct SoFar<'a> {
     pub(crate) events: &'a [Event],
     pub(crate) seen: usize,
-    pub(crate) place: usize,
+    pub(crate) place: u32,
 }
 
 /// Adds the stage at which the machine stands, after this many events, unless it is there, and how

@@ -14,7 +14,7 @@ pub(crate) struct Kept {
 /// How a stage was first reached: from the stage at the place `parent`, by one move.
 #[derive(Clone, Copy)]
 pub(crate) struct Arrival {
-    pub(crate) parent: usize,
+    pub(crate) parent: u32,
     pub(crate) by: Move,
 }
 

@@ -79,7 +79,7 @@ pub fn shown_by(
         let so_far = SoFar {
             events,
             seen,
-            place: at,
+            place: at as u32,
         };
         add_next(alloc, &mut machine, so_far, &mut stages)?;
     }

@@ -25,7 +25,7 @@ pub(crate) fn way_to(alloc: Global, stages: &Stages, place: usize) -> Result<Vec
     let mut at = place;
     while let Some(arrival) = arrival_at(stages, at) {
         moves.push(arrival.by)?;
-        at = arrival.parent;
+        at = arrival.parent as usize;
     }
     moves.reverse();
     Ok(moves)

@@ -14,10 +14,10 @@ use Rattle.lu_machine.specs.Sums.{total}
 use Rattle.lu_history.specs.declared.serial.SerialOp.{SerialOp}
 use Rattle.lu_witness.specs.Goodness.{IsFirstBad, AreAllGood}
 use Rattle.lu_witness.specs.Witnesses.{IsMember}
-use Rattle.lu_tree.specs.Tables.{AreTablesOf}
+use Rattle.lu_tree.specs.Searchers.{IsReadyToSearch, space_of}
 use Rattle.lu_tree.specs.Trees.{Below, IsFoundWatched}
-use Rattle.lu_tree.specs.declared.tables.Tables.{Tables}
 use Rattle.lu_tree.specs.declared.found.Found.{Found}
+use Rattle.lu_tree.specs.declared.searcher.Searcher.{Searcher}
 use Rattle.lu_board.specs.declared.view.View.{View}
 use Rattle.lu_board.specs.Pieces.{without_first}
 use Rattle.lu_board.specs.Seats.{Board, Seat, IsDone, IsSeatOf}
@@ -103,9 +103,11 @@ IsLent job =
     IsJob job.space.test.component.now job.space.test.matrix.now job.space.bound
     job.pieces.now job.board.now
 
--- the tables are those of what is lent
-abbrev pub AreTablesFor : {T G : Type 0} → Job T G → Tables → Type 0
-AreTablesFor job tables = AreTablesOf job.space.test tables
+-- the searcher can search what is lent
+pub record IsSearcherFor {T G Place : Type 0} (job : Job T G) (searcher : Searcher T Place) :
+    Type 0 where
+  pub ready : IsReadyToSearch searcher
+  pub space : space_of searcher ≡ job.space
 
 -- a work for what is lent, with the set of these members
 abbrev pub IsWorkFor : {T G : Type 0} → Job T G → List (List SerialOp) → Work → Type 0

@@ -23,7 +23,7 @@ use lu_replay::graph_or_offence;
 use lu_report::{Finding, Report};
 use lu_serial_graph::learn_graph;
 use lu_test::{Matrix, Schedule};
-use lu_tree::{SearchSpace, Tables, Watch, frontier, search_with};
+use lu_tree::{SearchSpace, Searcher, Watch, frontier};
 use lu_trie::SerialTree;
 use lu_witness::Cache;
 use std::alloc::{AllocError, Global};
@@ -90,15 +90,10 @@ fn search_ahead<R, G, T: SerialTree>(
     }
     let space = &check.space;
     let whole = Schedule::new(Vec::new(space.alloc));
-    let tables = Tables::new(
-        space.alloc,
-        space.test.component,
-        space.test.matrix,
-        space.bound,
-    )?;
+    let mut searcher = Searcher::new(*space, tree)?;
     let mut cache = Cache::new(space.alloc, tree, REMEMBERED)?;
     let mut watch = HeadStart::new(looks);
-    let found = search_with(space, &tables, &mut cache, &whole, &mut watch)?;
+    let found = searcher.search(&mut cache, &whole, &mut watch)?;
     Ok(finding_of(found))
 }
 

@@ -14,7 +14,7 @@ use lu_replay::graph_or_offence;
 use lu_report::{Finding, Report};
 use lu_serial_graph::learn_graph;
 use lu_test::{Matrix, Schedule};
-use lu_tree::{Found, SearchSpace, Tables, Unwatched, search_with};
+use lu_tree::{Found, SearchSpace, Searcher, Unwatched};
 use lu_trie::SerialTree;
 use lu_witness::Cache;
 use std::alloc::{AllocError, Allocator, Global};
@@ -40,14 +40,9 @@ pub(crate) fn search_all<T: SerialTree>(
     ensures limits { OnOk result (IsMatrix space.now.test.matrix.now) }
 {
     let whole = Schedule::new(Vec::new(space.alloc));
-    let tables = Tables::new(
-        space.alloc,
-        space.test.component,
-        space.test.matrix,
-        space.bound,
-    )?;
+    let mut searcher = Searcher::new(*space, tree)?;
     let mut cache = Cache::new(space.alloc, tree, REMEMBERED)?;
-    let found = search_with(space, &tables, &mut cache, &whole, &mut Unwatched)?;
+    let found = searcher.search(&mut cache, &whole, &mut Unwatched)?;
     Ok(finding_of(found).unwrap())
 }
 

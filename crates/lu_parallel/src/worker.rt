@@ -5,9 +5,10 @@ ghost use Rattle.lu_machine.specs.Starts.{CanRun};
 ghost use Rattle.lu_history.specs.declared.serial.SerialOp.{SerialOp};
 ghost use Rattle.lu_witness.specs.Caches.{SameButEntries};
 ghost use Rattle.lu_report.specs.Limits.{most_moves};
+ghost use Rattle.lu_tree.specs.Searchers.{tree_of};
 ghost use Rattle.lu_tree.specs.Trees.{is_abandoned};
 ghost use Rattle.lu_parallel.specs.Watches.{held_piece};
-ghost use Rattle.lu_parallel.specs.Works.{ArePieces, AreTablesFor, IsNoted, IsFresh, IsLent, IsWorkFor, Worked, PutsAway, Tallied};
+ghost use Rattle.lu_parallel.specs.Works.{ArePieces, IsNoted, IsFresh, IsLent, IsSearcherFor, IsWorkFor, Worked, PutsAway, Tallied};
 
 use crate::gate::Gate;
 use crate::seat_watch::SeatWatch;
@@ -16,7 +17,7 @@ use lu_board::{Board, Kind, Look, Seat};
 use lu_component::Component;
 use lu_machine::{Counts, Test};
 use lu_test::{Matrix, Schedule};
-use lu_tree::{Found, SearchSpace, Tables, search_with};
+use lu_tree::{Found, SearchSpace, Searcher};
 use lu_trie::SerialTree;
 use lu_witness::Cache;
 use std::alloc::{AllocError, Global};
@@ -115,16 +116,19 @@ impl Worker {
     fn serve<'t, T: SerialTree, G: Gate>(
         &mut self,
         job: &Job<'_, T, G>,
-        tables: &Tables,
+        searcher: &mut Searcher<'_, 't, T>,
         cache: &mut Cache<'t, T>,
         seat: Seat,
         piece: u64,
     ) -> Seat
         requires job { IsLent job.now }
-        requires tables { AreTablesFor job.now tables.now }
+        requires searcher { IsSearcherFor job.now searcher.old }
+        requires tree { cache.old.tree ≡ tree_of searcher.old }
         requires board { seat.board ≡ job.now.board.now.board }
         requires piece { piece < length job.now.pieces.now }
         requires held { seat.view.held ≡ piece ∷ [] }
+        ensures searcher { IsSearcherFor job.now searcher.new }
+        ensures tree { tree_of searcher.new ≡ tree_of searcher.old }
         ensures cache { SameButEntries cache.old cache.new }
         ensures board { result.board ≡ seat.board }
         ensures away { PutsAway piece seat.view result.view }
@@ -144,7 +148,7 @@ impl Worker {
             Look::Go(_) => {
                 let from = &job.pieces[piece as usize];
                 let mut watch = SeatWatch::new(job.board, seat, piece);
-                let found = search_with(&job.space, tables, cache, from, &mut watch);
+                let found = searcher.search(cache, from, &mut watch);
                 let seat = self.note(job, found, watch.into_seat(), piece);
                 job.gate.done(self.number, piece);
                 seat
@@ -207,15 +211,15 @@ pub fn work<T: SerialTree, G: Gate>(
         board,
         gate,
     };
-    let (Ok(mut cache), Ok(tables)) = (
+    let (Ok(mut cache), Ok(mut searcher)) = (
         Cache::new(alloc, tree, REMEMBERED),
-        Tables::new(alloc, component, matrix, bound),
+        Searcher::new(space, tree),
     ) else {
         return give_up_all(&job, seat);
     };
     let mut worker = Worker::new(alloc, worker);
     while let Some(piece) = board.claim(&mut seat) {
-        seat = worker.serve(&job, &tables, &mut cache, seat, piece);
+        seat = worker.serve(&job, &mut searcher, &mut cache, seat, piece);
     }
     Work {
         seat,

@@ -1,15 +1,14 @@
-//! Searches that a watch may call off, and tables that serve several searches.
+//! Searches that a watch may call off, and several by one searcher.
 
 ghost use Rattle.std.specs.Prelude.{◌≡◌, false};
 ghost use Rattle.lu_machine.specs.Starts.{CanRun};
-ghost use Rattle.lu_tree.specs.Tables.{AreRunTables};
 
 use crate::serial_runs::set_of;
 use crate::trees::{assert_bad, assert_clean, beginning};
 use lu_fixtures::{Fixture, ROWS, fixture_of};
 use lu_graph::{Alone, Ending, FirstLost, Halted, ends_well_watched, first_lost_watched};
 use lu_machine::Test;
-use lu_tree::{Found, SearchSpace, Tables, Unwatched, Watch, search_watched, search_with};
+use lu_tree::{Found, SearchSpace, Searcher, Unwatched, Watch, search_watched};
 use lu_trie::{PackedTrie, SerialTree};
 use lu_witness::{Cache, Why};
 use std::alloc::Global;
@@ -264,19 +263,15 @@ fn packed_sets_with_a_cache_of_one_verdict(rt: HostRuntime) -> Result<(), Fail> 
     Ok(())
 }
 
-/// What is found below the schedule within 40 moves, with a cache of one verdict.
-fn found_below<T: SerialTree>(
+/// The whole tree and one half of it, by one searcher with a cache of one verdict, after a search
+/// that was stopped.
+fn assert_parts<T: SerialTree>(
     rt: &(impl AllocGlobal + Abort),
     case: &Fixture,
-    tables: &Tables,
     tree: &T,
-    from: &[u8],
-) -> Result<Found, Fail>
-    requires of { CanRun case.now.component case.now.matrix }
-    requires tables { AreRunTables case.now.component case.now.matrix tables.now }
+) -> Result<(), Fail>
+    requires { CanRun case.now.component case.now.matrix }
 {
-    let from = beginning(rt, case, from)?;
-    assert!(rt; from.moves().len() <= 40);
     let space = SearchSpace {
         alloc: rt.alloc(),
         test: Test {
@@ -285,34 +280,23 @@ fn found_below<T: SerialTree>(
         },
         bound: 40,
     };
+    let whole = beginning(rt, case, b"schedule\n")?;
+    let half = beginning(rt, case, b"schedule 0\n")?;
+    assert!(rt; whole.moves().len() <= 40);
+    assert!(rt; half.moves().len() <= 40);
     let mut cache = Cache::new(rt.alloc(), tree, 1)?;
-    Ok(search_with(&space, tables, &mut cache, &from, &mut Unwatched)?)
-}
-
-/// The whole tree and its two halves: where each begins, and how many complete schedules it has.
-const PARTS: &[(&[u8], u64)] = &[
-    (b"schedule\n", 2564),
-    (b"schedule 0\n", 1282),
-    (b"schedule 1\n", 1282),
-];
-
-/// One table serves all parts.
-fn assert_parts<T: SerialTree>(
-    rt: &(impl AllocGlobal + Abort),
-    case: &Fixture,
-    tree: &T,
-) -> Result<(), Fail>
-    requires { CanRun case.now.component case.now.matrix }
-{
-    let tables = Tables::new(rt.alloc(), &case.component, &case.matrix, 40)?;
-    for (from, count) in PARTS {
-        assert_clean(rt, &found_below(rt, case, &tables, tree, from)?, *count, 0);
-    }
+    let mut searcher = Searcher::new(space, tree)?;
+    let stopped = searcher.search(&mut cache, &whole, &mut stops_at(1))?;
+    assert!(rt; matches!(stopped, Found::Abandoned));
+    let found = searcher.search(&mut cache, &whole, &mut Unwatched)?;
+    assert_clean(rt, &found, 2564, 0);
+    let below = searcher.search(&mut cache, &half, &mut Unwatched)?;
+    assert_clean(rt, &below, 1282, 0);
     Ok(())
 }
 
 #[test]
-fn one_table_serves_all_parts(rt: HostRuntime) -> Result<(), Fail> {
+fn one_searcher_serves_all_parts(rt: HostRuntime) -> Result<(), Fail> {
     let packed = packed(&rt, EXCHANGES)?;
     let case = fixture_of(&rt, ROWS.as_bytes(), EXCHANGES)?;
     assert_parts(&rt, &case, &&packed)

@@ -52,7 +52,7 @@ ready_still before after same ready =
 pub stays_home : {T Place : Type 0} (node end : Node T Place) (left : ℕ) (tally : WalkProgress) → end.trail.tree ≡ node.trail.tree → end.machine ≡ node.machine → end.trail.history ≡ node.trail.history → Agree (progress node.machine) node.trail.history → IsReadyToWalk tally → StaysBelow node left tally end
 stays_home node end left tally tree machine history agree ready =
     record {
-      tree = tree;
+      run = record { component = ap (λ (s : State). s.component) machine; matrix = ap (λ (s : State). s.matrix) machine; tree = tree };
       agree = rw (machine, history) agree;
       room = ready.room;
       short = (let none = ap length ready.empty in omega arith);

@@ -19,3 +19,4 @@ pub mod Alike
 mod AlikeLaws
 pub mod AlikeRuns
 mod LeftAlike
+mod Returning

@@ -14,11 +14,17 @@ use Rattle.lu_tree.specs.declared.progress.WalkProgress.{WalkProgress}
 use Rattle.lu_tree.specs.Known.{IsKnownNode, counts_of, kids_of}
 use Rattle.lu_tree.specs.Walks.{HaltsAtNode, IsBadEnd, IsCountOfNode, IsReadyToWalk}
 
+-- both are nodes of runs of one component and one matrix, over one tree
+pub record IsOfOneRun {T Place : Type 0} (node end : Node T Place) : Type 0 where
+  pub component : end.machine.component ≡ node.machine.component
+  pub matrix : end.machine.matrix ≡ node.machine.matrix
+  pub tree : end.trail.tree ≡ node.trail.tree
+
 -- The walk ends at a node over the same tree, whose history is that of its machine. The path by
 -- which it went on is no longer than the moves that were left, and has room for any.
 pub record StaysBelow {T Place : Type 0} (node : Node T Place) (left : ℕ) (tally : WalkProgress)
     (end : Node T Place) : Type 0 where
-  pub tree : end.trail.tree ≡ node.trail.tree
+  pub run : IsOfOneRun node end
   pub agree : Agree (progress end.machine) end.trail.history
   pub room : 256 ≤ vec_capacity tally.path
   pub short : length tally.path.items ≤ left

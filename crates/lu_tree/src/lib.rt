@@ -27,6 +27,7 @@ mod known;
 mod lookahead;
 mod node;
 mod progress;
+mod searcher;
 mod searching;
 mod space;
 mod tables;
@@ -38,7 +39,7 @@ mod watch;
 
 pub use found::Found;
 pub use lu_pieces::{MOST_DEPTH, frontier};
-pub use searching::{search, search_watched, search_with};
+pub use searcher::Searcher;
+pub use searching::{search, search_watched};
 pub use space::SearchSpace;
-pub use tables::Tables;
 pub use watch::{Unwatched, Watch};

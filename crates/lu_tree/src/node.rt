@@ -121,6 +121,7 @@ impl<'a, 't, T: SerialTree> Node<'a, 't, T> {
         requires agree { Agree (progress self.old.machine) self.old.trail.history }
         requires tree { cache.old.tree ≡ self.old.trail.tree }
         requires ended { IsEnded self.old.machine }
+        ensures same { self.new ≡ self.old }
         ensures cache { SameButEntries cache.old cache.new }
         ensures bad { IfOk result (IsBadEnd T.members self.old) }
     {

@@ -1,6 +1,6 @@
 //! How a walk asks its watch.
 
-ghost use Rattle.std.specs.Prelude.{◌≡◌, true, false, IfOk};
+ghost use Rattle.std.specs.Prelude.{◌≡◌, ◌≤◌, true, false, vec_capacity, IfOk};
 ghost use Rattle.lu_tree.specs.Walks.{IsReadyToWalk};
 
 use crate::watch::Watch;
@@ -31,6 +31,15 @@ impl WalkProgress {
             unasked: 0,
             path: Vec::with_capacity(alloc, usize::from(MOST_MOVES))?,
         })
+    }
+
+    /// Nothing is passed again, with the room that there is.
+    pub(crate) fn renew(&mut self)
+        requires { 256 ≤ vec_capacity self.old.path }
+        ensures { IsReadyToWalk self.new }
+    {
+        self.unasked = 0;
+        self.path.clear();
     }
 
     /// Passes a schedule. Returns whether the walk goes on: after each 64 the watch is asked.

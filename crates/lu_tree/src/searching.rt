@@ -1,12 +1,13 @@
 //! The search below a schedule.
 
-ghost use Rattle.std.specs.Prelude.{◌≡◌, ◌≤◌, ◌+◌, ◌++◌, false, length, reverse, vec_capacity, IfOk, OnOk};
+ghost use Rattle.std.specs.Prelude.{◌≡◌, ◌≤◌, ◌++◌, [], false, length, reverse, vec_capacity, IfOk, OnOk};
 ghost use Rattle.lu_component.specs.Component.{IsComponent};
 ghost use Rattle.lu_machine.specs.declared.TheConstants.{MOST_MOVES};
 ghost use Rattle.lu_test.specs.Matrix.{IsMatrix};
 ghost use Rattle.lu_test.specs.Schedule.{AreMoves};
 ghost use Rattle.lu_machine.specs.Ends.{IsEnded};
 ghost use Rattle.lu_machine.specs.States.{State, progress};
+ghost use Rattle.lu_machine.specs.Runs.{Leads};
 ghost use Rattle.lu_machine.specs.Schedules.{IsSchedule};
 ghost use Rattle.lu_machine.specs.Starts.{CanRun, IsStart};
 ghost use Rattle.lu_machine.specs.Tests.{IsWithinLimits};
@@ -14,14 +15,15 @@ ghost use Rattle.lu_history.specs.Standing.{Agree};
 ghost use Rattle.lu_witness.specs.Caches.{SameButEntries};
 ghost use Rattle.lu_tree.specs.Tables.{AreTablesOf};
 ghost use Rattle.lu_tree.specs.Trees.{CanSearch, FindsBelow, MayFind, MayFindOver, is_abandoned};
-ghost use Rattle.lu_tree.specs.Walked.{IsBadFound};
-ghost use Rattle.lu_tree.specs.Walks.{IsScheduleIn, LeadsToNode};
+ghost use Rattle.lu_tree.specs.Walked.{IsBadFound, IsOfOneRun};
+ghost use Rattle.lu_tree.specs.Walks.{IsReadyToWalk, LeadsToNode};
 
 use crate::found::Found;
 use crate::halt::Halt;
 use crate::lookahead::Lookahead;
 use crate::node::Node;
 use crate::progress::WalkProgress;
+use crate::searcher::Searcher;
 use crate::space::SearchSpace;
 use crate::tables::Tables;
 use crate::walk::walk;
@@ -36,67 +38,63 @@ use std::alloc::{AllocError, Global};
 /// How many verdicts a search remembers beside those of its own histories.
 const REMEMBERED: usize = 1024;
 
-/// The node to which the schedule leads.
-fn node_after<'a, 't, T: SerialTree>(
-    space: &SearchSpace<'a>,
-    tree: &'t T,
-    schedule: &[Move],
-) -> Result<Node<'a, 't, T>, AllocError>
-    requires { IsScheduleIn space.now schedule.now }
-    ensures leads { IfOk result (LeadsToNode space.now schedule.now) }
-    ensures agree { IfOk result (λ node. Agree (progress node.machine) node.trail.history) }
-    ensures tree { IfOk result (λ node. node.trail.tree ≡ tree.entry.now) }
-    ensures limits { IsWithinLimits space.now.test }
+/// Makes the moves of a schedule.
+pub(crate) fn follow<T: SerialTree>(node: &mut Node<'_, '_, T>, schedule: &[Move])
+    requires feasible { IsSchedule node.old.machine schedule.now }
+    requires silent { node.old.trail.history ≡ [] }
+    requires agree { Agree (progress node.old.machine) [] }
+    ensures leads { Leads node.old.machine schedule.now node.new.machine node.new.trail.history }
+    ensures agree { Agree (progress node.new.machine) node.new.trail.history }
+    ensures tree { node.new.trail.tree ≡ node.old.trail.tree }
 {
-    let mut node = Node::start(space.alloc, space.test, tree)?;
     for next in schedule {
         node.enter::<true>(*next);
     }
-    Ok(node)
 }
 
 /// The schedule of these moves, and then of those of the path, the last one of which comes first.
-fn join(from: &[Move], path: Vec<Move>) -> Vec<Move>
-    requires { length from.now + length path.items ≤ vec_capacity path }
-    ensures { result.items ≡ from.now ++ reverse path.items }
+fn join(alloc: Global, from: &[Move], path: &[Move]) -> Result<Vec<Move>, AllocError>
+    ensures { IfOk result (λ moves. moves.items ≡ from.now ++ reverse path.now) }
 {
-    let mut moves = path;
-    for next in from.iter().rev() {
-        moves.push_reserved(*next);
+    let mut moves = Vec::from_slice(alloc, from)?;
+    for next in path.iter().rev() {
+        moves.push(*next)?;
     }
-    moves.reverse();
-    moves
+    Ok(moves)
 }
 
 /// The schedule of these moves and of the path, at whose end a walk halted, and why it is bad.
 fn found_bad<'t, T: SerialTree>(
+    alloc: Global,
     cache: &mut Cache<'t, T>,
     from: &[Move],
-    path: Vec<Move>,
+    path: &[Move],
     node: &mut Node<'_, 't, T>,
 ) -> Result<Found, AllocError>
     requires agree { Agree (progress node.old.machine) node.old.trail.history }
     requires tree { cache.old.tree ≡ node.old.trail.tree }
     requires ended { IsEnded node.old.machine }
-    requires room { length from.now + length path.items ≤ vec_capacity path }
-    requires moves { AreMoves (from.now ++ reverse path.items) }
+    requires moves { AreMoves (from.now ++ reverse path.now) }
+    ensures same { node.new ≡ node.old }
     ensures cache { SameButEntries cache.old cache.new }
-    ensures bad { IfOk result (IsBadFound T.members node.old (from.now ++ reverse path.items)) }
+    ensures bad { IfOk result (IsBadFound T.members node.old (from.now ++ reverse path.now)) }
 {
     let why = node.why_bad(cache)?;
+    let moves = join(alloc, from, path)?;
     Ok(Found::Bad {
-        schedule: Schedule::new(join(from, path)),
+        schedule: Schedule::new(moves),
         why,
     })
 }
 
-/// Searches below the node to which the moves lead.
-fn search_below<'t, T: SerialTree, W: Watch>(
+/// Searches below the node to which the moves lead. It may end at another.
+pub(crate) fn search_below<'t, T: SerialTree, W: Watch>(
     space: &SearchSpace<'_>,
     tables: &Tables,
     cache: &mut Cache<'t, T>,
     from: &[Move],
     node: &mut Node<'_, 't, T>,
+    tally: &mut WalkProgress,
     watch: &mut W,
 ) -> Result<Found, AllocError>
     requires of { CanSearch space.now from.now }
@@ -106,10 +104,13 @@ fn search_below<'t, T: SerialTree, W: Watch>(
     requires tree { cache.old.tree ≡ node.old.trail.tree }
     requires running { W.is_stopped watch.old ≡ false }
     requires limits { IsWithinLimits space.now.test }
+    requires ready { IsReadyToWalk tally.old }
     ensures found { MayFind space.now (T.members node.old.trail.tree) from.now result }
     ensures base { W.base watch.new ≡ W.base watch.old }
     ensures cache { SameButEntries cache.old cache.new }
     ensures stopped { W.is_stopped watch.new ≡ is_abandoned result }
+    ensures run { IsOfOneRun node.old node.new }
+    ensures room { 256 ≤ vec_capacity tally.new.path }
 {
     let left = space.bound - from.len() as u16;
     let ahead = Lookahead {
@@ -117,45 +118,16 @@ fn search_below<'t, T: SerialTree, W: Watch>(
         tables,
         most: left,
     };
-    let mut tally = WalkProgress::new(space.alloc)?;
-    match walk(cache, watch, &ahead, left, node, &mut tally) {
+    match walk(cache, watch, &ahead, left, node, tally) {
         Ok(known) => Ok(Found::Clean(known.counts)),
-        Err(Halt::NotGood) => found_bad(cache, from, tally.path, node),
+        Err(Halt::NotGood) => found_bad(space.alloc, cache, from, &tally.path, node),
         Err(Halt::Stopped) => Ok(Found::Abandoned),
     }
 }
 
 /// Searches as [`search`] does, over the tree of the cache, until the watch stops it. The watch is
-/// asked after each 64 further schedules that were judged good, or that are cut. The tables are
-/// those of the component and the matrix: whoever searches below many schedules makes them once.
-///
-/// # Errors
-///
-/// `AllocError` where memory was refused.
-pub fn search_with<'t, T: SerialTree, W: Watch>(
-    space: &SearchSpace<'_>,
-    tables: &Tables,
-    cache: &mut Cache<'t, T>,
-    from: &Schedule,
-    watch: &mut W,
-) -> Result<Found, AllocError>
-    requires of { CanSearch space.now from.now }
-    requires tables { AreTablesOf space.now.test tables.now }
-    requires running { W.is_stopped watch.old ≡ false }
-    ensures found { MayFind space.now (T.members cache.old.tree) from.now result }
-    ensures base { W.base watch.new ≡ W.base watch.old }
-    ensures cache { SameButEntries cache.old cache.new }
-    ensures stopped { W.is_stopped watch.new ≡ is_abandoned result }
-    ensures limits { IsWithinLimits space.now.test }
-{
-    let moves = from.moves();
-    let mut node = node_after(space, cache.tree(), moves)?;
-    search_below(space, tables, cache, moves, &mut node, watch)
-}
-
-/// Searches as [`search`] does, over the tree of the cache, until the watch stops it. The watch is
-/// asked after each 64 further schedules that were judged good, or that are cut. The tables of the
-/// component and the matrix are made for this search alone: see [`search_with`] for many.
+/// asked after each 64 further schedules that were judged good, or that are cut. What a search
+/// needs is made for this one alone: a [`Searcher`] makes it once for many.
 ///
 /// # Errors
 ///
@@ -185,8 +157,8 @@ pub fn search_watched<'t, T: SerialTree, W: Watch>(
         test: Test { component, matrix },
         bound,
     };
-    let tables = Tables::new(alloc, component, matrix, bound)?;
-    search_with(&space, &tables, cache, from, watch)
+    let mut searcher = Searcher::new(space, cache.tree())?;
+    searcher.search(cache, from, watch)
 }
 
 /// Searches the schedules that begin with `from`: returns the least one that is ended within the

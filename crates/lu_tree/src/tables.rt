@@ -13,7 +13,7 @@ use std::alloc::{AllocError, Global};
 /// of several threads can be made, and which registers are dead. Made once, for any number of
 /// searches.
 #[derive(Debug, Drop)]
-pub struct Tables {
+pub(crate) struct Tables {
     pub(crate) horizon: Horizon,
     pub(crate) orders: Orders,
     pub(crate) dead: DeadRegisters,
@@ -26,7 +26,7 @@ impl Tables {
     /// # Errors
     ///
     /// `AllocError` where memory was refused.
-    pub fn new(
+    pub(crate) fn new(
         alloc: Global,
         component: &Component,
         matrix: &Matrix,

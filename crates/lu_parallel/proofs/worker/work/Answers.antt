@@ -16,6 +16,8 @@ loop-piece-init g c =
     let empty = c.requires.fresh.2 in
     record {
       tree = search rules;
+      over = search rules;
+      serves = search rules;
       board = c.requires.fresh.0;
       held = (no_pieces c.args.seat.view empty).0;
       holds = λ s is. holds_nothing (IsMember (g.T.SerialTree.members c.args.tree.now)) s c.args.bound c.args.pieces.now c.args.seat.view c.new-worker.result.counts c.new-worker.result.found.items empty c.new-worker.ensures.counts c.new-worker.ensures.found;
@@ -30,6 +32,8 @@ loop-piece-preserved g c =
     let away = c.serve-seat.ensures.away in
     record {
       tree = c.serve-seat.ensures.cache.tree_is ∙ i.tree;
+      over = c.serve-seat.ensures.tree ∙ i.over;
+      serves = c.serve-seat.ensures.searcher;
       board = c.serve-seat.ensures.board ∙ c.claim.ensures.board ∙ i.board;
       held = away.held ∙ ap (λ (v : View). without_first piece v.held) claimed ∙ without_one piece was.held i.held;
       holds = λ s is.

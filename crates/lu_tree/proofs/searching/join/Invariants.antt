@@ -1,8 +1,5 @@
-use Rattle.std.proofs.Common.{◌≡◌, ◌++◌, map, vec_capacity}
+use Rattle.std.proofs.Common.{◌≡◌, ◌++◌, map}
 use Rattle.lu_tree.proofs.searching.join.Given as goal
 
 abbrev pub invariant-loop-next : goal.invariant-loop-next
-invariant-loop-next l = record {
-  items : l.moves.items ≡ l.fn.path.items ++ map (λ m. m.now) l.yielded;
-  capacity : vec_capacity l.moves ≡ vec_capacity l.fn.path;
-}
+invariant-loop-next l = l.moves.items ≡ l.from ++ map (λ m. m.now) l.yielded

@@ -1,5 +1,7 @@
-use Rattle.std.proofs.Common.{arith, Err, ◌≡◌, ◌+◌, ◌-◌, ◌++◌, length, reverse, refl, sym, ◌∙◌, ap, subst}
+use Rattle.std.proofs.Common.{arith, Err, ◌≡◌, ◌+◌, ◌-◌, List, ◌++◌, length, reverse, refl, sym, ◌∙◌, ap, subst}
 use Rattle.lu_machine.specs.States.{State}
+use Rattle.lu_test.specs.declared.schedule.Move.{Move}
+use Rattle.lu_test.specs.Schedule.{AreMoves}
 use Rattle.lu_witness.specs.Witnesses.{IsMember}
 use Rattle.lu_tree.specs.Known.{counts_of}
 use Rattle.lu_tree.specs.Trees.{Below}
@@ -70,7 +72,8 @@ found_bad-requires-clause-moves g c =
     let first : IsFirstAt Set start c.args.space.now.bound (Below from) (from ++ reverse path) end last = walk_halted Set start c.args.space.now.bound left from from node.machine node.trail.history refl all (c.requires.leads start there.1) path end last halts in
     let few = c.requires.of.few in
     let short = first.short in
-    schedule_moves c.args.space.now.test.component.now c.args.space.now.test.matrix.now start c.requires.limits.0 c.requires.limits.1 there.1 (from ++ reverse path) end last first.leads (omega arith)
+    subst (λ x. AreMoves (from ++ reverse x)) (sym c.deref.ensures.value)
+    (schedule_moves c.args.space.now.test.component.now c.args.space.now.test.matrix.now start c.requires.limits.0 c.requires.limits.1 there.1 (from ++ reverse path) end last first.leads (omega arith))
 
 pub returns-in-Err-NotGood-clause-found : goal.returns-in-Err-NotGood-clause-found
 returns-in-Err-NotGood-clause-found g c = λ s is.
@@ -83,7 +86,7 @@ returns-in-Err-NotGood-clause-found g c = λ s is.
     let end = c.walk.new.node in
     let halts = halts_at g.T.SerialTree.members node left c.walk.new.tally end c.in-Err-NotGood.field-0 c.in-Err-NotGood.field-0-is c.in-Err-NotGood.ensures.walked in
     let first : IsFirstAt Set s c.args.space.now.bound (Below from) (from ++ reverse path) end.machine end.trail.history = walk_halted Set s c.args.space.now.bound left from from node.machine node.trail.history refl all (c.requires.leads s is) path end.machine end.trail.history halts in
-    bad_found g.T.SerialTree.members node.trail.tree end s c.args.space.now.bound from (from ++ reverse path) (from ++ reverse path) refl (ap (λ x. g.T.SerialTree.members x) c.walk.ensures.stays.tree) first c.found_bad.result c.found_bad.ensures.bad)
+    bad_found g.T.SerialTree.members node.trail.tree end s c.args.space.now.bound from (from ++ reverse path) (from ++ reverse c.deref.result.now) (ap (λ (x : List Move). from ++ reverse x) c.deref.ensures.value) (ap (λ x. g.T.SerialTree.members x) c.walk.ensures.stays.run.tree) first c.found_bad.result c.found_bad.ensures.bad)
 
 pub returns-in-Err-NotGood-clause-stopped : goal.returns-in-Err-NotGood-clause-stopped
 returns-in-Err-NotGood-clause-stopped g c =

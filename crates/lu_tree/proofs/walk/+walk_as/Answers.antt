@@ -153,7 +153,7 @@ loop-pick-preserved g t c =
     record {
       machine = c.leave.ensures.machine ∙ (ap (restored c.enter-undo.result) w.machine ∙ (c.enter-undo.ensures.back ∙ home));
       history = c.leave.ensures.history c.loop-pick.node.trail.history (w.history ∙ c.enter-undo.ensures.history) ∙ i.history;
-      tree = c.leave.ensures.tree ∙ c.walk_as-walked.ensures.stays.tree ∙ c.enter-undo.ensures.tree ∙ i.tree;
+      tree = c.leave.ensures.tree ∙ c.walk_as-walked.ensures.stays.run.tree ∙ c.enter-undo.ensures.tree ∙ i.tree;
       cache = record { tree_is = c.walk_as-walked.ensures.cache.tree_is ∙ i.cache.tree_is; capacity = c.walk_as-walked.ensures.cache.capacity ∙ i.cache.capacity };
       base = c.walk_as-walked.ensures.base ∙ i.base;
       running = c.in-Ok.ensures.stopped;
@@ -310,8 +310,19 @@ returns-clause-stays g t c =
 pub returns-in-Err-clause-stays : goal.returns-in-Err-clause-stays
 returns-in-Err-clause-stays g t c =
     let below = c.walk_as-walked.ensures.stays in
+    let i = c.loop-pick.invariant in
+    let next : Move = record { thread = c.loop-thread.thread; pick = c.loop-pick.pick } in
+    let event = c.enter-undo.result.event in
+    let made = c.enter-undo.new.self.machine in
+    let home : c.hints_after.new.machine ≡ c.args.node.now.machine = c.hints_after.ensures.machine ∙ i.machine in
+    let step : Step c.args.node.now.machine next made event = subst (λ x. Step x next made event) home c.enter-undo.ensures.step in
+    let moved = step_moved c.args.node.now.machine next made event step in
     record {
-      tree = below.tree ∙ c.enter-undo.ensures.tree ∙ c.loop-pick.invariant.tree;
+      run = record {
+        component = below.run.component ∙ moved.component;
+        matrix = below.run.matrix ∙ moved.matrix;
+        tree = below.run.tree ∙ c.enter-undo.ensures.tree ∙ i.tree;
+      };
       agree = below.agree;
       room = rw c.push_reserved.ensures.capacity below.room;
       short = omega (arith, ap length c.push_reserved.ensures.items);
