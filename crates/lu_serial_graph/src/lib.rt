@@ -8,5 +8,6 @@ mod graph;
 mod learning;
 mod ordering;
 
+pub use answering::{Answer, ask};
 pub use graph::SerialGraph;
 pub use learning::{LearntGraph, learn_graph};
