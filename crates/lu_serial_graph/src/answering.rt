@@ -13,9 +13,9 @@ use std::alloc::{AllocError, Global};
 /// The outcome of a call that is made from several rests, and the rests to which it leads. Where it
 /// is stuck, they are the states in which it is blocked.
 #[derive(Drop)]
-pub(crate) struct Answer {
-    pub(crate) outcome: SerialOutcome,
-    pub(crate) rests: Vec<Position>,
+pub struct Answer {
+    pub outcome: SerialOutcome,
+    pub rests: Vec<Position>,
 }
 
 /// Whether the outcomes are equal.
@@ -56,7 +56,7 @@ fn sift(alloc: Global, endings: Vec<Ending>) -> Result<Option<Answer>, AllocErro
 
 /// What the next call of thread `t` answers from these rests, where it ends within the bound from
 /// each of them, always with the same outcome. The new rests are in order.
-pub(crate) fn ask(
+pub fn ask(
     alloc: Global,
     machine: &mut Machine<'_>,
     t: u8,

@@ -9,5 +9,6 @@ mod learning;
 mod ordering;
 mod subset;
 
+pub use answering::{Answer, ask};
 pub use graph::SerialGraph;
 pub use learning::{LearntGraph, learn_graph};

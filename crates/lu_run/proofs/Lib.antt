@@ -1,0 +1,11 @@
+pub mod Menus
+pub mod Asked
+pub mod Resting
+pub mod Learning
+pub mod Simulated
+pub mod Followed
+pub mod Automated
+pub mod Histories
+pub mod Advanced
+pub mod Beginning
+pub mod Finished

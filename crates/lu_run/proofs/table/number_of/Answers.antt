@@ -1,0 +1,7 @@
+use Rattle.lu_run.proofs.Learning.{converted, numbered}
+use Rattle.lu_run.proofs.table.number_of.Goals as goal
+
+pub returns-clause-number : goal.returns-clause-number
+returns-clause-number c =
+    let stored = c.in_ok-place.ensures.stored in
+    numbered c.insert_full.new.self.keys c.args.rests c.ok.result c.in_ok-place.place (converted c.try_from.result c.in_ok-place.place c.try_from.ensures c.ok.result c.ok.ensures.value) stored.0 stored.1 stored.2

@@ -1,0 +1,110 @@
+-- The runs that pass.
+use Rattle.std.specs.Prelude.{◌≡◌, ◌↔◌, ℕ, List, [], ◌∷◌, ◌++◌, length, Option, Some, None, IsSome, slice_get, unwrap_or}
+use Rattle.lu_component.specs.Component.{Component}
+use Rattle.lu_test.specs.declared.matrix.Call.{Call as ACall}
+use Rattle.lu_test.specs.Matrix.{Matrix}
+use Rattle.lu_machine.specs.declared.event.Event.{Event}
+use Rattle.lu_machine.specs.declared.position.Position.{Position}
+use Rattle.lu_machine.specs.Starts.{IsStart}
+use Rattle.lu_machine.specs.States.{State}
+use Rattle.lu_history.specs.declared.operation.OpId.{OpId}
+use Rattle.lu_history.specs.declared.serial.SerialOp.{SerialOp}
+use Rattle.lu_history.specs.declared.serial.SerialOutcome.{SerialOutcome}
+use Rattle.lu_client.specs.Alone.{Plays, Rest, RestAfter, rest_of}
+use Rattle.lu_linearization.specs.declared.configuration.Configuration.{Configuration as Kept}
+use Rattle.lu_linearization.specs.Linearizations.{IsLinearization}
+use Rattle.lu_linearization.specs.Configurations.{Configuration, IsConfiguration, Reads, pending_call}
+use Rattle.lu_linearization.specs.Monitors.{Holds, by_thread}
+use Rattle.lu_run.specs.declared.automaton.ThreadCall.{ThreadCall}
+use Rattle.lu_run.specs.declared.run.RunEvent.{RunEvent}
+use Rattle.lu_run.specs.declared.table.Rests.{Rests}
+use Rattle.lu_run.specs.declared.table.Table.{Table}
+use Rattle.lu_run.specs.declared.judging.RunVerdict.{RunVerdict}
+use Rattle.lu_run.specs.declared.judging.RunVerdict.TheVariants.{Linearizable, NotLinearizable, Undecided}
+use Rattle.lu_run.specs.declared.table.Question.{Question}
+use Rattle.lu_run.specs.Asking.{HasRest, IsAtRest, rest_at}
+use Rattle.lu_run.specs.Following.{AreSeated, question_of}
+use Rattle.lu_run.specs.Runs.{IsRunOf, history_of, matrix_of, numbers_of}
+use Rattle.lu_run.specs.Tables.{IsTable, recorded}
+
+-- ---- the verdict
+
+-- The run is linearizable: its history has a linearization that a serial schedule from s shows, in
+-- which no operation is open at the end.
+abbrev pub IsLinearizable : State → List RunEvent → Type 0
+IsLinearizable s events =
+    (q : List SerialOp) × IsLinearization (Reads (RestAfter s)) q (history_of events)
+
+-- ---- how the verdict is found
+
+-- the call of an operation of the run; where there is none, a number past those of the calls
+abbrev pub call_of : List ACall → List RunEvent → OpId → ThreadCall
+call_of calls events a =
+    record { thread = a.t; call = unwrap_or (slice_get (numbers_of a.t events) a.k) (length calls) }
+
+-- the call, made alone, leads from this rest with this outcome to the rest `after`
+abbrev pub NextRest : Component → List ACall → Rest → ThreadCall → SerialOutcome → Rest → Type 0
+NextRest c calls rest call outcome after =
+    (a : ACall) × (slice_get calls call.call ≡ Some a)
+    × Plays c rest call.thread a outcome after
+
+-- the rest is one of the state with this number
+abbrev pub InState : Table → ℕ → Rest → Type 0
+InState table n rest =
+    (state : Rests) × (slice_get table.states.keys n ≡ Some state)
+    × HasRest state.positions.items rest
+
+-- some configuration of the list stands for this one
+abbrev pub Represents : Table → List Kept → Configuration Rest → Type 0
+Represents table list c =
+    (d : Configuration ℕ) × Holds list d × InState table d.state c.state
+    × ((t : ℕ) → d.effects t ≡ c.effects t)
+
+-- the answers to all questions in the configurations are known
+abbrev pub AreAnswered : Table → (ℕ → Option ThreadCall) → List Kept → Type 0
+AreAnswered table pending list =
+    (d : Configuration ℕ) (t : ℕ) (call : ThreadCall) → Holds list d → pending t ≡ Some call
+    → d.effects t ≡ None → IsSome (recorded table (question_of d.state call))
+
+-- After the history h, a beginning of that of the run: the calls in `pending` are the pending ones,
+-- the list has the configurations of all linearizations, and the answers to all questions are known.
+pub record IsFollowed (c : Component) (s : State) (calls : List ACall) (events : List RunEvent)
+    (table : Table) (pending : List (Option ThreadCall)) (list : List Kept) (h : List Event)
+    : Type 0 where
+  pub automaton : IsTable c calls table
+  pub seated : AreSeated pending
+  pub pends : (t : ℕ) → by_thread pending t ≡ pending_call (call_of calls events) h t
+  pub configurations : (d : Configuration Rest) → IsConfiguration (RestAfter s) h d
+      ↔ Represents table list d
+  pub states : (d : Configuration ℕ) → Holds list d
+      → (state : Rests) × (slice_get table.states.keys d.state ≡ Some state)
+  pub answered : AreAnswered table (by_thread pending) list
+
+-- With the event that comes next in the run, the new table, pending calls and monitor follow it.
+abbrev pub Advances : Component → List ACall → RunEvent → Table → List (Option ThreadCall)
+    → List Kept → Table → List (Option ThreadCall) → List Kept → Type 0
+Advances c calls event table pending list new now next =
+    (setup : List ACall) (events done more : List RunEvent) (s : State) →
+    IsStart c (matrix_of setup calls events) s → IsRunOf c calls events
+    → events ≡ done ++ event ∷ more
+    → IsFollowed c s calls events table pending list (history_of done)
+    → IsFollowed c s calls events new now next (history_of (done ++ event ∷ []))
+
+-- The position is at rest, and its rest is that of each matrix with this setup at the start.
+pub record IsStartPosition (c : Component) (setup : List ACall) (p : Position) : Type 0 where
+  pub at_rest : IsAtRest c p
+  pub rest : (matrix : Matrix) (s : State) → matrix.setup ≡ setup → IsStart c matrix s
+      → rest_at p ≡ rest_of s
+
+-- The table has one state, with the rest of this position, and no answers.
+pub record IsFirstTable (p : Position) (table : Table) : Type 0 where
+  pub state : Rests
+  pub states : table.states.keys ≡ state ∷ []
+  pub rests : state.positions.items ≡ p ∷ []
+  pub none : (question : Question) → recorded table question ≡ None
+
+-- the verdict on the run is right
+abbrev pub IsVerdict : State → List RunEvent → RunVerdict → Type 0
+IsVerdict s events Linearizable = IsLinearizable s events
+IsVerdict s events NotLinearizable = IsLinearizable s events → ⊥
+IsVerdict s events Undecided = Unit {0}

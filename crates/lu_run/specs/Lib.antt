@@ -1,0 +1,5 @@
+pub mod Runs
+pub mod Asking
+pub mod Tables
+pub mod Following
+pub mod Judging
