@@ -20,8 +20,8 @@ use crate::looking::look_further;
 use crate::progress::{Progress, Silent};
 use crate::so_far::SoFar;
 use lu_component::Component;
-use lu_replay::set_or_offence;
-use lu_serial::learn;
+use lu_replay::graph_or_offence;
+use lu_serial_graph::learn_graph;
 use lu_spec::Spec;
 use lu_test::Matrix;
 use std::alloc::{AllocError, Global};
@@ -32,9 +32,10 @@ fn own_spec(alloc: Global, test: LimitedTest<'_>) -> Result<Spec, AllocError>
     ensures { IfOk result (IsOwnSpec test.entry) }
 {
     let serial = test.limits.serial;
-    let learnt = learn(alloc, alloc, test.component, test.matrix, serial)?;
-    let set = set_or_offence(learnt).unwrap();
-    Spec::closure(alloc, test.matrix, &set)
+    let learnt = learn_graph(alloc, alloc, test.component, test.matrix, serial)?;
+    let graph = graph_or_offence(learnt).unwrap();
+    let tree = &graph;
+    Spec::closure_of(alloc, test.matrix, &tree)
 }
 
 /// The certificate where no cut fails: the first livelock, or the first cut that is not clear; or,

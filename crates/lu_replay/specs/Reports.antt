@@ -6,8 +6,7 @@ use Rattle.lu_machine.specs.States.{State}
 use Rattle.lu_machine.specs.Starts.{FromEachStart}
 use Rattle.lu_history.specs.declared.serial.SerialOp.{SerialOp}
 use Rattle.lu_serial.specs.Serial.{IsSerialHistory}
-use Rattle.lu_serial.specs.Offences.{NoOffence, IsFirstCut, IsFirstConflict, IsLearnt, IsSetOf}
-use Rattle.lu_serial.specs.declared.learning.Learnt.{Learnt}
+use Rattle.lu_serial.specs.Offences.{NoOffence, IsFirstCut, IsFirstConflict, IsSetOf}
 use Rattle.lu_serial_graph.specs.declared.learning.LearntGraph.{LearntGraph}
 use Rattle.lu_serial_graph.specs.Learning.{IsLearntGraph}
 use Rattle.lu_witness.specs.Goodness.{IsFirstBad, AreAllGood, Any}
@@ -27,18 +26,10 @@ IsFinding s bound serial (Pass counts) =
     NoOffence s serial × AreAllGood (IsSerialHistory s) s bound Any counts
 
 -- the set is that of all serial histories, where the serial runs came to this
-abbrev pub IsLearntSet : {A : Type 0} → Learnt A → List (List SerialOp) → Type 0
-IsLearntSet learnt set = (s : State) (serial : ℕ) → IsLearnt s serial learnt → IsSetOf s serial set
-
--- the finding is a check's with any bound of schedules, where the serial runs came to this
-abbrev pub IsLearntOffence : {A : Type 0} → Learnt A → Finding → Type 0
-IsLearntOffence learnt finding =
-    (s : State) (bound serial : ℕ) → IsLearnt s serial learnt → IsFinding s bound serial finding
-
--- the same where the set is a graph
 abbrev pub IsGraphSet : {A : Type 0} → LearntGraph A → List (List SerialOp) → Type 0
 IsGraphSet learnt set = (s : State) (serial : ℕ) → IsLearntGraph s serial learnt → IsSetOf s serial set
 
+-- the finding is a check's with any bound of schedules, where the serial runs came to this
 abbrev pub IsGraphOffence : {A : Type 0} → LearntGraph A → Finding → Type 0
 IsGraphOffence learnt finding =
     (s : State) (bound serial : ℕ) → IsLearntGraph s serial learnt → IsFinding s bound serial finding

@@ -22,7 +22,7 @@ pub use confirming::{confirm, confirm_against};
 pub use fault::ReplayFault;
 pub use laws::{all_confirmed, ended_apart, one_report, replay_laws, serial_short};
 pub use lu_report::{Report, read_report, write_report};
-pub use offence::{graph_or_offence, set_or_offence};
+pub use offence::graph_or_offence;
 pub use player::replay;
 pub use shown::Replay;
 pub use text::write_replay;
