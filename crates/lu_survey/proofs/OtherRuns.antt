@@ -1,5 +1,6 @@
 -- Serial runs that a set does not have: those that do not end, and those with another history.
 use Rattle.std.proofs.Common.{◌≡◌, Bool, true, false, ℕ, List, Option, Some, None, Result, Ok, Err, refl, sym, ◌∙◌, inl, inr}
+use Rattle.std.specs.Prelude.{IfOk}
 use Rattle.lu_component.specs.Component.{Component}
 use Rattle.lu_test.specs.declared.schedule.Move.{Move}
 use Rattle.lu_test.specs.Matrix.{Matrix}
@@ -13,10 +14,11 @@ use Rattle.lu_history.specs.declared.serial.SerialOp.{SerialOp}
 use Rattle.lu_history.specs.declared.serial.SerialOutcome.{SerialOutcome}
 use Rattle.lu_trie.specs.Conflicts.{IsDeterministic}
 use Rattle.lu_trie.specs.Members.{contains}
-use Rattle.lu_serial.specs.Offences.{IsFirstConflict, IsFirstCut, IsFirstOutside, IsOutside, NoOffence}
+use Rattle.lu_serial.specs.Offences.{FindsOutside, IsFirstConflict, IsFirstCut, IsFirstOutside, IsOutside, IsSetOf, NoOffence}
 use Rattle.lu_serial.specs.Serial.{IsSerialHistory, IsSeriallyEnded}
+use Rattle.lu_serial_graph.specs.Subsets.{IsSubset}
 use Rattle.lu_witness.specs.Witnesses.{IsMember}
-use Rattle.lu_survey.specs.Comparing.{AgreesSerially, IsFirstSerially, IsOtherRun}
+use Rattle.lu_survey.specs.Comparing.{AgreesSerially, IsFirstOtherRun, IsFirstSerially, IsOtherRun}
 
 -- what is no member is not contained
 not_contained : (b : Bool) → (b ≡ true → ⊥) → b ≡ false
@@ -90,3 +92,17 @@ module _ (c : Component) (matrix : Matrix) (serial : ℕ) (members : List (List 
   never_conflict settles deterministic u i o first =
       let there = start_there c matrix settles in
       no_conflict there.0 serial members (none there.0 there.1) deterministic u i o (first there.0 there.1)
+
+-- what `first_outside` finds is the least other run, where the component agrees if there is none
+pub found_outside : {E : Type 0} (c : Component) (matrix : Matrix) (serial : ℕ) (members : List (List SerialOp)) (result : Result (Option (List Move)) E) → FindsOutside c matrix serial members result
+    → (FromEachStart c matrix (λ s. IsFirstOutside s serial members None) → AgreesSerially members c matrix serial) → IfOk result (IsFirstOtherRun members c matrix serial)
+found_outside c matrix serial members (Ok None) finds agrees = agrees finds
+found_outside c matrix serial members (Ok (Some u)) finds agrees = first_outside_other c matrix serial members u finds
+found_outside c matrix serial members (Err e) finds agrees = tt
+
+-- where its serial histories are within the set, the component agrees
+pub subset_agrees : (c : Component) (matrix : Matrix) (serial : ℕ) (own members : List (List SerialOp)) → FromEachStart c matrix (λ s. IsSetOf s serial own) → IsSubset own members → AgreesSerially members c matrix serial
+subset_agrees c matrix serial own members is within = record {
+  ends = λ s at u cut. (is s at).none u (inl cut);
+  within = λ s at q history. within q (((is s at).are q).1 history);
+}

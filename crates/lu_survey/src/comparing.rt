@@ -3,6 +3,7 @@
 ghost use Rattle.std.specs.Prelude.{◌≤◌, ◌↔◌, IfOk, IfErr};
 ghost use Rattle.lu_machine.specs.Starts.{CanRun};
 ghost use Rattle.lu_report.specs.Limits.{IsSerialBound, most_moves};
+ghost use Rattle.lu_serial_graph.specs.Graphs.{members_of};
 ghost use Rattle.lu_trie.specs.Conflicts.{IsDeterministic};
 ghost use Rattle.lu_refine.specs.ByThread.{IsRolesFault, asked_of};
 ghost use Rattle.lu_survey.specs.Comparing.{CanCompare, IsCompared, IsComparedOf, IsDifferenceBy, IsDifferenceIfAny};
@@ -13,16 +14,15 @@ use lu_component::Component;
 use lu_parallel::check_one_against;
 use lu_refine::{CampaignFault, Roles, count_matrices, matrix_at};
 use lu_report::{Finding, Report};
-use lu_serial::{Learnt, learn};
+use lu_serial_graph::{LearntGraph, SerialGraph, learn_graph};
 use lu_test::Matrix;
-use lu_trie::Trie;
 use std::alloc::{AllocError, Global};
 
 /// How the component differs on the matrix from this set, or none where it agrees. Asks for a
 /// deterministic set.
 fn differ_from(
     alloc: Global,
-    set: &Trie<Global>,
+    set: &SerialGraph<Global>,
     component: &Component,
     matrix: &Matrix,
     bound: u16,
@@ -31,8 +31,9 @@ fn differ_from(
     requires of { CanRun component.now matrix.now }
     requires bound { bound ≤ most_moves }
     requires serial { IsSerialBound serial }
-    requires deterministic { IsDeterministic set.now }
-    ensures { IfOk result (IsDifferenceBy set.now component.now matrix.now bound serial) }
+    requires deterministic { IsDeterministic (members_of set.now) }
+    ensures { IfOk result
+        (IsDifferenceBy (members_of set.now) component.now matrix.now bound serial) }
 {
     match first_other_run(alloc, set, component, matrix, serial)? {
         Some(schedule) => Ok(Some(Difference::Serially(schedule))),
@@ -62,10 +63,10 @@ fn differ(
     ensures { IfOk result
         (IsDifferenceIfAny trusted.now component.now matrix.now bound serial) }
 {
-    match learn(alloc, alloc, trusted, matrix, serial)? {
-        Learnt::Set(set) => differ_from(alloc, &set, component, matrix, bound, serial),
-        Learnt::Cut(schedule) => Ok(Some(Difference::TrustedCut(schedule))),
-        Learnt::Conflict {
+    match learn_graph(alloc, alloc, trusted, matrix, serial)? {
+        LearntGraph::Set(set) => differ_from(alloc, &set, component, matrix, bound, serial),
+        LearntGraph::Cut(schedule) => Ok(Some(Difference::TrustedCut(schedule))),
+        LearntGraph::Conflict {
             schedule,
             before,
             earlier,
