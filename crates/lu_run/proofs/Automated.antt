@@ -94,7 +94,7 @@ pub own_calls : (setup calls : List ACall) (events : List RunEvent) (t : ℕ) �
 own_calls setup calls events t lt =
     ap (λ o. unwrap_or o []) (slice_get-map (calls_by calls events) (0 ∷ 1 ∷ 2 ∷ 3 ∷ 4 ∷ 5 ∷ 6 ∷ 7 ∷ []) t ∙ ap (option_map (calls_by calls events)) (eight t lt))
 
-no_calls : (setup calls : List ACall) (events : List RunEvent) (t : ℕ) → 8 ≤ t → calls_of (matrix_of setup calls events) t ≡ []
+pub no_calls : (setup calls : List ACall) (events : List RunEvent) (t : ℕ) → 8 ≤ t → calls_of (matrix_of setup calls events) t ≡ []
 no_calls setup calls events t past =
     ap (λ o. unwrap_or o []) (slice_get-map (calls_by calls events) (0 ∷ 1 ∷ 2 ∷ 3 ∷ 4 ∷ 5 ∷ 6 ∷ 7 ∷ []) t ∙ ap (option_map (calls_by calls events)) (slice_get_past (0 ∷ 1 ∷ 2 ∷ 3 ∷ 4 ∷ 5 ∷ 6 ∷ 7 ∷ []) t past))
 

@@ -9,3 +9,4 @@ pub mod Histories
 pub mod Advanced
 pub mod Beginning
 pub mod Finished
+pub mod Stuck

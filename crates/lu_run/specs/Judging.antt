@@ -1,5 +1,5 @@
 -- The runs that pass.
-use Rattle.std.specs.Prelude.{◌≡◌, ◌↔◌, ℕ, List, [], ◌∷◌, ◌++◌, length, Option, Some, None, IsSome, slice_get, unwrap_or}
+use Rattle.std.specs.Prelude.{◌≢◌, ◌<◌, Bool, MatchBool, ◌≡◌, ◌↔◌, ℕ, List, [], ◌∷◌, ◌++◌, length, Option, Some, None, IsSome, slice_get, unwrap_or}
 use Rattle.lu_component.specs.Component.{Component}
 use Rattle.lu_test.specs.declared.matrix.Call.{Call as ACall}
 use Rattle.lu_test.specs.Matrix.{Matrix}
@@ -10,20 +10,22 @@ use Rattle.lu_machine.specs.States.{State}
 use Rattle.lu_history.specs.declared.operation.OpId.{OpId}
 use Rattle.lu_history.specs.declared.serial.SerialOp.{SerialOp}
 use Rattle.lu_history.specs.declared.serial.SerialOutcome.{SerialOutcome}
+use Rattle.lu_serial.specs.Serial.{IsSerialHistory}
+use Rattle.lu_witness.specs.Witnesses.{IsGood}
 use Rattle.lu_client.specs.Alone.{Plays, Rest, RestAfter, rest_of}
 use Rattle.lu_linearization.specs.declared.configuration.Configuration.{Configuration as Kept}
 use Rattle.lu_linearization.specs.Linearizations.{IsLinearization}
 use Rattle.lu_linearization.specs.Configurations.{Configuration, IsConfiguration, Reads, pending_call}
-use Rattle.lu_linearization.specs.Monitors.{Holds, by_thread}
+use Rattle.lu_linearization.specs.Monitors.{CanBeStuck, Holds, by_thread}
 use Rattle.lu_run.specs.declared.automaton.ThreadCall.{ThreadCall}
 use Rattle.lu_run.specs.declared.run.RunEvent.{RunEvent}
 use Rattle.lu_run.specs.declared.table.Rests.{Rests}
 use Rattle.lu_run.specs.declared.table.Table.{Table}
 use Rattle.lu_run.specs.declared.judging.RunVerdict.{RunVerdict}
-use Rattle.lu_run.specs.declared.judging.RunVerdict.TheVariants.{Linearizable, NotLinearizable, Undecided}
+use Rattle.lu_run.specs.declared.judging.RunVerdict.TheVariants.{Passes, Fails, Undecided}
 use Rattle.lu_run.specs.declared.table.Question.{Question}
 use Rattle.lu_run.specs.Asking.{HasRest, IsAtRest, rest_at}
-use Rattle.lu_run.specs.Following.{AreSeated, question_of}
+use Rattle.lu_run.specs.Following.{AreSeated, NextState, question_of}
 use Rattle.lu_run.specs.Runs.{IsRunOf, history_of, matrix_of, numbers_of}
 use Rattle.lu_run.specs.Tables.{IsTable, recorded}
 
@@ -34,6 +36,12 @@ use Rattle.lu_run.specs.Tables.{IsTable, recorded}
 abbrev pub IsLinearizable : State → List RunEvent → Type 0
 IsLinearizable s events =
     (q : List SerialOp) × IsLinearization (Reads (RestAfter s)) q (history_of events)
+
+-- The run passes. Where it is stuck, each pending call has a witness in which it is stuck, among the
+-- serial histories of the run's matrix; where it is not, the run is linearizable.
+abbrev pub IsPassing : State → List RunEvent → Bool → Type 0
+IsPassing s events stuck =
+    MatchBool stuck (IsGood (IsSerialHistory s) (history_of events)) (IsLinearizable s events)
 
 -- ---- how the verdict is found
 
@@ -103,8 +111,32 @@ pub record IsFirstTable (p : Position) (table : Table) : Type 0 where
   pub rests : state.positions.items ≡ p ∷ []
   pub none : (question : Question) → recorded table question ≡ None
 
+-- the pending call, if there is one, can be stuck
+abbrev pub StuckIfPending : Table → List Kept → Option ThreadCall → Type 0
+StuckIfPending table list None = Unit {0}
+StuckIfPending table list (Some call) = CanBeStuck (NextState table) call list
+
+-- each pending call can be stuck
+abbrev pub AllStuck : Table → List Kept → List (Option ThreadCall) → Type 0
+AllStuck table list pending = (t : ℕ) → t < 8 → StuckIfPending table list (by_thread pending t)
+
+-- no thread has a pending call
+abbrev pub NonePending : List (Option ThreadCall) → Type 0
+NonePending pending = (t : ℕ) → t < 8 → by_thread pending t ≡ None
+
+-- Each pending call can be stuck; and where there is none, some configuration is left.
+pub record IsGoodNow (table : Table) (list : List Kept) (pending : List (Option ThreadCall))
+    : Type 0 where
+  pub complete : NonePending pending → list ≢ []
+  pub stuck : AllStuck table list pending
+
+-- what the monitor tells of a run that has ended, stuck or not
+abbrev pub IsPassingNow : Bool → Table → List Kept → List (Option ThreadCall) → Type 0
+IsPassingNow stuck table list pending =
+    MatchBool stuck (IsGoodNow table list pending) (list ≢ [])
+
 -- the verdict on the run is right
-abbrev pub IsVerdict : State → List RunEvent → RunVerdict → Type 0
-IsVerdict s events Linearizable = IsLinearizable s events
-IsVerdict s events NotLinearizable = IsLinearizable s events → ⊥
-IsVerdict s events Undecided = Unit {0}
+abbrev pub IsVerdict : State → List RunEvent → Bool → RunVerdict → Type 0
+IsVerdict s events stuck Passes = IsPassing s events stuck
+IsVerdict s events stuck Fails = IsPassing s events stuck → ⊥
+IsVerdict s events stuck Undecided = Unit {0}
