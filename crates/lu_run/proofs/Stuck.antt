@@ -3,7 +3,7 @@ use Rattle.std.proofs.Common.{Bool, true, false, arith, ◌≡◌, ℕ, suc, ◌
 use Rattle.std.specs.Prelude.{◌↔◌, IsSome, if◌then◌else◌}
 use Rattle.std.proofs.lemmas.Bool.{cases_lt, lt-ltb}
 use Rattle.std.proofs.lemmas.List.{length-append}
-use Rattle.std.proofs.lemmas.Option.{same_Some}
+use Rattle.std.proofs.lemmas.Option.{same_Some, slice_get_within}
 use Rattle.lu_component.specs.Component.{Component}
 use Rattle.lu_test.specs.declared.matrix.Call.{Call as ACall}
 use Rattle.lu_test.specs.Matrix.{calls_of}
@@ -11,20 +11,22 @@ use Rattle.lu_machine.specs.Starts.{IsStart}
 use Rattle.lu_machine.specs.States.{State}
 use Rattle.lu_history.specs.declared.operation.OpId.{OpId}
 use Rattle.lu_history.specs.declared.serial.SerialOp.{SerialOp}
+use Rattle.lu_history.specs.declared.serial.SerialOutcome.TheVariants.{Stuck}
 use Rattle.lu_history.specs.Histories.{IsPending, calls as calls_count, outcomes}
 use Rattle.lu_history.specs.Parts.{keep_pending}
 use Rattle.lu_history.proofs.Events.{last_at, split_at}
 use Rattle.lu_serial.specs.Serial.{IsSerialHistory}
 use Rattle.lu_witness.specs.Witnesses.{HasWitness, IsEntryAt, IsGood, entries}
-use Rattle.lu_witness.proofs.Entries.{entries-append, entries_own}
+use Rattle.lu_witness.proofs.Entries.{entries-append, entries_own, entry_of}
 use Rattle.lu_client.specs.Alone.{Blocks, Rest, RestAfter}
 use Rattle.lu_client.specs.Automaton.{HasAllEntries, NoneStuck}
 use Rattle.lu_client.proofs.Outcomes.{begin_rests, stuck_is_played}
 use Rattle.lu_client.proofs.Played.{ready, serial_is_played}
-use Rattle.lu_serial_graph.proofs.After.{serial_entries}
+use Rattle.lu_serial_graph.proofs.After.{none_stuck, serial_entries}
+use Rattle.lu_run.proofs.Completed.{completes}
 use Rattle.lu_linearization.specs.declared.configuration.Configuration.{Configuration as Kept}
 use Rattle.lu_linearization.specs.Linearizations.{AllReturned}
-use Rattle.lu_linearization.specs.Configurations.{Configuration, HasComplete, HasStuck, IsConfiguration, effects_in, ReadsPrefixes}
+use Rattle.lu_linearization.specs.Configurations.{Configuration, HasComplete, HasStuck, IsConfiguration, effects_in, ReadsPrefixes, Reads}
 use Rattle.lu_linearization.specs.Monitors.{CanBeStuck, Holds, by_thread}
 use Rattle.lu_linearization.proofs.Configured.{complete_is_configured, stuck_is_configured, waiting_tells}
 use Rattle.lu_linearization.proofs.Sequential.{in_turn, is_pending, pending_count}
@@ -35,7 +37,7 @@ use Rattle.lu_run.specs.declared.table.Table.{Table}
 use Rattle.lu_run.specs.Asking.{HasRest}
 use Rattle.lu_run.specs.Tables.{Answer, recorded}
 use Rattle.lu_run.specs.Following.{NextState, question_of}
-use Rattle.lu_run.specs.Judging.{IsFollowed, IsGoodNow, IsLinearizable, IsPassing, IsPassingNow, StuckIfPending, call_of}
+use Rattle.lu_run.specs.Judging.{IsFollowed, HasLinearization, IsGoodNow, IsPassing, IsPassingNow, StuckIfPending, call_of}
 use Rattle.lu_run.proofs.Finished.{none_left, some_left}
 use Rattle.lu_run.specs.Runs.{IsRunOf, history_of, listed, matrix_of, numbers_of, with_numbers}
 use Rattle.lu_run.proofs.Automated.{next_back, next_to, no_calls, numbers_none, own_calls}
@@ -176,7 +178,7 @@ module _ (c : Component) (setup calls : List ACall) (events : List RunEvent) (s 
       | inr le ↦ (let few = (in_turn (history_of events) run.sequential t).returned in omega (arith, le, few))
     ]
 
-    configured : IsLinearizable s events → (d : Configuration Rest) × IsConfiguration (RestAfter s) (history_of events) d
+    configured : HasLinearization s events → (d : Configuration Rest) × IsConfiguration (RestAfter s) (history_of events) d
     configured (q, line) = (record { state = line.member.0; effects = effects_in q (history_of events) }, record { q = q; linearizes = line; leads = line.member.1; effects = λ t. refl })
 
     pub good_tells : IsGood (IsSerialHistory s) (history_of events) → IsGoodNow table list pending
@@ -199,10 +201,21 @@ module _ (c : Component) (setup calls : List ACall) (events : List RunEvent) (s 
       stuck = λ a pend. (stuck_witness a pend (waits a pend)).1 (subst (StuckIfPending table list) (waits a pend) (now.stuck a.t (seat a pend)));
     }
 
+    never_stuck : (q : List SerialOp) (t k : ℕ) → Reads (RestAfter s) q → slice_get (entries t q) k ≡ Some Stuck → ⊥
+    never_stuck q t k (rest, (u, shown)) stuck =
+        let a : OpId = record { t = t; k = k } in
+        let there = entry_of q a (slice_get_within (entries t q) k Stuck stuck) in
+        let op = there.1.0 in
+        let is : op.outcome ≡ Stuck = same_Some op.outcome Stuck (sym (entry_outcome q a there.0 there.1) ∙ stuck) in
+        none_stuck shown.history (take there.0 q) op (drop (suc there.0) q) (sym shown.holds.1 ∙ split_at q op there.0 there.1.1) is
+
+    nobody : (t : ℕ) → 8 ≤ t → calls_count t (history_of events) ≡ 0
+    nobody t past = (let made = calls_after t [] events in let none = ap length (numbers_none calls t past events run.events_of) in omega (arith, made, none))
+
     pub passing : (stuck : Bool) → IsPassingNow stuck table list pending → IsPassing s events stuck
     passing true now = tells_good now
-    passing false some = some_left c s calls events table pending list some was
+    passing false some = (completes (Reads (RestAfter s)) never_stuck (history_of events) run.sequential nobody).0 (some_left c s calls events table pending list some was)
 
     pub passing_back : (stuck : Bool) → IsPassing s events stuck → IsPassingNow stuck table list pending
     passing_back true good = good_tells good
-    passing_back false linearizable = λ empty. none_left c s calls events table pending list empty was linearizable
+    passing_back false linearizable = λ empty. none_left c s calls events table pending list empty was ((completes (Reads (RestAfter s)) never_stuck (history_of events) run.sequential nobody).1 linearizable)

@@ -25,17 +25,17 @@ use Rattle.lu_run.specs.declared.judging.RunVerdict.{RunVerdict}
 use Rattle.lu_run.specs.declared.judging.RunVerdict.TheVariants.{Passes, Fails, Undecided}
 use Rattle.lu_run.specs.declared.table.Question.{Question}
 use Rattle.lu_run.specs.Asking.{HasRest, IsAtRest, rest_at}
+use Rattle.lu_run.specs.Completions.{HasCompletion}
 use Rattle.lu_run.specs.Following.{AreSeated, NextState, question_of}
 use Rattle.lu_run.specs.Runs.{IsRunOf, history_of, matrix_of, numbers_of}
 use Rattle.lu_run.specs.Tables.{IsTable, recorded}
 
 -- ---- the verdict
 
--- The run is linearizable: its history has a linearization that a serial schedule from s shows, in
--- which no operation is open at the end.
+-- The run is linearizable: some completion of its history has a witness, which a serial schedule
+-- from s shows with no operation open at the end.
 abbrev pub IsLinearizable : State → List RunEvent → Type 0
-IsLinearizable s events =
-    (q : List SerialOp) × IsLinearization (Reads (RestAfter s)) q (history_of events)
+IsLinearizable s events = HasCompletion (Reads (RestAfter s)) (history_of events)
 
 -- The run passes. Where it is stuck, each pending call has a witness in which it is stuck, among the
 -- serial histories of the run's matrix; where it is not, the run is linearizable.
@@ -44,6 +44,11 @@ IsPassing s events stuck =
     MatchBool stuck (IsGood (IsSerialHistory s) (history_of events)) (IsLinearizable s events)
 
 -- ---- how the verdict is found
+
+-- the history of the run has a linearization, which a serial schedule from s shows
+abbrev pub HasLinearization : State → List RunEvent → Type 0
+HasLinearization s events =
+    (q : List SerialOp) × IsLinearization (Reads (RestAfter s)) q (history_of events)
 
 -- the call of an operation of the run; where there is none, a number past those of the calls
 abbrev pub call_of : List ACall → List RunEvent → OpId → ThreadCall
