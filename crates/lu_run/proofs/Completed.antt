@@ -1,6 +1,6 @@
 -- A history has a linearization exactly where some completion of it has a witness.
-use Rattle.std.proofs.Common.{arith, ◌≡◌, ◌≢◌, ℕ, zero, suc, ◌<◌, ◌≤◌, ◌+◌, ◌==◌, List, [], ◌∷◌, ◌++◌, length, map, get_or, take, Option, Some, None, slice_get, refl, sym, ◌∙◌, ap, subst, inl, inr, ◌⊎◌, append_assoc}
-use Rattle.std.specs.Prelude.{◌↔◌, if◌then◌else◌}
+use Rattle.std.proofs.Common.{arith, ◌≡◌, ℕ, zero, suc, ◌<◌, ◌≤◌, List, [], ◌∷◌, ◌++◌, length, map, get_or, take, Some, slice_get, refl, sym, ◌∙◌, ap, subst, inl, inr, append_assoc}
+use Rattle.std.specs.Prelude.{◌↔◌}
 use Rattle.std.proofs.lemmas.Bool.{cases_lt}
 use Rattle.std.proofs.lemmas.Bool.Decides.{eqb_tells}
 use Rattle.std.proofs.lemmas.List.{append-nil, length-append}
@@ -9,21 +9,20 @@ use Rattle.lu_machine.specs.declared.event.Event.{Event}
 use Rattle.lu_machine.specs.declared.event.Event.TheVariants.{Call, Return}
 use Rattle.lu_machine.specs.declared.event.Outcome.{Outcome}
 use Rattle.lu_machine.specs.declared.event.Outcome.TheVariants.{Ret, Trap}
-use Rattle.lu_history.specs.declared.operation.OpId.{OpId}
 use Rattle.lu_history.specs.declared.serial.SerialOp.{SerialOp}
 use Rattle.lu_history.specs.declared.serial.SerialOutcome.{SerialOutcome}
 use Rattle.lu_history.specs.declared.serial.SerialOutcome.TheVariants.{Ret as Returned, Trap as Trapped, Stuck}
 use Rattle.lu_history.specs.Histories.{calls, outcomes}
 use Rattle.lu_history.specs.Parts.{as_serial, keep_pending}
 use Rattle.lu_history.proofs.Events.{at_push, calls-append, outcomes-append, outcomes_return, take_within}
-use Rattle.lu_witness.specs.Witnesses.{HasWitness, IsWitness, entries}
+use Rattle.lu_witness.specs.Witnesses.{IsWitness, entries}
 use Rattle.lu_linearization.specs.Linearizations.{AllReturned, ComesNext, HasOnlyCalled, HasOnlyReturned, HasSequentialThreads, IsLinearization}
 use Rattle.lu_linearization.proofs.Ended.{HasReturnedOnes, as_many, complete_is_witness, ones_returned, returned_ones}
 use Rattle.lu_linearization.proofs.Goes.{return_goes_on}
 use Rattle.lu_linearization.proofs.Keeping.{kept_outcomes, kept_sequential, others_calls, own_calls, precedence_kept}
-use Rattle.lu_linearization.proofs.Sequential.{front, in_turn}
+use Rattle.lu_linearization.proofs.Sequential.{in_turn}
 use Rattle.lu_linearization.proofs.Standing.{is_called}
-use Rattle.lu_run.specs.Completions.{AreReturns, Extends, HasCompletion, without_pending}
+use Rattle.lu_run.specs.Completions.{AreReturns, Extends, HasCompletion}
 
 -- ---- returns at the end
 

@@ -39,7 +39,7 @@ use Rattle.lu_run.specs.Tables.{Answer, recorded}
 use Rattle.lu_run.specs.Following.{NextState, question_of}
 use Rattle.lu_run.specs.Judging.{IsFollowed, HasLinearization, IsGoodNow, IsPassing, IsPassingNow, StuckIfPending, call_of}
 use Rattle.lu_run.proofs.Finished.{none_left, some_left}
-use Rattle.lu_run.specs.Runs.{IsRunOf, history_of, listed, matrix_of, numbers_of, with_numbers}
+use Rattle.lu_run.specs.Runs.{IsRun, history_of, listed, matrix_of, numbers_of, with_numbers}
 use Rattle.lu_run.proofs.Automated.{next_back, next_to, no_calls, numbers_none, own_calls}
 use Rattle.lu_run.proofs.Histories.{calls_after}
 
@@ -69,7 +69,7 @@ few_numbers calls (n ∷ numbers) =
 abbrev pub StuckAt : Component → List ACall → Rest → ThreadCall → Type 0
 StuckAt c calls rest call = (a : ACall) × (slice_get calls call.call ≡ Some a) × Blocks c rest call.thread a
 
-module _ (c : Component) (setup calls : List ACall) (events : List RunEvent) (s : State) (start : IsStart c (matrix_of setup calls events) s) (run : IsRunOf c calls events) where
+module _ (c : Component) (setup calls : List ACall) (events : List RunEvent) (s : State) (start : IsStart c (matrix_of setup calls events) s) (run : IsRun calls events) where
   reads : ReadsPrefixes (IsSerialHistory s) (RestAfter s)
   reads p r member never = begin_rests c (matrix_of setup calls events) s (ready c (matrix_of setup calls events) s start) 0 p r member none
     where

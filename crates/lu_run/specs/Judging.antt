@@ -27,7 +27,7 @@ use Rattle.lu_run.specs.declared.table.Question.{Question}
 use Rattle.lu_run.specs.Asking.{HasRest, IsAtRest, rest_at}
 use Rattle.lu_run.specs.Completions.{HasCompletion}
 use Rattle.lu_run.specs.Following.{AreSeated, NextState, question_of}
-use Rattle.lu_run.specs.Runs.{IsRunOf, history_of, matrix_of, numbers_of}
+use Rattle.lu_run.specs.Runs.{IsRun, history_of, matrix_of, numbers_of}
 use Rattle.lu_run.specs.Tables.{IsTable, recorded}
 
 -- ---- the verdict
@@ -98,7 +98,7 @@ abbrev pub Advances : Component → List ACall → RunEvent → Table → List (
     → List Kept → Table → List (Option ThreadCall) → List Kept → Type 0
 Advances c calls event table pending list new now next =
     (setup : List ACall) (events done more : List RunEvent) (s : State) →
-    IsStart c (matrix_of setup calls events) s → IsRunOf c calls events
+    IsStart c (matrix_of setup calls events) s → IsRun calls events
     → events ≡ done ++ event ∷ more
     → IsFollowed c s calls events table pending list (history_of done)
     → IsFollowed c s calls events new now next (history_of (done ++ event ∷ []))

@@ -5,7 +5,7 @@ ghost use Rattle.lu_machine.specs.declared.TheConstants.{MOST_MOVES};
 ghost use Rattle.lu_machine.specs.Starts.{CanRun, FromEachStart};
 ghost use Rattle.lu_run.specs.Following.{AreSeated};
 ghost use Rattle.lu_run.specs.Judging.{Advances, AllStuck, IsGoodNow, IsPassingNow, IsVerdict, NonePending, StuckIfPending};
-ghost use Rattle.lu_run.specs.Runs.{IsEventOf, IsRunOf, matrix_of};
+ghost use Rattle.lu_run.specs.Runs.{IsEventOf, IsRun, matrix_of};
 ghost use Rattle.lu_run.specs.Tables.{AreCallsOf, IsTable};
 
 use crate::automaton::ThreadCall;
@@ -154,7 +154,7 @@ pub fn judge_run(
 ) -> Result<RunVerdict, AllocError>
     requires of { CanRun component.now matrix.now }
     requires calls { AreCallsOf component.now run.now.calls.items }
-    requires run { IsRunOf component.now run.now.calls.items run.now.events.items }
+    requires run { IsRun run.now.calls.items run.now.events.items }
     requires few { bound ≤ MOST_MOVES }
     ensures { FromEachStart component.now
         (matrix_of matrix.now.setup run.now.calls.items run.now.events.items)
