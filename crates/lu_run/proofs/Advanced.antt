@@ -26,7 +26,7 @@ use Rattle.lu_run.specs.declared.table.Table.{Table}
 use Rattle.lu_run.specs.Tables.{Grows, IsTable, recorded}
 use Rattle.lu_run.specs.Following.{AllKnown, AreSeated, HasAnswer, NextState, asked, question_of}
 use Rattle.lu_run.specs.Judging.{AreAnswered, IsFollowed, call_of}
-use Rattle.lu_run.specs.Runs.{IsRunOf, history_of, matrix_of, next_event}
+use Rattle.lu_run.specs.Runs.{IsRun, history_of, matrix_of, next_event}
 use Rattle.lu_run.proofs.Automated.{automaton}
 use Rattle.lu_run.proofs.Followed.{followed_call, followed_return}
 use Rattle.lu_run.proofs.Histories.{calls_next, history_push, sequential_front}
@@ -83,7 +83,7 @@ module _ (before : List (Option ThreadCall)) (t : ℕ) (long : length before ≡
 
 -- ---- one event more
 
-module _ (c : Component) (setup calls : List ACall) (events done more : List RunEvent) (s : State) (start : IsStart c (matrix_of setup calls events) s) (run : IsRunOf c calls events) where
+module _ (c : Component) (setup calls : List ACall) (events done more : List RunEvent) (s : State) (start : IsStart c (matrix_of setup calls events) s) (run : IsRun calls events) where
   one_more : (e : RunEvent) → events ≡ done ++ e ∷ more → HasSequentialThreads (history_of done ++ next_event (history_of done) e ∷ [])
   one_more e is = subst HasSequentialThreads (history_push [] done e) (sequential_front (done ++ e ∷ []) more (subst (λ x. HasSequentialThreads (history_of x)) (is ∙ sym (append_assoc done (e ∷ []) more)) run.sequential))
 

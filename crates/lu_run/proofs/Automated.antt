@@ -17,7 +17,7 @@ use Rattle.lu_linearization.specs.Configurations.{IsAutomaton}
 use Rattle.lu_run.specs.declared.run.RunEvent.{RunEvent}
 use Rattle.lu_run.specs.declared.run.RunEvent.TheVariants.{Call as Calls, Return as Returns}
 use Rattle.lu_run.specs.Judging.{NextRest, call_of}
-use Rattle.lu_run.specs.Runs.{IsEventOf, IsRunOf, calls_by, listed, matrix_of, numbers_of, with_numbers}
+use Rattle.lu_run.specs.Runs.{IsEventOf, IsRun, calls_by, listed, matrix_of, numbers_of, with_numbers}
 
 -- ---- lines
 
@@ -94,11 +94,11 @@ pub own_calls : (setup calls : List ACall) (events : List RunEvent) (t : ℕ) �
 own_calls setup calls events t lt =
     ap (λ o. unwrap_or o []) (slice_get-map (calls_by calls events) (0 ∷ 1 ∷ 2 ∷ 3 ∷ 4 ∷ 5 ∷ 6 ∷ 7 ∷ []) t ∙ ap (option_map (calls_by calls events)) (eight t lt))
 
-no_calls : (setup calls : List ACall) (events : List RunEvent) (t : ℕ) → 8 ≤ t → calls_of (matrix_of setup calls events) t ≡ []
+pub no_calls : (setup calls : List ACall) (events : List RunEvent) (t : ℕ) → 8 ≤ t → calls_of (matrix_of setup calls events) t ≡ []
 no_calls setup calls events t past =
     ap (λ o. unwrap_or o []) (slice_get-map (calls_by calls events) (0 ∷ 1 ∷ 2 ∷ 3 ∷ 4 ∷ 5 ∷ 6 ∷ 7 ∷ []) t ∙ ap (option_map (calls_by calls events)) (slice_get_past (0 ∷ 1 ∷ 2 ∷ 3 ∷ 4 ∷ 5 ∷ 6 ∷ 7 ∷ []) t past))
 
-module _ (c : Component) (setup calls : List ACall) (events : List RunEvent) (run : IsRunOf c calls events) where
+module _ (c : Component) (setup calls : List ACall) (events : List RunEvent) (run : IsRun calls events) where
   pub next_to : (t k : ℕ) (call : ACall) → slice_get (calls_of (matrix_of setup calls events) t) k ≡ Some call → slice_get calls (unwrap_or (slice_get (numbers_of t events) k) (length calls)) ≡ Some call
   next_to t k call at = elim (cases_lt t 8) as (λ _. slice_get calls (unwrap_or (slice_get (numbers_of t events) k) (length calls)) ≡ Some call) [
     | inl lt ↦ line_to calls (numbers_of t events) (numbers_below calls t events run.events_of) k call (ap (λ xs. slice_get xs k) (sym (own_calls setup calls events t lt)) ∙ at)

@@ -13,7 +13,7 @@ use Rattle.lu_run.specs.declared.automaton.ThreadCall.{ThreadCall}
 use Rattle.lu_run.specs.declared.run.RunEvent.{RunEvent}
 use Rattle.lu_run.specs.declared.table.Table.{Table}
 use Rattle.lu_run.specs.Asking.{rest_at}
-use Rattle.lu_run.specs.Judging.{IsFollowed, IsLinearizable, Represents}
+use Rattle.lu_run.specs.Judging.{IsFollowed, HasLinearization, Represents}
 use Rattle.lu_run.specs.Runs.{history_of}
 
 first_of : (positions : List Position) → 0 < length positions → (p : Position) × IsAmong p positions
@@ -21,14 +21,14 @@ first_of [] some = absurd (omega arith)
 first_of (p ∷ positions) some = (p, inl refl)
 
 module _ (c : Component) (s : State) (calls : List ACall) (events : List RunEvent) (table : Table) (pending : List (Option ThreadCall)) where
-  pub none_left : (list : List Kept) → list ≡ [] → IsFollowed c s calls events table pending list (history_of events) → IsLinearizable s events → ⊥
+  pub none_left : (list : List Kept) → list ≡ [] → IsFollowed c s calls events table pending list (history_of events) → HasLinearization s events → ⊥
   none_left list empty was (q, line) =
       let rest : Rest = line.member.0 in
       let d : Configuration Rest = record { state = rest; effects = effects_in q (history_of events) } in
       let found : Represents table list d = (was.configurations d).0 (record { q = q; linearizes = line; leads = line.member.1; effects = λ t. refl }) in
       subst (λ x. Holds x found.0) empty found.1
 
-  pub some_left : (list : List Kept) → (list ≡ [] → ⊥) → IsFollowed c s calls events table pending list (history_of events) → IsLinearizable s events
+  pub some_left : (list : List Kept) → (list ≡ [] → ⊥) → IsFollowed c s calls events table pending list (history_of events) → HasLinearization s events
   some_left [] some was = absurd (some refl)
   some_left (one ∷ list) some was =
       let d : Configuration ℕ = configuration_of one in

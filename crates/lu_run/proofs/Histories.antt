@@ -50,7 +50,7 @@ numbers-append t (Calls u n ∷ xs) ys = by (u == t) (numbers-append t xs ys)
     by false e = e
 numbers-append t (Returns u outcome ∷ xs) ys = numbers-append t xs ys
 
-calls_after : (t : ℕ) (h : List Event) (events : List RunEvent) → calls t (history_after h events) ≡ calls t h + length (numbers_of t events)
+pub calls_after : (t : ℕ) (h : List Event) (events : List RunEvent) → calls t (history_after h events) ≡ calls t h + length (numbers_of t events)
 calls_after t h [] = omega arith
 calls_after t h (e ∷ events) =
     let rest = calls_after t (h ++ next_event h e ∷ []) events in

@@ -9,3 +9,5 @@ pub mod Histories
 pub mod Advanced
 pub mod Beginning
 pub mod Finished
+pub mod Completed
+pub mod Stuck

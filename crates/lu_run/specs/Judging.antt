@@ -1,5 +1,5 @@
 -- The runs that pass.
-use Rattle.std.specs.Prelude.{◌≡◌, ◌↔◌, ℕ, List, [], ◌∷◌, ◌++◌, length, Option, Some, None, IsSome, slice_get, unwrap_or}
+use Rattle.std.specs.Prelude.{◌≢◌, ◌<◌, Bool, MatchBool, ◌≡◌, ◌↔◌, ℕ, List, [], ◌∷◌, ◌++◌, length, Option, Some, None, IsSome, slice_get, unwrap_or}
 use Rattle.lu_component.specs.Component.{Component}
 use Rattle.lu_test.specs.declared.matrix.Call.{Call as ACall}
 use Rattle.lu_test.specs.Matrix.{Matrix}
@@ -10,32 +10,45 @@ use Rattle.lu_machine.specs.States.{State}
 use Rattle.lu_history.specs.declared.operation.OpId.{OpId}
 use Rattle.lu_history.specs.declared.serial.SerialOp.{SerialOp}
 use Rattle.lu_history.specs.declared.serial.SerialOutcome.{SerialOutcome}
+use Rattle.lu_serial.specs.Serial.{IsSerialHistory}
+use Rattle.lu_witness.specs.Witnesses.{IsGood}
 use Rattle.lu_client.specs.Alone.{Plays, Rest, RestAfter, rest_of}
 use Rattle.lu_linearization.specs.declared.configuration.Configuration.{Configuration as Kept}
 use Rattle.lu_linearization.specs.Linearizations.{IsLinearization}
 use Rattle.lu_linearization.specs.Configurations.{Configuration, IsConfiguration, Reads, pending_call}
-use Rattle.lu_linearization.specs.Monitors.{Holds, by_thread}
+use Rattle.lu_linearization.specs.Monitors.{CanBeStuck, Holds, by_thread}
 use Rattle.lu_run.specs.declared.automaton.ThreadCall.{ThreadCall}
 use Rattle.lu_run.specs.declared.run.RunEvent.{RunEvent}
 use Rattle.lu_run.specs.declared.table.Rests.{Rests}
 use Rattle.lu_run.specs.declared.table.Table.{Table}
 use Rattle.lu_run.specs.declared.judging.RunVerdict.{RunVerdict}
-use Rattle.lu_run.specs.declared.judging.RunVerdict.TheVariants.{Linearizable, NotLinearizable, Undecided}
+use Rattle.lu_run.specs.declared.judging.RunVerdict.TheVariants.{Passes, Fails, Undecided}
 use Rattle.lu_run.specs.declared.table.Question.{Question}
 use Rattle.lu_run.specs.Asking.{HasRest, IsAtRest, rest_at}
-use Rattle.lu_run.specs.Following.{AreSeated, question_of}
-use Rattle.lu_run.specs.Runs.{IsRunOf, history_of, matrix_of, numbers_of}
+use Rattle.lu_run.specs.Completions.{HasCompletion}
+use Rattle.lu_run.specs.Following.{AreSeated, NextState, question_of}
+use Rattle.lu_run.specs.Runs.{IsRun, history_of, matrix_of, numbers_of}
 use Rattle.lu_run.specs.Tables.{IsTable, recorded}
 
 -- ---- the verdict
 
--- The run is linearizable: its history has a linearization that a serial schedule from s shows, in
--- which no operation is open at the end.
+-- The run is linearizable: some completion of its history has a witness, which a serial schedule
+-- from s shows with no operation open at the end.
 abbrev pub IsLinearizable : State → List RunEvent → Type 0
-IsLinearizable s events =
-    (q : List SerialOp) × IsLinearization (Reads (RestAfter s)) q (history_of events)
+IsLinearizable s events = HasCompletion (Reads (RestAfter s)) (history_of events)
+
+-- The run passes. Where it is stuck, each pending call has a witness in which it is stuck, among the
+-- serial histories of the run's matrix; where it is not, the run is linearizable.
+abbrev pub IsPassing : State → List RunEvent → Bool → Type 0
+IsPassing s events stuck =
+    MatchBool stuck (IsGood (IsSerialHistory s) (history_of events)) (IsLinearizable s events)
 
 -- ---- how the verdict is found
+
+-- the history of the run has a linearization, which a serial schedule from s shows
+abbrev pub HasLinearization : State → List RunEvent → Type 0
+HasLinearization s events =
+    (q : List SerialOp) × IsLinearization (Reads (RestAfter s)) q (history_of events)
 
 -- the call of an operation of the run; where there is none, a number past those of the calls
 abbrev pub call_of : List ACall → List RunEvent → OpId → ThreadCall
@@ -85,7 +98,7 @@ abbrev pub Advances : Component → List ACall → RunEvent → Table → List (
     → List Kept → Table → List (Option ThreadCall) → List Kept → Type 0
 Advances c calls event table pending list new now next =
     (setup : List ACall) (events done more : List RunEvent) (s : State) →
-    IsStart c (matrix_of setup calls events) s → IsRunOf c calls events
+    IsStart c (matrix_of setup calls events) s → IsRun calls events
     → events ≡ done ++ event ∷ more
     → IsFollowed c s calls events table pending list (history_of done)
     → IsFollowed c s calls events new now next (history_of (done ++ event ∷ []))
@@ -103,8 +116,32 @@ pub record IsFirstTable (p : Position) (table : Table) : Type 0 where
   pub rests : state.positions.items ≡ p ∷ []
   pub none : (question : Question) → recorded table question ≡ None
 
+-- the pending call, if there is one, can be stuck
+abbrev pub StuckIfPending : Table → List Kept → Option ThreadCall → Type 0
+StuckIfPending table list None = Unit {0}
+StuckIfPending table list (Some call) = CanBeStuck (NextState table) call list
+
+-- each pending call can be stuck
+abbrev pub AllStuck : Table → List Kept → List (Option ThreadCall) → Type 0
+AllStuck table list pending = (t : ℕ) → t < 8 → StuckIfPending table list (by_thread pending t)
+
+-- no thread has a pending call
+abbrev pub NonePending : List (Option ThreadCall) → Type 0
+NonePending pending = (t : ℕ) → t < 8 → by_thread pending t ≡ None
+
+-- Each pending call can be stuck; and where there is none, some configuration is left.
+pub record IsGoodNow (table : Table) (list : List Kept) (pending : List (Option ThreadCall))
+    : Type 0 where
+  pub complete : NonePending pending → list ≢ []
+  pub stuck : AllStuck table list pending
+
+-- what the monitor tells of a run that has ended, stuck or not
+abbrev pub IsPassingNow : Bool → Table → List Kept → List (Option ThreadCall) → Type 0
+IsPassingNow stuck table list pending =
+    MatchBool stuck (IsGoodNow table list pending) (list ≢ [])
+
 -- the verdict on the run is right
-abbrev pub IsVerdict : State → List RunEvent → RunVerdict → Type 0
-IsVerdict s events Linearizable = IsLinearizable s events
-IsVerdict s events NotLinearizable = IsLinearizable s events → ⊥
-IsVerdict s events Undecided = Unit {0}
+abbrev pub IsVerdict : State → List RunEvent → Bool → RunVerdict → Type 0
+IsVerdict s events stuck Passes = IsPassing s events stuck
+IsVerdict s events stuck Fails = IsPassing s events stuck → ⊥
+IsVerdict s events stuck Undecided = Unit {0}

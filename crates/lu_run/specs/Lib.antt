@@ -2,4 +2,5 @@ pub mod Runs
 pub mod Asking
 pub mod Tables
 pub mod Following
+pub mod Completions
 pub mod Judging

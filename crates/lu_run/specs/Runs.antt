@@ -1,8 +1,7 @@
 -- Runs: histories that were recorded of real code, with any number of calls.
 use Rattle.std.specs.Prelude.{◌≡◌, ℕ, ◌<◌, ◌==◌, if◌then◌else◌, List, [], ◌∷◌, ◌++◌, map, length, Option, Some, None, slice_get}
-use Rattle.lu_component.specs.Component.{Component}
 use Rattle.lu_test.specs.declared.matrix.Call.{Call as ACall}
-use Rattle.lu_test.specs.Matrix.{IsCallOf, Matrix, matrix_with}
+use Rattle.lu_test.specs.Matrix.{Matrix, matrix_with}
 use Rattle.lu_machine.specs.declared.event.Event.{Event}
 use Rattle.lu_machine.specs.declared.event.Event.TheVariants.{Call, Return}
 use Rattle.lu_history.specs.Histories.{calls, outcomes}
@@ -59,9 +58,7 @@ abbrev pub IsEventOf : List ACall → RunEvent → Type 0
 IsEventOf table (Calls t n) = (t < 8) × (n < length table)
 IsEventOf table (Returns t outcome) = t < 8
 
--- The calls in the table are the component's, the events' calls are in it, and each thread makes one
--- call at a time.
-pub record IsRunOf (c : Component) (table : List ACall) (events : List RunEvent) : Type 0 where
-  pub of : (n : ℕ) (call : ACall) → slice_get table n ≡ Some call → IsCallOf c call
+-- The events' calls are in the table, and each thread makes one call at a time.
+pub record IsRun (table : List ACall) (events : List RunEvent) : Type 0 where
   pub events_of : (i : ℕ) (e : RunEvent) → slice_get events i ≡ Some e → IsEventOf table e
   pub sequential : HasSequentialThreads (history_of events)

@@ -21,4 +21,7 @@ pub struct Run {
 
     /// The events, in the order in which they were recorded.
     pub events: Vec<RunEvent>,
+
+    /// Whether the run is stuck: whether none of the pending calls can go on.
+    pub is_stuck: bool,
 }

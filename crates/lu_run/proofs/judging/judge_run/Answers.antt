@@ -7,7 +7,7 @@ use Rattle.lu_run.specs.declared.run.RunEvent.{RunEvent}
 use Rattle.lu_run.specs.declared.run.RunEvent.TheVariants.{Call as Calls}
 use Rattle.lu_run.specs.Judging.{Advances, IsFollowed}
 use Rattle.lu_run.specs.Runs.{history_of, matrix_of}
-use Rattle.lu_run.proofs.Finished.{none_left, some_left}
+use Rattle.lu_run.proofs.Stuck.{passing, passing_back}
 use Rattle.lu_run.proofs.Beginning.{first_followed, first_is, no_pending}
 use Rattle.lu_run.proofs.judging.judge_run.Goals as goal
 
@@ -54,20 +54,22 @@ loop-event-preserved c =
           (here c.args.matrix.now.setup events (take i events) (drop (suc i) events) s start c.requires.run (split_at events e i at) (c.loop-event.invariant.followed s start));
     }
 
-pub returns-then-is_empty : goal.returns-then-is_empty
-returns-then-is_empty c = λ s start.
+pub returns-then-is_passing : goal.returns-then-is_passing
+returns-then-is_passing c = λ s start.
     let events = c.args.run.now.events.items in
     let long = ap length c.deref-event-items.ensures.value in
     let le = c.loop-event-test.false in
     let all : take c.loop-event.event-index events ≡ events = take_all c.loop-event.event-index events (omega (arith, long, le)) in
     let was : IsFollowed c.args.component.now s c.args.run.now.calls.items events c.loop-event.table c.loop-event.pending c.loop-event.monitor (history_of events) = subst (λ x. IsFollowed c.args.component.now s c.args.run.now.calls.items events c.loop-event.table c.loop-event.pending c.loop-event.monitor (history_of x)) all (c.loop-event.invariant.followed s start) in
-    none_left c.args.component.now s c.args.run.now.calls.items events c.loop-event.table c.loop-event.pending c.loop-event.monitor (c.is_empty.ensures.0 c.if-is_empty.true) was
+    passing c.args.component.now c.args.matrix.now.setup c.args.run.now.calls.items events s start c.requires.run c.loop-event.table c.loop-event.pending c.loop-event.monitor was c.args.run.now.is_stuck (c.is_passing.ensures.0 c.if-is_passing.true)
 
 pub returns : goal.returns
-returns c = λ s start.
+returns c = λ s start pass.
     let events = c.args.run.now.events.items in
     let long = ap length c.deref-event-items.ensures.value in
     let le = c.loop-event-test.false in
     let all : take c.loop-event.event-index events ≡ events = take_all c.loop-event.event-index events (omega (arith, long, le)) in
     let was : IsFollowed c.args.component.now s c.args.run.now.calls.items events c.loop-event.table c.loop-event.pending c.loop-event.monitor (history_of events) = subst (λ x. IsFollowed c.args.component.now s c.args.run.now.calls.items events c.loop-event.table c.loop-event.pending c.loop-event.monitor (history_of x)) all (c.loop-event.invariant.followed s start) in
-    some_left c.args.component.now s c.args.run.now.calls.items events c.loop-event.table c.loop-event.pending c.loop-event.monitor (λ none. (let yes = c.is_empty.ensures.1 none in let no = c.if-is_empty.false in cc)) was
+    let yes = c.is_passing.ensures.1 (passing_back c.args.component.now c.args.matrix.now.setup c.args.run.now.calls.items events s start c.requires.run c.loop-event.table c.loop-event.pending c.loop-event.monitor was c.args.run.now.is_stuck pass) in
+    let no = c.if-is_passing.false in
+    cc
