@@ -10,6 +10,6 @@ mod run;
 mod starting;
 mod table;
 
-pub use checking::is_run;
+pub use checking::{are_calls_of, is_run};
 pub use judging::{RunVerdict, judge_run};
 pub use run::{Run, RunEvent};
