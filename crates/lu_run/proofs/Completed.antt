@@ -40,7 +40,7 @@ take_front : (h : List Event) (e : Event) → take (length h) (h ++ e ∷ []) �
 take_front [] e = refl
 take_front (x ∷ h) e = ap (λ z. x ∷ z) (take_front h e)
 
-sequential_push : (g : List Event) (e : Event) → HasSequentialThreads g → ComesNext g e → HasSequentialThreads (g ++ e ∷ [])
+pub sequential_push : (g : List Event) (e : Event) → HasSequentialThreads g → ComesNext g e → HasSequentialThreads (g ++ e ∷ [])
 sequential_push g e is next i x at = elim (at_push g e x i at) as (λ _. ComesNext (take i (g ++ e ∷ [])) x) [
   | inl old ↦ subst (λ y. ComesNext y x) (sym (take_within g (e ∷ []) x i old.1)) (is i x old.1)
   | inr new ↦ subst (λ y. ComesNext y x) (sym (ap (λ n. take n (g ++ e ∷ [])) new.0 ∙ take_front g e)) (subst (ComesNext g) (sym new.1) next)

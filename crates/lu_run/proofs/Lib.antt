@@ -9,5 +9,7 @@ pub mod Histories
 pub mod Advanced
 pub mod Beginning
 pub mod Finished
+pub mod Ran
+pub mod Checked
 pub mod Completed
 pub mod Stuck

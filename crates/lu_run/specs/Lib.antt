@@ -1,4 +1,5 @@
 pub mod Runs
+pub mod Checking
 pub mod Asking
 pub mod Tables
 pub mod Following

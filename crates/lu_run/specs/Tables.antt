@@ -23,11 +23,13 @@ same_question a b = nat_eq a.state b.state && (nat_eq a.thread b.thread && nat_e
 abbrev pub recorded : Table → Question → Option Answer
 recorded table question = get same_question table.answers question
 
+-- the component has the call's operation, with as many arguments
+abbrev pub IsCallFor : Component → ACall → Type 0
+IsCallFor c call = IsCallOf c call × AreArguments call.args
+
 -- the component has each of the calls
 abbrev pub AreCallsOf : Component → List ACall → Type 0
-AreCallsOf c calls =
-    (n : ℕ) (call : ACall) → slice_get calls n ≡ Some call
-    → IsCallOf c call × AreArguments call.args
+AreCallsOf c calls = (n : ℕ) (call : ACall) → slice_get calls n ≡ Some call → IsCallFor c call
 
 -- this answer is right: from each of the positions the call of thread t blocks, or ends with this
 -- outcome, with the rests of the state of this number

@@ -1,0 +1,5 @@
+//! Tests of the judge of runs.
+#![tactic(auto)]
+
+#[cfg(test)]
+mod runs;
