@@ -10,7 +10,7 @@ use Rattle.lu_machine.specs.Starts.{FromEachStart, IsStart}
 use Rattle.lu_machine.specs.Tests.{FromEachStartOf}
 use Rattle.lu_history.specs.declared.serial.SerialOp.{SerialOp}
 use Rattle.lu_serial.specs.Serial.{IsSerialHistory}
-use Rattle.lu_serial.specs.Offences.{IsSetOf, NoOffence}
+use Rattle.lu_serial.specs.Offences.{IsSetOf}
 use Rattle.lu_trie.specs.Members.{history_cmp}
 use Rattle.lu_report.specs.declared.report.Finding.{Finding}
 use Rattle.lu_report.specs.Parts.{Report, IsOfOffence}
@@ -89,9 +89,9 @@ IsRunSerially c matrix limits answer =
 abbrev pub IsSetFromStarts : Test → ℕ → List (List SerialOp) → Type 0
 IsSetFromStarts test serial members = FromEachStartOf test (λ s. IsSetOf s serial members)
 
--- no serial run offends
-abbrev pub NoneOffends : Test → ℕ → Type 0
-NoneOffends test serial = FromEachStartOf test (λ s. NoOffence s serial)
+-- so it is with some bound
+abbrev pub IsSetAtSomeBound : Test → List (List SerialOp) → Type 0
+IsSetAtSomeBound test members = (serial : ℕ) × IsSetFromStarts test serial members
 
 -- the specification of the serial histories, where it succeeds
 abbrev pub ListsFromStarts : {E : Type 0} → Test → Result Answer E → Type 0

@@ -2,20 +2,18 @@
 
 ghost use Rattle.lu_text.specs.Lines.{texts};
 ghost use Rattle.lu_test.specs.Matrix.{IsMatrix};
-ghost use Rattle.lu_report.specs.Limits.{IsSerialBound};
 ghost use Rattle.lu_report.specs.Parts.{IsOfOffence};
 ghost use Rattle.lu_serial_graph.specs.Graphs.{members_of};
 ghost use Rattle.lu_cli.specs.Refusals.{Answered};
 ghost use Rattle.lu_cli.specs.Serial as spec;
-ghost use Rattle.lu_cli.specs.Serial.{IsFoundWithin, IsSetFromStarts, ListsFromStarts, NoneOffends, ReportsOffence, RunsSerially};
+ghost use Rattle.lu_cli.specs.Serial.{IsFoundWithin, IsSetAtSomeBound, IsSetFromStarts, ListsFromStarts, ReportsOffence, RunsSerially};
 
 use crate::answer::{Answer, show_report, show_spec};
 use crate::refusal::Refusal;
 use crate::texts::read_texts;
 use lu_machine::Test;
-use lu_replay::{graph_or_offence, set_or_offence};
+use lu_replay::graph_or_offence;
 use lu_report::{Bounds, Finding, Report};
-use lu_serial::learn;
 use lu_serial_graph::{SerialGraph, learn_graph};
 use lu_spec::Spec;
 use lu_text::exactly_two;
@@ -48,15 +46,16 @@ pub(crate) fn show_offence(
     )
 }
 
-/// The specification of the serial histories. No serial run may offend.
-fn list_histories(alloc: Global, test: Test<'_>, serial: u16) -> Result<Answer, AllocError>
-    requires serial { IsSerialBound serial }
-    requires none { NoneOffends test serial }
+/// The specification of the serial histories, which are those of this graph.
+fn list_histories(
+    alloc: Global,
+    test: Test<'_>,
+    graph: &SerialGraph<Global>,
+) -> Result<Answer, AllocError>
+    requires { IsSetAtSomeBound test (members_of graph.now) }
     ensures { ListsFromStarts test.entry result }
 {
-    let learnt = learn(alloc, alloc, test.component, test.matrix, serial)?;
-    let set = set_or_offence(learnt).unwrap();
-    show_spec(alloc, &Spec::closure(alloc, test.matrix, &set)?)
+    show_spec(alloc, &Spec::closure_of(alloc, test.matrix, &graph)?)
 }
 
 /// The specification of the serial histories of this graph, or how many there are.
@@ -73,7 +72,7 @@ fn list_or_count(
     if count > MOST_LISTED {
         return Err(Refusal::Histories(count));
     }
-    Ok(list_histories(alloc, test, bounds.serial())?)
+    Ok(list_histories(alloc, test, graph)?)
 }
 
 /// The serial histories, or how many there are, or the report of the least serial offence.

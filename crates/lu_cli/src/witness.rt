@@ -12,10 +12,10 @@ use crate::serial::show_offence;
 use crate::texts::read_texts;
 use lu_machine::Test;
 use lu_recorded::{Recorded, first_unwitnessed, read_all, write_reason_of, write_recorded};
-use lu_replay::set_or_offence;
+use lu_replay::graph_or_offence;
 use lu_report::Bounds;
-use lu_serial::learn;
-use lu_spec::{Marks, Spec, read_given_spec};
+use lu_serial_graph::learn_graph;
+use lu_spec::{Beginnings, Marks, read_given_spec};
 use lu_trie::SerialTree;
 use std::alloc::{AllocError, Global};
 
@@ -85,11 +85,11 @@ fn judge_serially(
 ) -> Result<Answer, AllocError>
     ensures { JudgesSerially test.entry bounds all.now result }
 {
-    let learnt = learn(alloc, alloc, test.component, test.matrix, bounds.serial())?;
-    match set_or_offence(learnt) {
-        Ok(set) => {
-            let specification = Spec::closure(alloc, test.matrix, &set)?;
-            judge_by(alloc, test, &specification.tree(), all)
+    let learnt = learn_graph(alloc, alloc, test.component, test.matrix, bounds.serial())?;
+    match graph_or_offence(learnt) {
+        Ok(graph) => {
+            let tree = &graph;
+            judge_by(alloc, test, &Beginnings::of(&tree), all)
         }
         Err(finding) => show_offence(alloc, test, bounds, finding),
     }

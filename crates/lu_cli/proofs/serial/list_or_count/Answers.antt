@@ -18,8 +18,8 @@ returns-then-count-gt-MOST_LISTED c =
       says = ap too_many counted;
     }))
 
-pub list_histories-requires-clause-none : goal.list_histories-requires-clause-none
-list_histories-requires-clause-none c = λ s start. (rw c.serial.ensures.serial (c.requires s start).none)
+pub list_histories-requires : goal.list_histories-requires
+list_histories-requires c = (c.args.bounds.serial, c.requires)
 
 pub returns : goal.returns
 returns c =
