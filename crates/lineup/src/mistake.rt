@@ -1,16 +1,16 @@
 //! What is wrong with a command line that was refused.
 
-use lu_cli::{Kind, OptionRow, commands, is_near, options};
+use lu_cli::{Kind, OptionRow, command_rows, is_near, option_rows};
 use std::alloc::{AllocError, Global};
 
 /// Whether there is a command with this name.
 fn is_command(name: &str) -> bool {
-    commands().iter().any(|row| row.name == name)
+    command_rows().iter().any(|row| row.name == name)
 }
 
 /// The command for whose name the word may be a slip.
 fn near_command(word: &str) -> Option<&'static str> {
-    commands()
+    command_rows()
         .iter()
         .find(|row| is_near(word.as_bytes(), row.name.as_bytes()))
         .map(|row| row.name)
@@ -18,14 +18,14 @@ fn near_command(word: &str) -> Option<&'static str> {
 
 /// The option with this name that the command takes.
 fn option_of(command: &str, name: &str) -> Option<&'static OptionRow> {
-    options()
+    option_rows()
         .iter()
         .find(|row| row.name == name && row.commands.contains(&command))
 }
 
 /// The option of the command for whose name the word may be a slip.
 fn near_option(command: &str, word: &str) -> Option<&'static str> {
-    options()
+    option_rows()
         .iter()
         .find(|row| row.commands.contains(&command)
             && is_near(word.as_bytes(), row.name.as_bytes()))
@@ -34,7 +34,7 @@ fn near_option(command: &str, word: &str) -> Option<&'static str> {
 
 /// Whether some command takes an option with this name.
 fn is_option(name: &str) -> bool {
-    options().iter().any(|row| row.name == name)
+    option_rows().iter().any(|row| row.name == name)
 }
 
 /// The least and the greatest number that an option takes, where it takes one.

@@ -49,6 +49,6 @@ pub use request::{
     ArgsFault, BundleCommand, CampaignOptions, CampaignPart, CampaignThreads, CertifyOptions,
     LintRequest, Request, Showing, TraceStart,
 };
-pub use table::{CommandRow, Kind, OptionRow, commands, options};
+pub use table::{CommandRow, Kind, OptionRow, commands as command_rows, options as option_rows};
 pub use terminal::Terminal;
 pub use texts::{Case, Fault, check_texts, check_texts_against, read_texts};
