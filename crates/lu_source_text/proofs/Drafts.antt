@@ -24,7 +24,7 @@ use Rattle.lu_source_text.specs.Grammar.{Begun, Block, Drafted, Kind, all_read, 
 use Rattle.lu_source.specs.Programs.{operation_of}
 use Rattle.lu_source_text.specs.Drafts.{begun_of, drafted_of}
 use Rattle.lu_source_text.specs.declared.draft.Begun.{Begun as HeldBegun}
-use Rattle.lu_source_text.specs.declared.draft.Constant.{Constant}
+use Rattle.lu_source_text.specs.Constants.{Constant}
 use Rattle.lu_source_text.specs.declared.draft.Draft.{Draft as HeldDraft}
 use Rattle.lu_source_text.specs.declared.draft.Shared.{Shared}
 use Rattle.lu_source_text.specs.declared.fault.SourceFaultKind.TheVariants.{Byte, Form, Limit, Name}

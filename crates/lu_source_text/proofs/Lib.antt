@@ -1,5 +1,6 @@
 mod Beginning
 mod Examples
+mod LookedUp
 pub mod Kept
 pub mod Lines
 pub mod Drafts

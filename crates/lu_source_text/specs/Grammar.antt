@@ -10,7 +10,7 @@ use Rattle.lu_text.specs.Words.{Word, exactly_one}
 use Rattle.lu_text.specs.Faults.{Grammar}
 use Rattle.lu_component.specs.declared.instr.Operand.{Operand}
 use Rattle.lu_component.specs.declared.instr.Operand.TheVariants.{Num}
-use Rattle.lu_source_text.specs.declared.draft.Constant.{Constant}
+pub use Rattle.lu_source_text.specs.Constants.{Constant, constant_from}
 use Rattle.lu_source_text.specs.declared.draft.Shared.{Shared}
 pub use Rattle.lu_source_text.specs.declared.fault.SourceFaultKind.{SourceFaultKind as Kind}
 use Rattle.lu_source_text.specs.declared.fault.SourceFaultKind.TheVariants.{Byte, Missing, Form, Number as Number', Limit, Registers, Flow, Name}
@@ -152,10 +152,6 @@ nothing = record {
 abbrev pub position_from : ℕ → List Word → Word → Option ℕ
 position_from k [] name = None
 position_from k (x ∷ xs) name = if bytes_eq x name then Some k else position_from (k + 1) xs name
-
-abbrev pub constant_from : List Constant → Word → Option ℕ
-constant_from [] name = None
-constant_from (c ∷ cs) name = if bytes_eq c.name name then Some c.value else constant_from cs name
 
 -- the number of a shared word, from k on, and whether an index follows
 abbrev pub shared_from : ℕ → List Shared → Word → Option (ℕ × Bool)

@@ -4,6 +4,7 @@
 mod begins;
 mod blocks;
 mod closing;
+mod constants;
 mod declaration;
 mod draft;
 mod expression;

@@ -11,6 +11,7 @@ ghost use Rattle.lu_source_text.specs.Readers.{GivesDraft, GivesSource, IsCompil
 ghost use Rattle.lu_source_text.specs.Reads.{DraftIs, DraftTakes, in_line};
 
 use crate::closing::close_line;
+use crate::constants::Constants;
 use crate::declaration::{declaration, object_line};
 use crate::draft::{Begun, Draft};
 use crate::fault::{Refusal, SourceFault, SourceFaultKind};
@@ -35,7 +36,7 @@ pub(crate) fn new_draft(alloc: Global) -> Draft
     Draft {
         name: None,
         local: None,
-        constants: Vec::new(alloc),
+        constants: Constants::new(alloc),
         words: Vec::new(alloc),
         locks: Vec::new(alloc),
         operations: Vec::new(alloc),
