@@ -13,7 +13,7 @@ use Rattle.lu_source.specs.Expressions.Expr.{Number, Local, Swap}
 use Rattle.lu_source_text.specs.declared.infix.Infix.{Infix}
 use Rattle.lu_source_text.specs.declared.infix.Infix.TheVariants.{Or as Or', And as And', Joins}
 use Rattle.lu_source_text.specs.Grammar.{Inner, Kind, Read', Scope, all_read, after_word, binding, cas_with, cell_with, closed_with, constant_from, either, expr_from, first_number, infix_from, infix_in, inner_by, is_free_name, is_word, joined, local_in, most_after, name_with, named_expr, number_of, on_first, on_ok, or_fault, pick_from, shared_from, steps_for, unary_with, unless, where_some}
-use Rattle.lu_source_text.specs.declared.draft.Constant.{Constant}
+use Rattle.lu_source_text.specs.Constants.{Constant}
 use Rattle.lu_source_text.specs.declared.draft.Shared.{Shared}
 use Rattle.lu_source_text.specs.declared.fault.SourceFaultKind.TheVariants.{Form, Number as Number', Limit, Name}
 use Rattle.lu_source.specs.Sound.{IsExpr}

@@ -1,5 +1,7 @@
 mod Beginning
 mod Examples
+mod LookedUp
+mod Nested
 pub mod Kept
 pub mod Lines
 pub mod Drafts

@@ -43,7 +43,7 @@ abbrev pub drafted_of : Draft → Drafted
 drafted_of d = record {
   name = d.name;
   local = d.local;
-  constants = d.constants.items;
+  constants = d.constants;
   words = d.words.items;
   locks = d.locks.items;
   operations = map operation_of d.operations.items;

@@ -1,6 +1,6 @@
 -- The text of a source: what each line says, or what is wrong with it.
 use Rattle.std.specs.Prelude.{ℕ, zero, suc, ◌+◌, ◌==◌, nat_lt, nat_le, Bool, true, false, not, ◌&&◌, ◌||◌, if◌then◌else◌, List, [], ◌∷◌, ◌++◌, drop, length, map, take, slice_index, Option, Some, None, is_some, Result, Ok, Err, codes}
-use Rattle.std.specs.List.{list_all, list_any, position}
+use Rattle.std.specs.List.{filter, list_all, list_any, position}
 use Rattle.std.specs.Option.{unwrap_or, option_map}
 use Rattle.std.specs.Str.{bytes_eq}
 use Rattle.lu_text.specs.Names.{has_name_form, is_long, is_name_part}
@@ -10,7 +10,7 @@ use Rattle.lu_text.specs.Words.{Word, exactly_one}
 use Rattle.lu_text.specs.Faults.{Grammar}
 use Rattle.lu_component.specs.declared.instr.Operand.{Operand}
 use Rattle.lu_component.specs.declared.instr.Operand.TheVariants.{Num}
-use Rattle.lu_source_text.specs.declared.draft.Constant.{Constant}
+pub use Rattle.lu_source_text.specs.Constants.{Constant, constant_from}
 use Rattle.lu_source_text.specs.declared.draft.Shared.{Shared}
 pub use Rattle.lu_source_text.specs.declared.fault.SourceFaultKind.{SourceFaultKind as Kind}
 use Rattle.lu_source_text.specs.declared.fault.SourceFaultKind.TheVariants.{Byte, Missing, Form, Number as Number', Limit, Registers, Flow, Name}
@@ -152,10 +152,6 @@ nothing = record {
 abbrev pub position_from : ℕ → List Word → Word → Option ℕ
 position_from k [] name = None
 position_from k (x ∷ xs) name = if bytes_eq x name then Some k else position_from (k + 1) xs name
-
-abbrev pub constant_from : List Constant → Word → Option ℕ
-constant_from [] name = None
-constant_from (c ∷ cs) name = if bytes_eq c.name name then Some c.value else constant_from cs name
 
 -- the number of a shared word, from k on, and whether an index follows
 abbrev pub shared_from : ℕ → List Shared → Word → Option (ℕ × Bool)
@@ -816,11 +812,26 @@ abbrev pub by_words : Drafted → List Word → Result Drafted Kind
 by_words d [] = Ok d
 by_words d (w ∷ ws) = worded_line d w ws
 
--- a line of bytes that are allowed, with at most 256 words
+-- Whether a word makes an expression of others, or lets one stand in another: an operator, `(` or
+-- `[`.
+abbrev pub is_nesting : Word → Bool
+is_nesting w =
+    is_some (infix_in w)
+    || (is_word w (codes "!") || (is_word w (codes "(") || is_word w (codes "[")))
+
+-- how many of the words do
+abbrev pub nesting : List Word → ℕ
+nesting ws = length (filter is_nesting ws)
+
+-- whether a line has more words, or more operators, `(` and `[`, than it may have
+abbrev pub is_too_long : List Word → Bool
+is_too_long ws = nat_lt 256 (length ws) || nat_lt 64 (nesting ws)
+
+-- a line of bytes that are allowed, with at most 256 words and 64 operators, `(` and `[`
 unfoldable pub line_of : Drafted → List ℕ → Result Drafted Kind
 line_of d line =
     unless (not (list_all is_allowed line)) Byte
-    (unless (nat_lt 256 (length (source_words line))) Limit (by_words d (source_words line)))
+    (unless (is_too_long (source_words line)) Limit (by_words d (source_words line)))
 
 abbrev pub program_of : Drafted → Option Word → Option Begun → Result Program Kind
 program_of d None begun = Err Missing

@@ -1,3 +1,4 @@
+pub mod Constants
 pub mod Kinds
 pub mod Grammar
 pub mod Begins

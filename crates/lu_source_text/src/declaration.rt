@@ -8,10 +8,11 @@ ghost use Rattle.lu_source.specs.Programs.{operation_of};
 ghost use Rattle.lu_source_text.specs.Grammar as spec;
 ghost use Rattle.lu_source_text.specs.Reads.{DraftIs, ReadsAlone, ReadsBegun, ReadsNames, ReadsSize, in_draft, in_line};
 
-use crate::draft::{Begun, Block, Constant, Draft, Opening, Shared};
+use crate::constants::Constants;
+use crate::draft::{Begun, Block, Draft, Opening, Shared};
 use crate::expression::{after_word, first_number, first_word, last_word, nothing_left};
 use crate::fault::{Refusal, SourceFaultKind};
-use crate::names::{constant_from, is_free_name, position_from, shared_from};
+use crate::names::{is_free_name, position_from, shared_from};
 use lu_component::{
     Array, MOST_ARGUMENTS, MOST_ARRAYS, MOST_CELLS, MOST_LOCAL, MOST_LOCKS, MOST_OPS,
 };
@@ -23,7 +24,7 @@ use std::alloc::Global;
 fn is_taken(draft: &Draft, locals: &[Name], word: &[u8]) -> bool
     ensures { result ≡ spec.is_taken (drafted_of draft.now) locals.now word.now }
 {
-    constant_from(&draft.constants, word).is_some()
+    draft.constants.get(word).is_some()
         || shared_from(0, &draft.words, word).is_some()
         || position_from(0, &draft.locks, word).is_some()
         || position_from(0, locals, word).is_some()
@@ -68,7 +69,7 @@ pub(crate) fn object_line(alloc: Global, draft: &mut Draft, words: &[&[u8]]) -> 
 }
 
 /// A number, after which no word is left.
-fn last_number(constants: &[Constant], words: &[&[u8]]) -> Result<u32, Refusal>
+fn last_number(constants: &Constants, words: &[&[u8]]) -> Result<u32, Refusal>
     ensures { ReadsAlone result (spec.last_number constants.now (texts words.now)) }
 {
     let (number, rest) = first_number(constants, words)?;
@@ -99,7 +100,7 @@ fn const_line(alloc: Global, draft: &mut Draft, words: &[&[u8]]) -> Result<(), R
     let name = new_name(alloc, draft, &[], word)?;
     let more = after_word(b"=".as_slice(), rest)?;
     let value = last_number(&draft.constants, more)?;
-    draft.constants.push(Constant { name, value })?;
+    draft.constants.declare(alloc, &name, value)?;
     Ok(())
 }
 

@@ -8,10 +8,10 @@ ghost use Rattle.lu_source.specs.Evaluations.{expr_of};
 ghost use Rattle.lu_source_text.specs.Grammar as spec;
 ghost use Rattle.lu_source_text.specs.Reads.{ReadsCell, ReadsExpr, ReadsAlone, ReadsNumber, ReadsWord, ReadsWords, by_steps, infix_after, meanings};
 
-use crate::draft::Constant;
+use crate::constants::Constants;
 use crate::fault::{Refusal, SourceFaultKind};
 use crate::infix::{Infix, binding, infix_in, most_after};
-use crate::names::{constant_from, is_free_name, position_from, shared_from};
+use crate::names::{is_free_name, position_from, shared_from};
 use crate::scope::{Cell, Scope};
 use lu_source::Expr;
 use lu_text::{Name, value_in};
@@ -61,13 +61,13 @@ pub(crate) fn last_word(text: &[u8], words: &[&[u8]]) -> Result<(), Refusal>
 
 /// A number, and the words after it.
 pub(crate) fn first_number<'a>(
-    constants: &[Constant],
+    constants: &Constants,
     words: &'a [&'a [u8]],
 ) -> Result<(u32, &'a [&'a [u8]]), Refusal>
     ensures { ReadsNumber result (spec.first_number constants.now (texts words.now)) }
 {
     let (word, rest) = first_word(words)?;
-    let number = value_in(word).or(constant_from(constants, word));
+    let number = value_in(word).or(constants.get(word));
     let number = number.ok_or(Refusal::Kind(SourceFaultKind::Number))?;
     Ok((number, rest))
 }
@@ -95,7 +95,7 @@ fn joined(alloc: Global, by: Infix, left: Expr, right: Expr) -> Result<Expr, All
 }
 
 /// `(K)` after `pick`.
-fn pick_from<'a>(constants: &[Constant], words: &'a [&'a [u8]]) -> Result<Parsed<'a>, Refusal>
+fn pick_from<'a>(constants: &Constants, words: &'a [&'a [u8]]) -> Result<Parsed<'a>, Refusal>
     ensures { ReadsExpr result (spec.pick_from constants.now (texts words.now)) }
 {
     let inside = after_word(b"(".as_slice(), words)?;
@@ -161,7 +161,7 @@ fn name_with<'a>(
     if let Some(register) = local_in(scope.locals, word) {
         return Ok((Expr::Local(register), words));
     }
-    if let Some(value) = constant_from(scope.constants, word) {
+    if let Some(value) = scope.constants.get(word) {
         return Ok((Expr::Number(value), words));
     }
     let (cell, rest) = cell_with(alloc, steps, scope, word, words)?;

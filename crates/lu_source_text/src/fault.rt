@@ -28,8 +28,8 @@ pub enum SourceFaultKind {
     /// constant.
     Number,
 
-    /// `O5`: a limit is passed: of a number, of a name's length, of a line's words, or by one
-    /// array, lock, operation, argument, line, block or instruction too many.
+    /// `O5`: a limit is passed: of a number, of a name's length, of a line's words, of its operators,
+    /// `(` and `[`, or by one array, lock, operation, argument, line, block or instruction too many.
     Limit,
 
     /// `O8`: more than 8 registers.

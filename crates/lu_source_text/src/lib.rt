@@ -4,7 +4,9 @@
 mod begins;
 mod blocks;
 mod closing;
+mod constants;
 mod declaration;
+mod depth;
 mod draft;
 mod expression;
 mod fault;
@@ -20,6 +22,7 @@ mod statement;
 mod words;
 
 pub use begins::is_source;
+pub use depth::{MOST_NESTING, nesting};
 pub use fault::{SourceFault, SourceFaultKind};
 pub use laws::reader_laws;
 pub use names::is_free_name;

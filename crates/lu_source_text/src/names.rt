@@ -5,7 +5,7 @@ ghost use Rattle.lu_source_text.specs.Grammar as spec;
 ghost use Rattle.lu_source_text.specs.Grammar.{declaring, either, is_among, stating, valued};
 ghost use Rattle.lu_text.specs.Numbers.{value_in as a_value};
 
-use crate::draft::{Constant, Shared};
+use crate::draft::Shared;
 use lu_text::{Name, has_name_form, value_in};
 
 /// Where a name stands in a list of names, counted on from a number.
@@ -21,22 +21,6 @@ pub(crate) fn position_from(before: usize, names: &[Name], word: &[u8]) -> Optio
                 Some(before)
             } else {
                 position_from(before + 1, rest, word)
-            }
-        }
-    }
-}
-
-/// The value of the constant of this name.
-pub(crate) fn constant_from(constants: &[Constant], word: &[u8]) -> Option<u32>
-    ensures { result ≡ spec.constant_from constants.now word.now }
-{
-    match constants {
-        [] => None,
-        [first, rest @ ..] => {
-            if first.name.is(word) {
-                Some(first.value)
-            } else {
-                constant_from(rest, word)
             }
         }
     }

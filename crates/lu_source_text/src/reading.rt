@@ -11,7 +11,9 @@ ghost use Rattle.lu_source_text.specs.Readers.{GivesDraft, GivesSource, IsCompil
 ghost use Rattle.lu_source_text.specs.Reads.{DraftIs, DraftTakes, in_line};
 
 use crate::closing::close_line;
+use crate::constants::Constants;
 use crate::declaration::{declaration, object_line};
+use crate::depth::{MOST_NESTING, nesting};
 use crate::draft::{Begun, Draft};
 use crate::fault::{Refusal, SourceFault, SourceFaultKind};
 use crate::source::Source;
@@ -35,7 +37,7 @@ pub(crate) fn new_draft(alloc: Global) -> Draft
     Draft {
         name: None,
         local: None,
-        constants: Vec::new(alloc),
+        constants: Constants::new(alloc),
         words: Vec::new(alloc),
         locks: Vec::new(alloc),
         operations: Vec::new(alloc),
@@ -87,6 +89,13 @@ fn worded_line(
     }
 }
 
+/// Whether a line has more words, or more operators, `(` and `[`, than it may have.
+fn is_too_long(words: &[&[u8]]) -> bool
+    ensures { result ≡ spec.is_too_long (texts words.now) }
+{
+    words.len() > MOST_WORDS || nesting(words) > MOST_NESTING
+}
+
 #[tactic(auto, unfolding(crate::specs::Grammar::line_of))]
 fn read_line(alloc: Global, draft: &mut Draft, text: &[u8]) -> Result<(), Refusal>
     ensures { DraftIs result draft.new (spec.line_of (drafted_of draft.old) text.now) }
@@ -95,7 +104,7 @@ fn read_line(alloc: Global, draft: &mut Draft, text: &[u8]) -> Result<(), Refusa
         return Err(Refusal::Kind(SourceFaultKind::Byte));
     }
     let words = source_words(alloc, text)?;
-    if words.len() > MOST_WORDS {
+    if is_too_long(&words) {
         return Err(Refusal::Kind(SourceFaultKind::Limit));
     }
     match words.split_first() {

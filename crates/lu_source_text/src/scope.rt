@@ -2,14 +2,15 @@
 
 ghost use Rattle.std.specs.Prelude.{◌≤◌, length};
 
-use crate::draft::{Constant, Shared};
+use crate::constants::Constants;
+use crate::draft::Shared;
 use lu_source::Expr;
 use lu_text::Name;
 
 /// What names mean where an expression stands.
 #[derive(Clone, Copy, Drop)]
 pub(crate) struct Scope<'a> {
-    pub constants: &'a [Constant],
+    pub constants: &'a Constants,
     pub words: &'a [Shared],
 
     /// The locals, by their registers.
