@@ -1,0 +1,46 @@
+use Rattle.std.proofs.Common.{arith, rules, ◌≡◌, true, false, refl, ◌∙◌, subst}
+use Rattle.lu_always.specs.Searching.{IsBad, IsGoodIfBlocked, IsVisit, HasAllNext, node_at, node_of}
+use Rattle.lu_always.proofs.Keeping.{base_adds, base_grows, base_node, can_none, only_first, searched_next, searched_none, shows_all, shows_failing}
+use Rattle.lu_client.proofs.OneCalls.{within_some}
+use Rattle.lu_always.proofs.searching.find_verdict.Goals as goal
+
+pub loop-index-init : goal.loop-index-init
+loop-index-init c =
+    let s = c.in_ok-machine.machine in (
+      searched_none c.args.table.now s c.store.new.all.items c.in_ok-new.field-0 c.in_ok-store.ensures.there (c.in_ok-store.ensures.grows.stand (can_none s c.new-all.result.items c.new-all.ensures.items)) c.in_ok-new.ensures
+          (only_first (node_at s c.in_ok-new.field-0) c.new-all.result.items c.store.new.all.items c.new-all.ensures.items c.in_ok-store.ensures.only),
+      record { component = refl; matrix_is = refl },
+    )
+
+pub returns-then-index-len : goal.returns-then-index-len
+returns-then-index-len c =
+    shows_all c.args.component.now c.args.matrix.now c.args.table.now c.in_ok-machine.machine c.in_ok-machine.ensures.starts c.loop-index.index c.loop-index.all.items
+    (omega (arith, c.if-index-len.true, c.len.ensures)) c.loop-index.invariant.0
+
+pub loop-index-preserved : goal.loop-index-preserved
+loop-index-preserved c =
+    let s = c.in_ok-machine.machine in
+    let machine = c.loop-index.machine in
+    let old = c.loop-index.all.items in
+    let new = c.visit.new.all.items in
+    let same = c.loop-index.invariant.1 in
+    let sure : c.in_ok-visit.field-0 ≡ true = search rules in
+    let is : IsVisit c.args.table.now machine old c.loop-index.index new true = subst (IsVisit c.args.table.now machine old c.loop-index.index new) sure c.in_ok-visit.ensures.visit in (
+      searched_next c.args.table.now s c.loop-index.index old new (omega (arith, c.if-index-len.false, c.len.ensures)) c.loop-index.invariant.0
+          (base_grows s machine old new same c.in_ok-visit.ensures.grows)
+          (λ kept at.
+          (let one = base_node s machine kept same in
+          (subst (IsGoodIfBlocked c.args.table.now) one (is.0 kept at), subst (HasAllNext c.args.table.now new) one (is.1 kept at))))
+          (λ kept at. base_adds c.args.table.now s machine same kept old new (c.in_ok-visit.ensures.new kept at)),
+      record { component = c.in_ok-visit.ensures.component ∙ same.component; matrix_is = c.in_ok-visit.ensures.matrix ∙ same.matrix_is },
+    )
+
+pub returns-then-not-branch : goal.returns-then-not-branch
+returns-then-not-branch c =
+    let s = c.in_ok-machine.machine in
+    let here = within_some c.loop-index.all.items c.loop-index.index (omega (arith, c.if-index-len.false, c.len.ensures)) in
+    let unsure : c.in_ok-visit.field-0 ≡ false = search rules in
+    let found : IsVisit c.args.table.now c.loop-index.machine c.loop-index.all.items c.loop-index.index c.visit.new.all.items false = subst (IsVisit c.args.table.now c.loop-index.machine c.loop-index.all.items c.loop-index.index c.visit.new.all.items) unsure c.in_ok-visit.ensures.visit in
+    let bad = found here.0 here.1 in
+    shows_failing c.args.component.now c.args.matrix.now c.args.table.now s c.in_ok-machine.ensures.starts (node_of s here.0) (c.loop-index.invariant.0.reached here.0 (c.loop-index.index, here.1))
+    (subst (IsBad c.args.table.now) (base_node s c.loop-index.machine here.0 c.loop-index.invariant.1) bad)

@@ -1,0 +1,6 @@
+pub mod Always
+pub mod OneRound
+pub mod Tables
+pub mod Reading
+pub mod Nodes
+pub mod Searching

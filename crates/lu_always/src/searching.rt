@@ -1,0 +1,167 @@
+//! The search of all nodes.
+
+ghost use Rattle.std.specs.Prelude.{◌≡◌, ◌<◌, IfOk, OnOk, false, length, true};
+ghost use Rattle.lu_component.specs.Component.{IsComponent};
+ghost use Rattle.lu_machine.specs.Positions.{CanStandAt, at_position};
+ghost use Rattle.lu_machine.specs.Starts.{CanRun};
+ghost use Rattle.lu_machine.specs.Steps.{IsFeasible};
+ghost use Rattle.lu_always.specs.Searching.{AddsAt, Adds, AddsOnly, AllCanStand, Grows, HasAllNextOf, HasNextOf, HasNodeFor, IsBad, IsGoodIfBlocked, IsVerdict, IsVisit, node_at};
+
+use crate::following::after_move;
+use crate::judging::is_good;
+use crate::standing::is_blocked;
+use crate::stepping::client_step;
+use crate::stored::{StoredNode, has};
+use crate::table::AnswerTable;
+use crate::verdicts::Verdict;
+use lu_component::Component;
+use lu_linearization::Monitor;
+use lu_machine::{Machine, Position};
+use lu_test::{Matrix, Move};
+use std::alloc::{AllocError, Global};
+
+/// Stores the node of this state and this monitor, unless it is stored already.
+pub(crate) fn store(
+    alloc: Global,
+    machine: &Machine<'_>,
+    monitor: Monitor,
+    all: &mut Vec<StoredNode>,
+) -> Result<(), AllocError>
+    ensures grows { OnOk result (Grows machine.now all.old.items all.new.items) }
+    ensures there { OnOk result (HasNodeFor all.new.items (node_at machine.now monitor)) }
+    ensures only { OnOk result (AddsOnly machine.now monitor all.old.items all.new.items) }
+{
+    let position = machine.position(alloc)?;
+    if has(all.as_slice(), &position, &monitor) {
+        return Ok(());
+    }
+    all.push(StoredNode { position, monitor })?;
+    Ok(())
+}
+
+/// Stores the node to which the move leads from this state and this monitor. The machine returns to
+/// the state.
+fn store_next(
+    alloc: Global,
+    machine: &mut Machine<'_>,
+    home: &Position,
+    monitor: &Monitor,
+    table: &AnswerTable,
+    next: Move,
+    all: &mut Vec<StoredNode>,
+) -> Result<(), AllocError>
+    requires feasible { IsFeasible machine.old next }
+    requires stands { CanStandAt machine.old.component machine.old.matrix home.now }
+    requires here { at_position machine.old home.now ≡ machine.old }
+    ensures home { OnOk result (machine.new ≡ machine.old) }
+    ensures grows { OnOk result (Grows machine.old all.old.items all.new.items) }
+    ensures next { OnOk result (HasNextOf table.now machine.old monitor.now next all.new.items) }
+    ensures new { OnOk result
+        (Adds table.now machine.old monitor.now all.old.items all.new.items) }
+{
+    let event = client_step(alloc, machine, next)?;
+    let after = after_move(alloc, machine, monitor, table, event)?;
+    store(alloc, machine, after, all)?;
+    machine.stand_at(home);
+    Ok(())
+}
+
+/// Stores all nodes to which moves lead from this state and this monitor. The machine returns to the
+/// state.
+pub(crate) fn store_all_next(
+    alloc: Global,
+    machine: &mut Machine<'_>,
+    home: &Position,
+    monitor: &Monitor,
+    table: &AnswerTable,
+    all: &mut Vec<StoredNode>,
+) -> Result<(), AllocError>
+    requires component { IsComponent machine.old.component }
+    requires stands { CanStandAt machine.old.component machine.old.matrix home.now }
+    requires here { at_position machine.old home.now ≡ machine.old }
+    ensures home { OnOk result (machine.new ≡ machine.old) }
+    ensures grows { OnOk result (Grows machine.old all.old.items all.new.items) }
+    ensures next { OnOk result (HasAllNextOf table.now machine.old monitor.now all.new.items) }
+    ensures new { OnOk result
+        (Adds table.now machine.old monitor.now all.old.items all.new.items) }
+{
+    for thread in 0..machine.threads() {
+        for pick in 0..machine.picks(thread) {
+            let next = Move { thread, pick };
+            store_next(alloc, machine, home, monitor, table, next, all)?;
+        }
+    }
+    Ok(())
+}
+
+/// Whether the node of this state and this monitor is good, if its open operations are blocked.
+fn is_well(machine: &Machine<'_>, monitor: &Monitor, table: &AnswerTable) -> bool
+    ensures well { result ≡ true → IsGoodIfBlocked table.now (node_at machine.now monitor.now) }
+    ensures bad { result ≡ false → IsBad table.now (node_at machine.now monitor.now) }
+{
+    if is_blocked(machine) {
+        return is_good(machine, monitor, table);
+    }
+    true
+}
+
+/// Searches the node at this index. False where its open operations are blocked and it is not good;
+/// otherwise stores all nodes to which moves lead from it.
+fn visit(
+    alloc: Global,
+    machine: &mut Machine<'_>,
+    table: &AnswerTable,
+    index: usize,
+    all: &mut Vec<StoredNode>,
+) -> Result<bool, AllocError>
+    requires sound { IsComponent machine.old.component }
+    requires there { index < length all.old.items }
+    requires stand { AllCanStand machine.old all.old.items }
+    ensures component { OnOk result (machine.new.component ≡ machine.old.component) }
+    ensures matrix { OnOk result (machine.new.matrix ≡ machine.old.matrix) }
+    ensures grows { OnOk result (Grows machine.old all.old.items all.new.items) }
+    ensures visit { IfOk result
+        (IsVisit table.now machine.old all.old.items index all.new.items) }
+    ensures new { OnOk result
+        (AddsAt table.now machine.old index all.old.items all.new.items) }
+{
+    let monitor = all[index].monitor.try_clone(alloc)?;
+    machine.stand_at(&all[index].position);
+    if !is_well(machine, &monitor, table) {
+        return Ok(false);
+    }
+    let home = machine.position(alloc)?;
+    store_all_next(alloc, machine, &home, &monitor, table, all)?;
+    Ok(true)
+}
+
+/// Whether all matrices that are unrolled from this one without a limit of rounds are linearizable.
+/// `table` is the table of its serial histories; if it is not, the verdict means nothing. No more
+/// than `most` nodes are searched.
+///
+/// # Errors
+///
+/// Out of memory.
+pub fn find_verdict(
+    alloc: Global,
+    component: &Component,
+    matrix: &Matrix,
+    table: &AnswerTable,
+    most: usize,
+) -> Result<Verdict, AllocError>
+    requires { CanRun component.now matrix.now }
+    ensures { IfOk result (IsVerdict component.now matrix.now table.now) }
+{
+    let mut machine = Machine::start(alloc, component, matrix)?;
+    let mut all = Vec::new(alloc);
+    store(alloc, &machine, Monitor::new(alloc, 0)?, &mut all)?;
+    for index in 0..most {
+        if index >= all.len() {
+            return Ok(Verdict::AlwaysLinearizable);
+        }
+        if !visit(alloc, &mut machine, table, index, &mut all)? {
+            return Ok(Verdict::Fails);
+        }
+    }
+    Ok(Verdict::Undecided)
+}

@@ -1,0 +1,46 @@
+//! Nodes as they are stored.
+
+ghost use Rattle.std.specs.Prelude.{◌≡◌, IsTrue};
+ghost use Rattle.lu_always.specs.Searching.{HasStored, IsStored};
+
+use lu_linearization::{Configuration, Monitor};
+use lu_machine::Position;
+use std::cmp::Ordering;
+
+/// A position of the client, with a monitor.
+#[derive(Drop)]
+pub struct StoredNode {
+    pub(crate) position: Position,
+    pub(crate) monitor: Monitor,
+}
+
+/// Whether both lists have the same configurations in the same order.
+fn are_same(a: &[Configuration], b: &[Configuration]) -> bool
+    ensures { IsTrue result → a.now ≡ b.now }
+{
+    match a.cmp(b) {
+        Ordering::Less => false,
+        Ordering::Equal => true,
+        Ordering::Greater => false,
+    }
+}
+
+/// Whether the stored node has this position and this monitor.
+fn is_stored(stored: &StoredNode, position: &Position, monitor: &Monitor) -> bool
+    ensures { IsTrue result → IsStored stored.now position.now monitor.now }
+{
+    stored.position == *position
+        && are_same(stored.monitor.configurations(), monitor.configurations())
+}
+
+/// Whether one of the stored nodes has this position and this monitor.
+pub(crate) fn has(all: &[StoredNode], position: &Position, monitor: &Monitor) -> bool
+    ensures { IsTrue result → HasStored all.now position.now monitor.now }
+{
+    for stored in all {
+        if is_stored(stored, position, monitor) {
+            return true;
+        }
+    }
+    false
+}
