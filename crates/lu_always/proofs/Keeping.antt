@@ -1,9 +1,10 @@
 -- Nodes that are kept.
-use Rattle.std.proofs.Common.{arith, ◌≡◌, ◌⊎◌, map, ℕ, zero, suc, ◌+◌, ◌<◌, ◌≤◌, true, List, [], ◌∷◌, ◌++◌, length, Option, Some, None, get_or, slice_get, refl, sym, ◌∙◌, ap, subst, inl, inr, append_assoc}
+use Rattle.std.proofs.Common.{arith, ◌≡◌, ◌⊎◌, map, reverse, ℕ, zero, suc, ◌+◌, ◌<◌, ◌≤◌, true, List, [], ◌∷◌, ◌++◌, length, Option, Some, None, get_or, slice_get, refl, sym, ◌∙◌, ap, subst, inl, inr, append_assoc}
 use Rattle.std.proofs.lemmas.Bool.{cases_lt}
-use Rattle.std.proofs.lemmas.List.{append-nil}
+use Rattle.std.proofs.lemmas.List.{append-nil, reverse-append}
 use Rattle.std.proofs.lemmas.Option.{get_or_from_slice_get, same_Some, slice_get-map, slice_get_past, slice_get_within}
-use Rattle.std.specs.Option.{option_map}
+use Rattle.std.specs.Global.{Vec}
+use Rattle.std.specs.Option.{option_and_then, option_map}
 use Rattle.lu_test.specs.declared.schedule.Move.{Move}
 use Rattle.lu_component.specs.Component.{Component}
 use Rattle.lu_test.specs.Matrix.{Matrix}
@@ -27,10 +28,12 @@ use Rattle.lu_client.specs.Rounds.Way.{InOrder}
 use Rattle.lu_client.specs.Clients.{AllBlocked, ClientStep}
 use Rattle.lu_client.specs.Stages.{IsIn, Stage}
 use Rattle.lu_client.proofs.OneCalls.{within_some}
+use Rattle.lu_always.specs.declared.stored.Arrival.{Arrival}
 use Rattle.lu_always.specs.declared.stored.StoredNode.{StoredNode}
-use Rattle.lu_always.specs.Searching.{AddsFrom, AreSearched, AllCanStand, ComesFrom, Grows, IsBad, IsGoodIfBlocked, IsStoredFor, IsReached, HasAllNext, HasNext, HasNodeFor, IsVerdict, Rows, node_at, node_of}
+use Rattle.lu_always.specs.Searching.{AddsAt, AddsFrom, AddsOnly, AllCanStand, AreArrivals, AreSearched, ComesFrom, Grows, HasAllNext, HasNext, HasNodeFor, IsArrival, IsBad, IsGoodIfBlocked, IsStoredFor, IsVerdict, Rows, arrived, node_at, node_of}
+use Rattle.lu_always.specs.Ways.{HasParentsBefore, IsWayBack, arrival_at}
 use Rattle.lu_always.specs.declared.verdicts.Verdict.TheVariants.{AlwaysLinearizable, Fails}
-use Rattle.lu_always.specs.Nodes.{AreNodes, IsAfterMove, IsGoodNode, IsMove, MovesLead, Node, Represents}
+use Rattle.lu_always.specs.Nodes.{AreNodes, IsAfterMove, IsFirst, IsGoodNode, IsMove, MovesLead, Node, Represents}
 use Rattle.lu_always.specs.Tables.{Table, table_of}
 use Rattle.lu_always.proofs.Likeness.{in_order_once}
 use Rattle.lu_always.proofs.Decided.{bad_node_fails, nodes_tell_all, none_dead}
@@ -118,23 +121,20 @@ next_made rows a m b event all monitor after made keeps is other others step =
       subst (λ e. IsAfterMove (table_of [] rows) other e monitor keeps.0.monitor) same.1 (subst (λ x. IsAfterMove (table_of [] rows) x event monitor keeps.0.monitor) one now),
     )
 
-pub adds_made : (rows : Rows) (a : State) (m : Move) (b : State) (event : Option Event) (old new : List StoredNode) (monitor after : List Shown) → ClientStep (InOrder None) a m b event → IsAfterMove (table_of [] rows) b event monitor after → ((kept : StoredNode) → IsIn new kept → IsIn old kept ⊎ IsStoredFor (node_at b after) kept) → AddsFrom rows a (node_at a monitor) old new
-adds_made rows a m b event old new monitor after step is only kept at =
-    elim (only kept at) as (λ _. IsIn old kept ⊎ ComesFrom rows a (node_at a monitor) kept) [
+pub adds_made : (rows : Rows) (a : State) (m : Move) (b : State) (event : Option Event) (index : ℕ) (old new : List StoredNode) (monitor after : List Shown) → ClientStep (InOrder None) a m b event → IsAfterMove (table_of [] rows) b event monitor after → AddsOnly b after (arrived index m) old new → AddsFrom rows a index (node_at a monitor) old new
+adds_made rows a m b event index old new monitor after step is only kept at =
+    elim (only kept at) as (λ _. IsIn old kept ⊎ ComesFrom rows a index (node_at a monitor) kept) [
       | inl before ↦ inl before
       | inr mine ↦
-          (let here : at_position a kept.position ≡ b = sym (base_at a b kept.position (moved_base a m b event step)) ∙ mine.0 in
-          inr (m, event, (b, step, subst (AreAlike [] b) (sym here) (alike_itself [] b), subst (λ x. IsAfterMove (table_of [] rows) b event monitor x) (sym mine.1) is)))
+          (let here : at_position a kept.position ≡ b = sym (base_at a b kept.position (moved_base a m b event step)) ∙ mine.0.0 in
+          inr (m, event, mine.1, (b, step, subst (AreAlike [] b) (sym here) (alike_itself [] b), subst (λ x. IsAfterMove (table_of [] rows) b event monitor x) (sym mine.0.1) is)))
     ]
 
-pub only_none : (node : Node) (all : List StoredNode) (kept : StoredNode) → IsIn all kept → IsIn all kept ⊎ IsStoredFor node kept
-only_none node all kept at = inl at
-
-pub only_one : (node : Node) (all new : List StoredNode) (one : StoredNode) → new ≡ all ++ one ∷ [] → IsStoredFor node one → (kept : StoredNode) → IsIn new kept → IsIn all kept ⊎ IsStoredFor node kept
-only_one node all new one is for kept at =
-    elim (at_push all one kept at.0 (ap (λ (xs : List StoredNode). slice_get xs at.0) (sym is) ∙ at.1)) as (λ _. IsIn all kept ⊎ IsStoredFor node kept) [
+pub only_one : (For : StoredNode → Type 0) (all new : List StoredNode) (one : StoredNode) → new ≡ all ++ one ∷ [] → For one → (kept : StoredNode) → IsIn new kept → IsIn all kept ⊎ For kept
+only_one For all new one is for kept at =
+    elim (at_push all one kept at.0 (ap (λ (xs : List StoredNode). slice_get xs at.0) (sym is) ∙ at.1)) as (λ _. IsIn all kept ⊎ For kept) [
       | inl before ↦ inl (at.0, before.1)
-      | inr last ↦ inr (subst (IsStoredFor node) (sym last.1) for)
+      | inr last ↦ inr (subst For (sym last.1) for)
     ]
 
 -- ---- all moves
@@ -143,17 +143,17 @@ only_one node all new one is for kept at =
 abbrev pub IsBelow : ℕ → ℕ → Move → Type 0
 IsBelow t p m = (m.thread < t) ⊎ ((m.thread ≡ t) × (m.pick < p))
 
-pub record SoFar (rows : Rows) (s : State) (monitor : List Shown) (old : List StoredNode) (machine : State) (all : List StoredNode) (t p : ℕ) : Type 0 where
+pub record SoFar (rows : Rows) (s : State) (monitor : List Shown) (index : ℕ) (old : List StoredNode) (machine : State) (all : List StoredNode) (t p : ℕ) : Type 0 where
   pub machine_is : machine ≡ s
   pub grows : Grows s old all
   pub below : (m : Move) → IsBelow t p m → HasNext rows all (node_at s monitor) m
-  pub adds : AddsFrom rows s (node_at s monitor) old all
+  pub adds : AddsFrom rows s index (node_at s monitor) old all
 
-module _ (rows : Rows) (s : State) (monitor : List Shown) (old : List StoredNode) where
-  pub far_none : SoFar rows s monitor old s old 0 0
+module _ (rows : Rows) (s : State) (monitor : List Shown) (index : ℕ) (old : List StoredNode) where
+  pub far_none : SoFar rows s monitor index old s old 0 0
   far_none = record { machine_is = refl; grows = grows_none s old; below = λ m below. elim below [ inl lt ↦ absurd (omega (arith, lt)) | inr at ↦ (let lt = at.1 in absurd (omega (arith, lt))) ]; adds = λ kept at. inl at }
 
-  pub far_more : (machine next : State) (all new : List StoredNode) (t p : ℕ) → SoFar rows s monitor old machine all t p → next ≡ machine → Grows machine all new → HasNext rows new (node_at machine monitor) (record { thread = t; pick = p }) → AddsFrom rows machine (node_at machine monitor) all new → SoFar rows s monitor old next new t (p + 1)
+  pub far_more : (machine next : State) (all new : List StoredNode) (t p : ℕ) → SoFar rows s monitor index old machine all t p → next ≡ machine → Grows machine all new → HasNext rows new (node_at machine monitor) (record { thread = t; pick = p }) → AddsFrom rows machine index (node_at machine monitor) all new → SoFar rows s monitor index old next new t (p + 1)
   far_more machine next all new t p far home grows keeps adds =
       let more : Grows s all new = subst (λ x. Grows x all new) far.machine_is grows in
       let here : HasNext rows new (node_at s monitor) (record { thread = t; pick = p }) = subst (λ x. HasNext rows new (node_at x monitor) (record { thread = t; pick = p })) far.machine_is keeps in
@@ -174,7 +174,7 @@ module _ (rows : Rows) (s : State) (monitor : List Shown) (old : List StoredNode
               ]
             ];
         adds = λ kept at.
-            elim (subst (λ x. AddsFrom rows x (node_at x monitor) all new) far.machine_is adds kept at) as (λ _. IsIn old kept ⊎ ComesFrom rows s (node_at s monitor) kept) [
+            elim (subst (λ x. AddsFrom rows x index (node_at x monitor) all new) far.machine_is adds kept at) as (λ _. IsIn old kept ⊎ ComesFrom rows s index (node_at s monitor) kept) [
               | inl before ↦ far.adds kept before
               | inr mine ↦ inr mine
             ];
@@ -183,7 +183,7 @@ module _ (rows : Rows) (s : State) (monitor : List Shown) (old : List StoredNode
   never : (all : List StoredNode) (m : Move) → picks_of s m.thread ≤ m.pick → HasNext rows all (node_at s monitor) m
   never all m past b event step = let it = (moves_in_order None s m b event).0 step in let lt = step_feasible s m it.0 event it.1 in absurd (omega (arith, lt, past))
 
-  pub far_turn : (machine : State) (all : List StoredNode) (t p : ℕ) → picks_of s t ≤ p → SoFar rows s monitor old machine all t p → SoFar rows s monitor old machine all (t + 1) 0
+  pub far_turn : (machine : State) (all : List StoredNode) (t p : ℕ) → picks_of s t ≤ p → SoFar rows s monitor index old machine all t p → SoFar rows s monitor index old machine all (t + 1) 0
   far_turn machine all t p over far =
       record {
         machine_is = far.machine_is;
@@ -207,7 +207,7 @@ module _ (rows : Rows) (s : State) (monitor : List Shown) (old : List StoredNode
   picks_past : (t : ℕ) → length s.threads ≤ t → picks_of s t ≡ 0
   picks_past t past = rw (slice_get_past s.threads t past) refl
 
-  pub far_all : (machine : State) (all : List StoredNode) (t p : ℕ) → length s.threads ≤ t → SoFar rows s monitor old machine all t p → HasAllNext rows all (node_at s monitor)
+  pub far_all : (machine : State) (all : List StoredNode) (t p : ℕ) → length s.threads ≤ t → SoFar rows s monitor index old machine all t p → HasAllNext rows all (node_at s monitor)
   far_all machine all t p past far m =
       elim (cases_lt m.thread t) as (λ _. HasNext rows all (node_at s monitor) m) [
         | inl less ↦ far.below m (inl less)
@@ -231,16 +231,17 @@ here_node machine new items number one two kept monitor first second same is at 
     ap (λ x. node_at x monitor) (is ∙ ap (λ (x : StoredNode). at_position machine x.position) other)
     ∙ ap (λ m. node_at (at_position machine kept.position) m) (same ∙ ap (λ (x : StoredNode). x.monitor) mine)
 
-pub adds_here : (rows : Rows) (machine new : State) (node here : Node) (old all : List StoredNode) → SameBase machine new → node ≡ here → AddsFrom rows new node old all → AddsFrom rows machine here old all
-adds_here rows machine new node here old all same is adds kept at =
-    elim (adds kept at) as (λ _. IsIn old kept ⊎ ComesFrom rows machine here kept) [
+pub adds_here : (rows : Rows) (machine new : State) (index : ℕ) (node here : Node) (old all : List StoredNode) → SameBase machine new → node ≡ here → AddsFrom rows new index node old all → AddsFrom rows machine index here old all
+adds_here rows machine new index node here old all same is adds kept at =
+    elim (adds kept at) as (λ _. IsIn old kept ⊎ ComesFrom rows machine index here kept) [
       | inl before ↦ inl before
       | inr mine ↦
           inr (
             mine.0,
             mine.1,
+            mine.2,
             subst (λ (x : Node). IsMove [] (table_of [] rows) (InOrder None) x mine.0 mine.1 (node_of machine kept)) is
-                (subst (λ (x : Node). IsMove [] (table_of [] rows) (InOrder None) node mine.0 mine.1 x) (base_node machine new kept same) mine.2),
+                (subst (λ (x : Node). IsMove [] (table_of [] rows) (InOrder None) node mine.0 mine.1 x) (base_node machine new kept same) mine.3),
           )
     ]
 
@@ -256,16 +257,73 @@ abbrev pub IsVisited : Rows → State → List StoredNode → ℕ → List Store
 IsVisited rows s old number new =
     (kept : StoredNode) → slice_get old number ≡ Some kept → IsGoodIfBlocked rows (node_of s kept) × HasAllNext rows new (node_of s kept)
 
-pub searched_next : (rows : Rows) (s : State) (n : ℕ) (all new : List StoredNode) → n < length all → AreSearched rows s n all → Grows s all new → IsVisited rows s all n new → ((kept : StoredNode) → slice_get all n ≡ Some kept → AddsFrom rows s (node_of s kept) all new) → AreSearched rows s (n + 1) new
-searched_next rows s n all new within are grows visited adds = record {
-  reached = λ kept at.
-      let here = within_some all n within in
-      elim (adds here.0 here.1 kept at) as (λ _. IsReached rows s (node_of s kept)) [
-        | inl before ↦ are.reached kept before
+-- ---- arrivals
+
+-- an arrival stays one as the list grows, for any later index too
+arrival_more : (rows : Rows) (s : State) (all new : List StoredNode) → Grows s all new → (kept : StoredNode) (i j : ℕ) → i ≤ j → (a : Option Arrival) → IsArrival rows s all i kept a → IsArrival rows s new j kept a
+arrival_more rows s all new grows kept i j le None is = is
+arrival_more rows s all new grows kept i j le (Some a) is =
+    let before = is.0 in
+    (omega (arith, before, le), is.1, ap (λ (x : List StoredNode). slice_get x a.parent) grows.parts ∙ kept_at all grows.more is.1 a.parent is.2, is.3, is.4)
+
+pub arrivals_more : (rows : Rows) (s : State) (n : ℕ) (all new : List StoredNode) → n < length all → AreArrivals rows s all → Grows s all new → AddsAt rows s n all new → AreArrivals rows s new
+arrivals_more rows s n all new within are grows adds i kept at =
+    let here = within_some all n within in
+    elim (cases_lt i (length all)) as (λ _. IsArrival rows s new i kept kept.arrival) [
+      | inl less ↦
+          (let old = old_at all grows.more i kept less (sym (ap (λ (x : List StoredNode). slice_get x i) grows.parts) ∙ at) in
+          arrival_more rows s all new grows kept i i (omega arith) kept.arrival (are i kept old))
+      | inr past ↦ elim (adds here.0 here.1 kept (i, at)) as (λ _. IsArrival rows s new i kept kept.arrival) [
+        | inl before ↦
+            (let lt = slice_get_within all before.0 kept before.1 in
+            arrival_more rows s all new grows kept before.0 i (omega (arith, lt, past)) kept.arrival (are before.0 kept before.1))
         | inr mine ↦
-            (let way = are.reached here.0 (n, here.1) in
-            (way.0, way.1 ++ mine.0 ∷ [], way.2, moves_on (table_of [] rows) way.1 way.0 (node_of s here.0) (node_of s kept) mine.0 mine.1 way.3 mine.2))
-      ];
+            subst (IsArrival rows s new i kept) (sym mine.2)
+            (omega (arith, within, past), here.0, ap (λ (x : List StoredNode). slice_get x n) grows.parts ∙ kept_at all grows.more here.0 n here.1, mine.1, mine.3)
+      ]
+    ]
+
+pub arrival_is : (list : List StoredNode) (i : ℕ) (kept : StoredNode) → slice_get list i ≡ Some kept → arrival_at list i ≡ kept.arrival
+arrival_is list i kept at = ap (option_and_then (λ (x : StoredNode). x.arrival)) at
+
+-- where there is an arrival, there is a node
+arrival_there : (list : List StoredNode) (i : ℕ) (a : Arrival) → arrival_at list i ≡ Some a → (kept : StoredNode) × (slice_get list i ≡ Some kept) × (kept.arrival ≡ Some a)
+arrival_there list i a is = by (slice_get list i) refl is
+  where
+    by : (o : Option StoredNode) → slice_get list i ≡ o → option_and_then (λ (x : StoredNode). x.arrival) o ≡ Some a → (kept : StoredNode) × (slice_get list i ≡ Some kept) × (kept.arrival ≡ Some a)
+    by None at h = absurd cc
+    by (Some kept) at h = (kept, at, h)
+
+pub parents_before : (rows : Rows) (s : State) (all : List StoredNode) → AreArrivals rows s all → HasParentsBefore all
+parents_before rows s all are i a is =
+    let there = arrival_there all i a is in
+    (subst (IsArrival rows s all i there.0) there.2 (are i there.0 there.1)).0
+
+-- where moves from the first node lead
+pub record WayFrom (rows : Rows) (s : State) (u : List Move) (node : Node) : Type 0 where
+  pub first : Node
+  pub is_first : IsFirst [] s first
+  pub lead : MovesLead [] (table_of [] rows) (InOrder None) first u node
+
+pub way_leads : (rows : Rows) (s : State) (all : List StoredNode) → AreArrivals rows s all → (back : List Move) (i : ℕ) → IsWayBack all i back → (kept : StoredNode) → slice_get all i ≡ Some kept → WayFrom rows s (reverse back) (node_of s kept)
+way_leads rows s all are [] i way kept at = record {
+  first = node_of s kept;
+  is_first = subst (IsArrival rows s all i kept) (sym (arrival_is all i kept at) ∙ way.1) (are i kept at);
+  lead = refl;
+}
+way_leads rows s all are (m ∷ back) i way kept at =
+    let a : Arrival = record { parent = way.0; by = m } in
+    let is : IsArrival rows s all i kept (Some a) = subst (IsArrival rows s all i kept) (sym (arrival_is all i kept at) ∙ way.1) (are i kept at) in
+    let before = way_leads rows s all are back way.0 way.2 is.1 is.2 in
+    record {
+      first = before.first;
+      is_first = before.is_first;
+      lead = subst (λ u. MovesLead [] (table_of [] rows) (InOrder None) before.first u (node_of s kept)) (sym (reverse-append (m ∷ []) back)) (moves_on (table_of [] rows) (reverse back) before.first (node_of s is.1) (node_of s kept) m is.3 before.lead is.4);
+    }
+
+pub searched_next : (rows : Rows) (s : State) (n : ℕ) (all new : List StoredNode) → n < length all → AreSearched rows s n all → Grows s all new → IsVisited rows s all n new → AddsAt rows s n all new → AreSearched rows s (n + 1) new
+searched_next rows s n all new within are grows visited adds = record {
+  arrivals = arrivals_more rows s n all new within are.arrivals grows adds;
   first = (are.first.0, in_more s all new grows are.first.0 are.first.1, are.first.2, are.first.3);
   stand = grows.stand are.stand;
   closed = λ i lt kept at.
@@ -282,11 +340,11 @@ searched_next rows s n all new within are grows visited adds = record {
       ];
 }
 
-pub searched_none : (rows : Rows) (s : State) (all : List StoredNode) (monitor : List Shown) → HasNodeFor all (node_at s monitor) → AllCanStand s all → AreInitial 0 monitor → ((kept : StoredNode) → IsIn all kept → IsStoredFor (node_at s monitor) kept) → AreSearched rows s 0 all
+pub searched_none : (rows : Rows) (s : State) (all : List StoredNode) (monitor : List Shown) → HasNodeFor all (node_at s monitor) → AllCanStand s all → AreInitial 0 monitor → ((kept : StoredNode) → IsIn all kept → IsStoredFor (node_at s monitor) kept × (kept.arrival ≡ None)) → AreSearched rows s 0 all
 searched_none rows s all monitor keeps can first only = record {
-  reached = λ kept at.
-      let mine = only kept at in
-      (node_of s kept, [], (subst (AreAlike [] s) (sym mine.0) (alike_itself [] s), subst (AreInitial 0) (sym mine.1) first), refl);
+  arrivals = λ i kept at.
+      let mine = only kept (i, at) in
+      subst (IsArrival rows s all i kept) (sym mine.1) (subst (AreAlike [] s) (sym mine.0.0) (alike_itself [] s), subst (AreInitial 0) (sym mine.0.1) first);
   first = (keeps.0, keeps.1, keeps.2.0, subst (AreInitial 0) (sym keeps.2.1) first);
   stand = can;
   closed = λ i lt kept at. absurd (omega (arith, lt));
@@ -310,9 +368,9 @@ can_none s all none kept is = absurd (nothing is.0 (ap (λ (xs : List StoredNode
     nothing zero at = cc
     nothing (suc i) at = cc
 
-pub only_first : (node : Node) (old new : List StoredNode) → old ≡ [] → ((kept : StoredNode) → IsIn new kept → IsIn old kept ⊎ IsStoredFor node kept) → (kept : StoredNode) → IsIn new kept → IsStoredFor node kept
-only_first node old new none only kept at =
-    elim (only kept at) as (λ _. IsStoredFor node kept) [
+pub only_first : (For : StoredNode → Type 0) (old new : List StoredNode) → old ≡ [] → ((kept : StoredNode) → IsIn new kept → IsIn old kept ⊎ For kept) → (kept : StoredNode) → IsIn new kept → For kept
+only_first For old new none only kept at =
+    elim (only kept at) as (λ _. For kept) [
       | inl before ↦ absurd (nothing before.0 (ap (λ (xs : List StoredNode). slice_get xs before.0) (sym none) ∙ before.1))
       | inr mine ↦ mine
     ]
@@ -321,16 +379,17 @@ only_first node old new none only kept at =
     nothing zero at = cc
     nothing (suc i) at = cc
 
-pub base_adds : (rows : Rows) (s machine : State) (same : SameBase s machine) (kept : StoredNode) (old new : List StoredNode) → AddsFrom rows machine (node_of machine kept) old new → AddsFrom rows s (node_of s kept) old new
-base_adds rows s machine same kept old new adds other at =
-    elim (adds other at) as (λ _. IsIn old other ⊎ ComesFrom rows s (node_of s kept) other) [
+pub base_adds : (rows : Rows) (s machine : State) (same : SameBase s machine) (index : ℕ) (kept : StoredNode) (old new : List StoredNode) → AddsFrom rows machine index (node_of machine kept) old new → AddsFrom rows s index (node_of s kept) old new
+base_adds rows s machine same index kept old new adds other at =
+    elim (adds other at) as (λ _. IsIn old other ⊎ ComesFrom rows s index (node_of s kept) other) [
       | inl before ↦ inl before
       | inr mine ↦
           inr (
             mine.0,
             mine.1,
+            mine.2,
             subst (λ (x : Node). IsMove [] (table_of [] rows) (InOrder None) x mine.0 mine.1 (node_of s other)) (base_node s machine kept same)
-                (subst (λ (x : Node). IsMove [] (table_of [] rows) (InOrder None) (node_of machine kept) mine.0 mine.1 x) (base_node s machine other same) mine.2),
+                (subst (λ (x : Node). IsMove [] (table_of [] rows) (InOrder None) (node_of machine kept) mine.0 mine.1 x) (base_node s machine other same) mine.3),
           )
     ]
 
@@ -394,9 +453,7 @@ moves_any stages others rows (m ∷ u) first node path = (
   moves_any stages others rows u path.0 node path.3,
 )
 
-pub shows_failing : (c : Component) (matrix : Matrix) (rows : Rows) (s : State) → IsStart c matrix s → (node : Node) → IsReached rows s node → IsBad rows node → IsVerdict c matrix rows Fails
-shows_failing c matrix rows s is node way bad stages bound tables = (
-  way.1,
-  bad_node_fails c None matrix bound s [] (table_of stages rows) way.0 way.1 node is (none_dead c) (tables s is) way.2 (moves_any stages [] rows way.1 way.0 node way.3) bad.0
-      (λ good. bad.1 (good_any [] stages rows node good)),
-)
+pub shows_failing : (c : Component) (matrix : Matrix) (rows : Rows) (s : State) → IsStart c matrix s → (moves : Vec Move) (node : Node) → WayFrom rows s moves.items node → IsBad rows node → IsVerdict c matrix rows (Fails moves)
+shows_failing c matrix rows s is moves node way bad stages bound tables =
+    bad_node_fails c None matrix bound s [] (table_of stages rows) way.first moves.items node is (none_dead c) (tables s is) way.is_first (moves_any stages [] rows moves.items way.first node way.lead) bad.0
+    (λ good. bad.1 (good_any [] stages rows node good))

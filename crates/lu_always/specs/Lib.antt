@@ -4,3 +4,4 @@ pub mod Tables
 pub mod Reading
 pub mod Nodes
 pub mod Searching
+pub mod Ways

@@ -1,5 +1,6 @@
 -- Nodes as they are stored, and a search of all nodes.
 use Rattle.std.specs.Prelude.{◌≡◌, ◌⊎◌, ℕ, ◌<◌, Bool, true, false, List, [], ◌++◌, Option, Some, None, slice_get}
+use Rattle.std.specs.Global.{Vec}
 use Rattle.lu_component.specs.Component.{Component}
 use Rattle.lu_test.specs.declared.schedule.Move.{Move}
 use Rattle.lu_test.specs.Matrix.{Matrix}
@@ -17,10 +18,11 @@ use Rattle.lu_client.specs.Rounds.Way.{InOrder}
 use Rattle.lu_client.specs.Clients.{AllBlocked, ClientStep, around}
 use Rattle.lu_client.specs.Alone.{rest_of}
 use Rattle.lu_client.specs.Stages.{IsIn, Stage}
+use Rattle.lu_always.specs.declared.stored.Arrival.{Arrival}
 use Rattle.lu_always.specs.declared.stored.StoredNode.{StoredNode}
 use Rattle.lu_always.specs.declared.verdicts.Verdict.{Verdict}
 use Rattle.lu_always.specs.declared.verdicts.Verdict.TheVariants.{AlwaysLinearizable, Fails, Undecided}
-use Rattle.lu_always.specs.Nodes.{IsAfterMove, IsFirst, IsGoodNode, IsMove, MovesLead, Node}
+use Rattle.lu_always.specs.Nodes.{IsAfterMove, IsFirst, IsGoodNode, IsMove, Node}
 use Rattle.lu_always.specs.Always.{FailsBy, IsAlwaysLinearizable}
 use Rattle.lu_always.specs.Tables.{Goes, IsTableOf, table_of}
 
@@ -106,26 +108,33 @@ HasNextOf rows s monitor m all = HasNext rows all (node_at s monitor) m
 abbrev pub HasAllNextOf : Rows → State → List Shown → List StoredNode → Type 0
 HasAllNextOf rows s monitor all = HasAllNext rows all (node_at s monitor)
 
--- some move leads to the stored node from this one
-abbrev pub ComesFrom : Rows → State → Node → StoredNode → Type 0
-ComesFrom rows s node stored =
-    (m : Move) × (event : Option Event)
+-- by the move m, from the node stored at this index
+abbrev pub arrived : ℕ → Move → Option Arrival
+arrived index m = Some (record { parent = index; by = m })
+
+-- some move leads to the stored node from this one, which is stored at this index
+abbrev pub ComesFrom : Rows → State → ℕ → Node → StoredNode → Type 0
+ComesFrom rows s index node stored =
+    (m : Move) × (event : Option Event) × (stored.arrival ≡ arrived index m)
     × IsMove [] (table_of [] rows) (InOrder None) node m event (node_of s stored)
 
--- some move leads to each new node from this one
-abbrev pub AddsFrom : Rows → State → Node → List StoredNode → List StoredNode → Type 0
-AddsFrom rows s node old new =
-    (stored : StoredNode) → IsIn new stored → IsIn old stored ⊎ ComesFrom rows s node stored
+-- some move leads to each new node from this one, which is stored at this index
+abbrev pub AddsFrom : Rows → State → ℕ → Node → List StoredNode → List StoredNode → Type 0
+AddsFrom rows s index node old new =
+    (stored : StoredNode) → IsIn new stored → IsIn old stored ⊎ ComesFrom rows s index node stored
 
--- some move leads to each new node from that of this state and this monitor
-abbrev pub Adds : Rows → State → List Shown → List StoredNode → List StoredNode → Type 0
-Adds rows s monitor old new = AddsFrom rows s (node_at s monitor) old new
+-- the same from the node of this state and this monitor
+abbrev pub Adds : Rows → State → List Shown → ℕ → Vec StoredNode → Vec StoredNode → Type 0
+Adds rows s monitor index old new =
+    AddsFrom rows s index (node_at s monitor) old.items new.items
 
--- each node of the new list is one of the old, or that of this state and this monitor
-abbrev pub AddsOnly : State → List Shown → List StoredNode → List StoredNode → Type 0
-AddsOnly s monitor old new =
+-- Each node of the new list is one of the old, or that of this state and this monitor, with this
+-- arrival.
+abbrev pub AddsOnly : State → List Shown → Option Arrival → List StoredNode → List StoredNode
+    → Type 0
+AddsOnly s monitor arrival old new =
     (stored : StoredNode) → IsIn new stored
-    → IsIn old stored ⊎ IsStoredFor (node_at s monitor) stored
+    → IsIn old stored ⊎ (IsStoredFor (node_at s monitor) stored × (stored.arrival ≡ arrival))
 
 -- where its open operations are blocked, the node is good
 abbrev pub IsGoodIfBlocked : Rows → Node → Type 0
@@ -148,22 +157,34 @@ IsVisit rows s old index new false = HoldsOf s old index (IsBad rows)
 
 -- some move leads to each new node from the one stored at this index
 abbrev pub AddsAt : Rows → State → ℕ → List StoredNode → List StoredNode → Type 0
-AddsAt rows s index old new = HoldsOf s old index (λ node. AddsFrom rows s node old new)
+AddsAt rows s index old new =
+    HoldsOf s old index (λ node. AddsFrom rows s index node old new)
 
--- moves lead to the node from the first one
-abbrev pub IsReached : Rows → State → Node → Type 0
-IsReached rows s node =
-    (first : Node) × (u : List Move) × IsFirst [] s first
-    × MovesLead [] (table_of [] rows) (InOrder None) first u node
+-- the node stored at this index was reached so: it is the first one; or a move leads to it from a
+-- node that is stored before it
+abbrev pub IsArrival : Rows → State → List StoredNode → ℕ → StoredNode → Option Arrival → Type 0
+IsArrival rows s all index stored None = IsFirst [] s (node_of s stored)
+IsArrival rows s all index stored (Some arrival) =
+    (arrival.parent < index)
+    × (parent : StoredNode) × (slice_get all arrival.parent ≡ Some parent)
+    × (event : Option Event)
+    × IsMove [] (table_of [] rows) (InOrder None)
+    (node_of s parent) arrival.by event (node_of s stored)
 
--- The list has the first node, and moves lead to each of its nodes. The nodes before this index are
--- searched: they are good if they are blocked, and the list has all nodes to which moves lead from
+-- each node was reached by its arrival
+abbrev pub AreArrivals : Rows → State → List StoredNode → Type 0
+AreArrivals rows s all =
+    (i : ℕ) (stored : StoredNode) → slice_get all i ≡ Some stored
+    → IsArrival rows s all i stored stored.arrival
+
+-- The list has the first node, and each node was reached by its arrival. The nodes before this index
+-- are searched: they are good if they are blocked, and the list has all nodes to which moves lead from
 -- them.
 pub record AreSearched (rows : Rows) (s : State) (index : ℕ) (all : List StoredNode) : Type 0 where
   pub first : (stored : StoredNode) × IsIn all stored × (at_position s stored.position ≡ s)
       × AreInitial 0 stored.monitor
   pub stand : AllCanStand s all
-  pub reached : (stored : StoredNode) → IsIn all stored → IsReached rows s (node_of s stored)
+  pub arrivals : AreArrivals rows s all
   pub closed : (i : ℕ) → i < index → HoldsOf s all i (HasAllNext rows all)
   pub good : (i : ℕ) → i < index → HoldsOf s all i (IsGoodIfBlocked rows)
 
@@ -173,13 +194,13 @@ IsTableFrom c matrix rows stages bound =
     FromEachStart c matrix
     (λ s. IsTableOf c (InOrder None) matrix bound (rest_of s) (table_of stages rows))
 
--- whether all unrolled matrices are linearizable, if the rows are the table of the serial histories
+-- whether all unrolled matrices are linearizable, or a schedule of one that fails, if the rows are the
+-- table of the serial histories
 abbrev pub IsVerdict : Component → Matrix → Rows → Verdict → Type 0
 IsVerdict c matrix rows AlwaysLinearizable =
     (stages : List Stage) (bound : ℕ) →
     IsTableFrom c matrix rows stages bound → IsAlwaysLinearizable c matrix (InOrder None) bound
-IsVerdict c matrix rows Fails =
+IsVerdict c matrix rows (Fails moves) =
     (stages : List Stage) (bound : ℕ) →
-    IsTableFrom c matrix rows stages bound
-    → (u : List Move) × FailsBy c matrix (InOrder None) u
+    IsTableFrom c matrix rows stages bound → FailsBy c matrix (InOrder None) moves.items
 IsVerdict c matrix rows Undecided = Unit {0}

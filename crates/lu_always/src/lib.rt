@@ -14,12 +14,13 @@ mod stepping;
 mod stored;
 mod table;
 mod verdicts;
+mod ways;
 
 pub use following::after_move;
 pub use judging::is_good;
 pub use laws::{always_laws, node_laws};
 pub use searching::find_verdict;
 pub use stepping::client_step;
-pub use stored::StoredNode;
+pub use stored::{Arrival, StoredNode};
 pub use table::AnswerTable;
 pub use verdicts::Verdict;

@@ -11,36 +11,42 @@ use crate::following::after_move;
 use crate::judging::is_good;
 use crate::standing::is_blocked;
 use crate::stepping::client_step;
-use crate::stored::{StoredNode, has};
+use crate::stored::{Arrival, StoredNode, has};
 use crate::table::AnswerTable;
 use crate::verdicts::Verdict;
+use crate::ways::way_to;
 use lu_component::Component;
 use lu_linearization::Monitor;
 use lu_machine::{Machine, Position};
 use lu_test::{Matrix, Move};
 use std::alloc::{AllocError, Global};
 
-/// Stores the node of this state and this monitor, unless it is stored already.
+/// Stores the node of this state and this monitor, with this arrival, unless it is stored already.
 pub(crate) fn store(
     alloc: Global,
     machine: &Machine<'_>,
     monitor: Monitor,
+    arrival: Option<Arrival>,
     all: &mut Vec<StoredNode>,
 ) -> Result<(), AllocError>
     ensures grows { OnOk result (Grows machine.now all.old.items all.new.items) }
     ensures there { OnOk result (HasNodeFor all.new.items (node_at machine.now monitor)) }
-    ensures only { OnOk result (AddsOnly machine.now monitor all.old.items all.new.items) }
+    ensures only { OnOk result (AddsOnly machine.now monitor arrival all.old.items all.new.items) }
 {
     let position = machine.position(alloc)?;
     if has(all.as_slice(), &position, &monitor) {
         return Ok(());
     }
-    all.push(StoredNode { position, monitor })?;
+    all.push(StoredNode {
+        position,
+        monitor,
+        arrival,
+    })?;
     Ok(())
 }
 
-/// Stores the node to which the move leads from this state and this monitor. The machine returns to
-/// the state.
+/// Stores the node to which the move leads from this state and this monitor, which are stored at
+/// the index `at`. The machine returns to the state.
 fn store_next(
     alloc: Global,
     machine: &mut Machine<'_>,
@@ -48,6 +54,7 @@ fn store_next(
     monitor: &Monitor,
     table: &AnswerTable,
     next: Move,
+    at: usize,
     all: &mut Vec<StoredNode>,
 ) -> Result<(), AllocError>
     requires feasible { IsFeasible machine.old next }
@@ -57,23 +64,28 @@ fn store_next(
     ensures grows { OnOk result (Grows machine.old all.old.items all.new.items) }
     ensures next { OnOk result (HasNextOf table.now machine.old monitor.now next all.new.items) }
     ensures new { OnOk result
-        (Adds table.now machine.old monitor.now all.old.items all.new.items) }
+        (Adds table.now machine.old monitor.now at all.old all.new) }
 {
     let event = client_step(alloc, machine, next)?;
     let after = after_move(alloc, machine, monitor, table, event)?;
-    store(alloc, machine, after, all)?;
+    let arrival = Arrival {
+        parent: at,
+        by: next,
+    };
+    store(alloc, machine, after, Some(arrival), all)?;
     machine.stand_at(home);
     Ok(())
 }
 
-/// Stores all nodes to which moves lead from this state and this monitor. The machine returns to the
-/// state.
+/// Stores all nodes to which moves lead from this state and this monitor, which are stored at the
+/// index `at`. The machine returns to the state.
 pub(crate) fn store_all_next(
     alloc: Global,
     machine: &mut Machine<'_>,
     home: &Position,
     monitor: &Monitor,
     table: &AnswerTable,
+    at: usize,
     all: &mut Vec<StoredNode>,
 ) -> Result<(), AllocError>
     requires component { IsComponent machine.old.component }
@@ -83,12 +95,12 @@ pub(crate) fn store_all_next(
     ensures grows { OnOk result (Grows machine.old all.old.items all.new.items) }
     ensures next { OnOk result (HasAllNextOf table.now machine.old monitor.now all.new.items) }
     ensures new { OnOk result
-        (Adds table.now machine.old monitor.now all.old.items all.new.items) }
+        (Adds table.now machine.old monitor.now at all.old all.new) }
 {
     for thread in 0..machine.threads() {
         for pick in 0..machine.picks(thread) {
             let next = Move { thread, pick };
-            store_next(alloc, machine, home, monitor, table, next, all)?;
+            store_next(alloc, machine, home, monitor, table, next, at, all)?;
         }
     }
     Ok(())
@@ -131,7 +143,7 @@ fn visit(
         return Ok(false);
     }
     let home = machine.position(alloc)?;
-    store_all_next(alloc, machine, &home, &monitor, table, all)?;
+    store_all_next(alloc, machine, &home, &monitor, table, index, all)?;
     Ok(true)
 }
 
@@ -154,13 +166,14 @@ pub fn find_verdict(
 {
     let mut machine = Machine::start(alloc, component, matrix)?;
     let mut all = Vec::new(alloc);
-    store(alloc, &machine, Monitor::new(alloc, 0)?, &mut all)?;
+    store(alloc, &machine, Monitor::new(alloc, 0)?, None, &mut all)?;
     for index in 0..most {
         if index >= all.len() {
             return Ok(Verdict::AlwaysLinearizable);
         }
         if !visit(alloc, &mut machine, table, index, &mut all)? {
-            return Ok(Verdict::Fails);
+            let moves = way_to(alloc, all.as_slice(), index)?;
+            return Ok(Verdict::Fails(moves));
         }
     }
     Ok(Verdict::Undecided)

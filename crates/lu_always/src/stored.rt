@@ -5,13 +5,24 @@ ghost use Rattle.lu_always.specs.Searching.{HasStored, IsStored};
 
 use lu_linearization::{Configuration, Monitor};
 use lu_machine::Position;
+use lu_test::Move;
 use std::cmp::Ordering;
+
+/// How a node was first reached: from the node stored at the index `parent`, by one move.
+#[derive(Clone, Copy, Debug)]
+pub struct Arrival {
+    pub(crate) parent: usize,
+    pub(crate) by: Move,
+}
 
 /// A position of the client, with a monitor.
 #[derive(Drop)]
 pub struct StoredNode {
     pub(crate) position: Position,
     pub(crate) monitor: Monitor,
+
+    /// How the node was first reached. None for the first node.
+    pub(crate) arrival: Option<Arrival>,
 }
 
 /// Whether both lists have the same configurations in the same order.

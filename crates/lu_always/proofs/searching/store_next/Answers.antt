@@ -26,5 +26,5 @@ returns-clause-next c =
 
 pub returns-clause-new : goal.returns-clause-new
 returns-clause-new c =
-    adds_made c.args.table.now c.args.machine.now c.args.next c.client_step.new.machine c.in_ok-event.event c.args.all.now.items c.store.new.all.items c.args.monitor.now c.in_ok-after.after
+    adds_made c.args.table.now c.args.machine.now c.args.next c.client_step.new.machine c.in_ok-event.event c.args.at c.args.all.now.items c.store.new.all.items c.args.monitor.now c.in_ok-after.after
     c.in_ok-event.ensures.step c.in_ok-after.ensures c.in_ok-store.ensures.only

@@ -28,4 +28,4 @@ pub returns-clause-new : goal.returns-clause-new
 returns-clause-new c = λ kept at.
     let same = here_node c.args.machine.now c.stand_at.new.self c.args.all.now.items c.args.index c.index.result.now c.index-2.result.now kept c.in_ok-monitor.monitor c.index.ensures c.index-2.ensures c.in_ok-monitor.ensures c.stand_at.ensures at in
     let base : SameBase c.args.machine.now c.stand_at.new.self = record { component = ap (λ (x : State). x.component) c.stand_at.ensures; matrix_is = ap (λ (x : State). x.matrix) c.stand_at.ensures } in
-    adds_here c.args.table.now c.args.machine.now c.stand_at.new.self (node_at c.stand_at.new.self c.in_ok-monitor.monitor) (node_of c.args.machine.now kept) c.args.all.now.items c.store_all_next.new.all.items base same c.in_ok-store_all_next.ensures.new
+    adds_here c.args.table.now c.args.machine.now c.stand_at.new.self c.args.index (node_at c.stand_at.new.self c.in_ok-monitor.monitor) (node_of c.args.machine.now kept) c.args.all.now.items c.store_all_next.new.all.items base same c.in_ok-store_all_next.ensures.new
