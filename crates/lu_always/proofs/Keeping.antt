@@ -224,10 +224,10 @@ pub base_node : (s machine : State) (kept : StoredNode) → SameBase s machine �
 base_node s machine kept same = ap (λ (x : State). node_at x kept.monitor) (base_at s machine kept.position same)
 
 -- the node that is kept under this number
-pub here_node : (machine new : State) (items : List StoredNode) (number : ℕ) (one two kept : StoredNode) (monitor : List Shown) → one ≡ get_or items number one → two ≡ get_or items number two → monitor ≡ one.monitor → new ≡ at_position machine two.position → slice_get items number ≡ Some kept → node_at new monitor ≡ node_of machine kept
-here_node machine new items number one two kept monitor first second same is at =
-    let mine : one ≡ kept = first ∙ get_or_from_slice_get items number kept one at in
-    let other : two ≡ kept = second ∙ get_or_from_slice_get items number kept two at in
+pub here_node : (machine new : State) (items xs ys : List StoredNode) (number : ℕ) (d e kept : StoredNode) (monitor : List Shown) → xs ≡ items → ys ≡ items → monitor ≡ (get_or xs number d).monitor → new ≡ at_position machine (get_or ys number e).position → slice_get items number ≡ Some kept → node_at new monitor ≡ node_of machine kept
+here_node machine new items xs ys number d e kept monitor first second same is at =
+    let mine : get_or xs number d ≡ kept = ap (λ (zs : List StoredNode). get_or zs number d) first ∙ get_or_from_slice_get items number kept d at in
+    let other : get_or ys number e ≡ kept = ap (λ (zs : List StoredNode). get_or zs number e) second ∙ get_or_from_slice_get items number kept e at in
     ap (λ x. node_at x monitor) (is ∙ ap (λ (x : StoredNode). at_position machine x.position) other)
     ∙ ap (λ m. node_at (at_position machine kept.position) m) (same ∙ ap (λ (x : StoredNode). x.monitor) mine)
 

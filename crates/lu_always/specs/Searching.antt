@@ -1,6 +1,5 @@
 -- Nodes as they are stored, and a search of all nodes.
 use Rattle.std.specs.Prelude.{◌≡◌, ◌⊎◌, ℕ, ◌<◌, Bool, true, false, List, [], ◌++◌, Option, Some, None, slice_get}
-use Rattle.std.specs.Global.{Vec}
 use Rattle.lu_component.specs.Component.{Component}
 use Rattle.lu_test.specs.declared.schedule.Move.{Move}
 use Rattle.lu_test.specs.Matrix.{Matrix}
@@ -124,9 +123,8 @@ AddsFrom rows s index node old new =
     (stored : StoredNode) → IsIn new stored → IsIn old stored ⊎ ComesFrom rows s index node stored
 
 -- the same from the node of this state and this monitor
-abbrev pub Adds : Rows → State → List Shown → ℕ → Vec StoredNode → Vec StoredNode → Type 0
-Adds rows s monitor index old new =
-    AddsFrom rows s index (node_at s monitor) old.items new.items
+abbrev pub Adds : Rows → State → List Shown → ℕ → List StoredNode → List StoredNode → Type 0
+Adds rows s monitor index old new = AddsFrom rows s index (node_at s monitor) old new
 
 -- Each node of the new list is one of the old, or that of this state and this monitor, with this
 -- arrival.

@@ -8,6 +8,7 @@
 mod following;
 mod judging;
 mod laws;
+mod nodes;
 mod searching;
 mod standing;
 mod stepping;

@@ -9,9 +9,10 @@ ghost use Rattle.lu_always.specs.Searching.{AddsAt, Adds, AddsOnly, AllCanStand,
 
 use crate::following::after_move;
 use crate::judging::is_good;
+use crate::nodes::Nodes;
 use crate::standing::is_blocked;
 use crate::stepping::client_step;
-use crate::stored::{Arrival, StoredNode, has};
+use crate::stored::{Arrival, StoredNode};
 use crate::table::AnswerTable;
 use crate::verdicts::Verdict;
 use crate::ways::way_to;
@@ -27,21 +28,22 @@ pub(crate) fn store(
     machine: &Machine<'_>,
     monitor: Monitor,
     arrival: Option<Arrival>,
-    all: &mut Vec<StoredNode>,
+    all: &mut Nodes,
 ) -> Result<(), AllocError>
-    ensures grows { OnOk result (Grows machine.now all.old.items all.new.items) }
-    ensures there { OnOk result (HasNodeFor all.new.items (node_at machine.now monitor)) }
-    ensures only { OnOk result (AddsOnly machine.now monitor arrival all.old.items all.new.items) }
+    ensures grows { OnOk result (Grows machine.now all.old all.new) }
+    ensures there { OnOk result (HasNodeFor all.new (node_at machine.now monitor)) }
+    ensures only { OnOk result (AddsOnly machine.now monitor arrival all.old all.new) }
 {
     let position = machine.position(alloc)?;
-    if has(all.as_slice(), &position, &monitor) {
+    if all.has(&position, &monitor) {
         return Ok(());
     }
-    all.push(StoredNode {
+    let node = StoredNode {
         position,
         monitor,
         arrival,
-    })?;
+    };
+    all.push(alloc, node)?;
     Ok(())
 }
 
@@ -55,14 +57,14 @@ fn store_next(
     table: &AnswerTable,
     next: Move,
     at: usize,
-    all: &mut Vec<StoredNode>,
+    all: &mut Nodes,
 ) -> Result<(), AllocError>
     requires feasible { IsFeasible machine.old next }
     requires stands { CanStandAt machine.old.component machine.old.matrix home.now }
     requires here { at_position machine.old home.now ≡ machine.old }
     ensures home { OnOk result (machine.new ≡ machine.old) }
-    ensures grows { OnOk result (Grows machine.old all.old.items all.new.items) }
-    ensures next { OnOk result (HasNextOf table.now machine.old monitor.now next all.new.items) }
+    ensures grows { OnOk result (Grows machine.old all.old all.new) }
+    ensures next { OnOk result (HasNextOf table.now machine.old monitor.now next all.new) }
     ensures new { OnOk result
         (Adds table.now machine.old monitor.now at all.old all.new) }
 {
@@ -86,14 +88,14 @@ pub(crate) fn store_all_next(
     monitor: &Monitor,
     table: &AnswerTable,
     at: usize,
-    all: &mut Vec<StoredNode>,
+    all: &mut Nodes,
 ) -> Result<(), AllocError>
     requires component { IsComponent machine.old.component }
     requires stands { CanStandAt machine.old.component machine.old.matrix home.now }
     requires here { at_position machine.old home.now ≡ machine.old }
     ensures home { OnOk result (machine.new ≡ machine.old) }
-    ensures grows { OnOk result (Grows machine.old all.old.items all.new.items) }
-    ensures next { OnOk result (HasAllNextOf table.now machine.old monitor.now all.new.items) }
+    ensures grows { OnOk result (Grows machine.old all.old all.new) }
+    ensures next { OnOk result (HasAllNextOf table.now machine.old monitor.now all.new) }
     ensures new { OnOk result
         (Adds table.now machine.old monitor.now at all.old all.new) }
 {
@@ -124,21 +126,21 @@ fn visit(
     machine: &mut Machine<'_>,
     table: &AnswerTable,
     index: usize,
-    all: &mut Vec<StoredNode>,
+    all: &mut Nodes,
 ) -> Result<bool, AllocError>
     requires sound { IsComponent machine.old.component }
-    requires there { index < length all.old.items }
-    requires stand { AllCanStand machine.old all.old.items }
+    requires there { index < length all.old }
+    requires stand { AllCanStand machine.old all.old }
     ensures component { OnOk result (machine.new.component ≡ machine.old.component) }
     ensures matrix { OnOk result (machine.new.matrix ≡ machine.old.matrix) }
-    ensures grows { OnOk result (Grows machine.old all.old.items all.new.items) }
+    ensures grows { OnOk result (Grows machine.old all.old all.new) }
     ensures visit { IfOk result
-        (IsVisit table.now machine.old all.old.items index all.new.items) }
+        (IsVisit table.now machine.old all.old index all.new) }
     ensures new { OnOk result
-        (AddsAt table.now machine.old index all.old.items all.new.items) }
+        (AddsAt table.now machine.old index all.old all.new) }
 {
-    let monitor = all[index].monitor.try_clone(alloc)?;
-    machine.stand_at(&all[index].position);
+    let monitor = all.list()[index].monitor.try_clone(alloc)?;
+    machine.stand_at(&all.list()[index].position);
     if !is_well(machine, &monitor, table) {
         return Ok(false);
     }
@@ -165,14 +167,14 @@ pub fn find_verdict(
     ensures { IfOk result (IsVerdict component.now matrix.now table.now) }
 {
     let mut machine = Machine::start(alloc, component, matrix)?;
-    let mut all = Vec::new(alloc);
+    let mut all = Nodes::new(alloc);
     store(alloc, &machine, Monitor::new(alloc, 0)?, None, &mut all)?;
     for index in 0..most {
         if index >= all.len() {
             return Ok(Verdict::AlwaysLinearizable);
         }
         if !visit(alloc, &mut machine, table, index, &mut all)? {
-            let moves = way_to(alloc, all.as_slice(), index)?;
+            let moves = way_to(alloc, all.list(), index)?;
             return Ok(Verdict::Fails(moves));
         }
     }

@@ -1,7 +1,7 @@
 //! Nodes as they are stored.
 
 ghost use Rattle.std.specs.Prelude.{◌≡◌, IsTrue};
-ghost use Rattle.lu_always.specs.Searching.{HasStored, IsStored};
+ghost use Rattle.lu_always.specs.Searching.{IsStored};
 
 use lu_linearization::{Configuration, Monitor};
 use lu_machine::Position;
@@ -37,21 +37,9 @@ fn are_same(a: &[Configuration], b: &[Configuration]) -> bool
 }
 
 /// Whether the stored node has this position and this monitor.
-fn is_stored(stored: &StoredNode, position: &Position, monitor: &Monitor) -> bool
+pub(crate) fn is_stored(stored: &StoredNode, position: &Position, monitor: &Monitor) -> bool
     ensures { IsTrue result → IsStored stored.now position.now monitor.now }
 {
     stored.position == *position
         && are_same(stored.monitor.configurations(), monitor.configurations())
-}
-
-/// Whether one of the stored nodes has this position and this monitor.
-pub(crate) fn has(all: &[StoredNode], position: &Position, monitor: &Monitor) -> bool
-    ensures { IsTrue result → HasStored all.now position.now monitor.now }
-{
-    for stored in all {
-        if is_stored(stored, position, monitor) {
-            return true;
-        }
-    }
-    false
 }

@@ -8,23 +8,23 @@ use Rattle.lu_always.proofs.searching.store.Goals as goal
 pub returns-then-has-clause-there : goal.returns-then-has-clause-there
 returns-then-has-clause-there c =
     let h = c.has.ensures c.if-has.true in
-    (h.0, (h.1.0, ap (λ (xs : List StoredNode). slice_get xs h.1.0) (sym c.as_slice.ensures.value) ∙ h.1.1), (h.2.0 c.args.machine.now ∙ c.in_ok-position.ensures.here, h.2.1))
+    (h.0, h.1, (h.2.0 c.args.machine.now ∙ c.in_ok-position.ensures.here, h.2.1))
 
 pub returns-clause-grows : goal.returns-clause-grows
 returns-clause-grows c =
     let one : StoredNode = record { position = c.in_ok-position.position; monitor = c.args.monitor; arrival = c.args.arrival } in
-    subst (Grows c.args.machine.now c.args.all.now.items) (sym c.in_ok-push.ensures.items) (grows_one c.args.machine.now c.args.all.now.items one c.in_ok-position.ensures.stands)
+    subst (Grows c.args.machine.now c.args.all.now) (sym c.in_ok-push.ensures) (grows_one c.args.machine.now c.args.all.now one c.in_ok-position.ensures.stands)
 
 pub returns-clause-there : goal.returns-clause-there
 returns-clause-there c =
     let one : StoredNode = record { position = c.in_ok-position.position; monitor = c.args.monitor; arrival = c.args.arrival } in
-    let old = c.args.all.now.items in
-    (one, (length old, ap (λ (xs : List StoredNode). slice_get xs (length old)) c.in_ok-push.ensures.items ∙ last_at old [] one), (c.in_ok-position.ensures.here, refl))
+    let old = c.args.all.now in
+    (one, (length old, ap (λ (xs : List StoredNode). slice_get xs (length old)) c.in_ok-push.ensures ∙ last_at old [] one), (c.in_ok-position.ensures.here, refl))
 
 pub returns-clause-only : goal.returns-clause-only
 returns-clause-only c =
     let one : StoredNode = record { position = c.in_ok-position.position; monitor = c.args.monitor; arrival = c.args.arrival } in
-    only_one (λ kept. IsStoredFor (node_at c.args.machine.now c.args.monitor) kept × (kept.arrival ≡ c.args.arrival)) c.args.all.now.items c.push.new.self.items one c.in_ok-push.ensures.items
+    only_one (λ kept. IsStoredFor (node_at c.args.machine.now c.args.monitor) kept × (kept.arrival ≡ c.args.arrival)) c.args.all.now c.push.new.self one c.in_ok-push.ensures
     ((c.in_ok-position.ensures.here, refl), refl)
 
 pub returns-then-has-clause-only : goal.returns-then-has-clause-only
