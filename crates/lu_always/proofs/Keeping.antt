@@ -1,0 +1,459 @@
+-- Nodes that are kept.
+use Rattle.std.proofs.Common.{arith, ◌≡◌, ◌⊎◌, map, reverse, ℕ, zero, suc, ◌+◌, ◌<◌, ◌≤◌, true, List, [], ◌∷◌, ◌++◌, length, Option, Some, None, get_or, slice_get, refl, sym, ◌∙◌, ap, subst, inl, inr, append_assoc}
+use Rattle.std.proofs.lemmas.Bool.{cases_lt}
+use Rattle.std.proofs.lemmas.List.{append-nil, reverse-append}
+use Rattle.std.proofs.lemmas.Option.{get_or_from_slice_get, same_Some, slice_get-map, slice_get_past, slice_get_within}
+use Rattle.std.specs.Global.{Vec}
+use Rattle.std.specs.Option.{option_and_then, option_map}
+use Rattle.lu_test.specs.declared.schedule.Move.{Move}
+use Rattle.lu_component.specs.Component.{Component}
+use Rattle.lu_test.specs.Matrix.{Matrix}
+use Rattle.lu_machine.specs.declared.event.Event.{Event}
+use Rattle.lu_machine.specs.declared.event.Event.TheVariants.{Call, Return}
+use Rattle.lu_machine.specs.Starts.{IsStart}
+use Rattle.lu_machine.specs.declared.position.Position.{Position}
+use Rattle.lu_machine.specs.Positions.{CanStandAt, at_position}
+use Rattle.lu_machine.specs.States.{State}
+use Rattle.lu_machine.specs.Steps.{picks_of}
+use Rattle.lu_machine.proofs.Keeping.{step_moved}
+use Rattle.lu_machine.proofs.Positions.{HaveSame, position_eq, same_position}
+use Rattle.lu_machine.proofs.StepLaws.{step_feasible}
+use Rattle.lu_history.proofs.Events.{at_push, kept_at}
+use Rattle.lu_linearization.specs.declared.configuration.Configuration.{Configuration as Shown}
+use Rattle.lu_linearization.specs.Monitors.{AreInitial}
+use Rattle.lu_tree.specs.Alike.{AreAlike}
+use Rattle.lu_tree.proofs.Alike.{alike_itself}
+use Rattle.lu_client.proofs.Clients.{moves_in_order}
+use Rattle.lu_client.specs.Rounds.Way.{InOrder}
+use Rattle.lu_client.specs.Clients.{AllBlocked, ClientStep}
+use Rattle.lu_client.specs.Stages.{IsIn, Stage}
+use Rattle.lu_client.proofs.OneCalls.{within_some}
+use Rattle.lu_always.specs.declared.stored.Arrival.{Arrival}
+use Rattle.lu_always.specs.declared.stored.StoredNode.{StoredNode}
+use Rattle.lu_always.specs.Searching.{AddsAt, AddsFrom, AddsOnly, AllCanStand, AreArrivals, AreSearched, ComesFrom, Grows, HasAllNext, HasNext, HasNodeFor, IsArrival, IsBad, IsGoodIfBlocked, IsStoredFor, IsVerdict, Rows, arrived, node_at, node_of}
+use Rattle.lu_always.specs.Ways.{HasParentsBefore, IsWayBack, arrival_at}
+use Rattle.lu_always.specs.declared.verdicts.Verdict.TheVariants.{AlwaysLinearizable, Fails}
+use Rattle.lu_always.specs.Nodes.{AreNodes, IsAfterMove, IsFirst, IsGoodNode, IsMove, MovesLead, Node, Represents}
+use Rattle.lu_always.specs.Tables.{Table, table_of}
+use Rattle.lu_always.proofs.Likeness.{in_order_once}
+use Rattle.lu_always.proofs.Decided.{bad_node_fails, nodes_tell_all, none_dead}
+
+stands_same : (s : State) (p q : Position) → HaveSame p q → at_position s p ≡ at_position s q
+stands_same s p q is =
+    ap (λ x. let y : State = record s { cells = x; locks = p.locks.items; threads = p.threads.items } in y) is.0
+    ∙ (ap (λ x. let y : State = record s { cells = q.cells.items; locks = x; threads = p.threads.items } in y) is.1.0
+    ∙ ap (λ x. let y : State = record s { cells = q.cells.items; locks = q.locks.items; threads = x } in y) is.1.1)
+
+pub equal_stand : (s : State) (p q : Position) → position_eq p q ≡ true → at_position s p ≡ at_position s q
+equal_stand s p q is = stands_same s p q ((same_position p q).0 is)
+
+pub grows_none : (s : State) (all : List StoredNode) → Grows s all all
+grows_none s all = record { more = []; parts = sym (append-nil all); stand = λ can. can }
+
+pub grows_on : (s : State) (a b c : List StoredNode) → Grows s a b → Grows s b c → Grows s a c
+grows_on s a b c x y = record {
+  more = x.more ++ y.more;
+  parts = y.parts ∙ (ap (λ (z : List StoredNode). z ++ y.more) x.parts ∙ append_assoc a x.more y.more);
+  stand = λ can. y.stand (x.stand can);
+}
+
+pub grows_one : (s : State) (all : List StoredNode) (kept : StoredNode) → CanStandAt s.component s.matrix kept.position → Grows s all (all ++ kept ∷ [])
+grows_one s all kept can = record {
+  more = kept ∷ [];
+  parts = refl;
+  stand = λ old other is.
+      elim (at_push all kept other is.0 is.1) as (λ _. CanStandAt s.component s.matrix other.position) [
+        | inl before ↦ old other (is.0, before.1)
+        | inr last ↦ subst (λ (x : StoredNode). CanStandAt s.component s.matrix x.position) (sym last.1) can
+      ];
+}
+
+pub in_more : (s : State) (old new : List StoredNode) → Grows s old new → (kept : StoredNode) → IsIn old kept → IsIn new kept
+in_more s old new grows kept is = (is.0, ap (λ (x : List StoredNode). slice_get x is.0) grows.parts ∙ kept_at old grows.more kept is.0 is.1)
+
+pub next_more : (rows : Rows) (s : State) (old new : List StoredNode) → Grows s old new → (node : Node) (m : Move) → HasNext rows old node m → HasNext rows new node m
+next_more rows s old new grows node m next b event step = let x = next b event step in (x.0, in_more s old new grows x.0 x.1, x.2, x.3)
+
+-- ---- one move
+
+pub record SameBase (a b : State) : Type 0 where
+  pub component : b.component ≡ a.component
+  pub matrix_is : b.matrix ≡ a.matrix
+
+pub moved_base : (a : State) (m : Move) (b : State) (event : Option Event) → ClientStep (InOrder None) a m b event → SameBase a b
+moved_base a m b event step =
+    let moved = step_moved (let x : State = record a { matrix = step.0 } in x) m step.2.0 event step.2.1 in
+    record {
+      component = ap (λ (x : State). x.component) step.2.2 ∙ moved.component;
+      matrix_is = ap (λ (x : State). x.matrix) step.2.2;
+    }
+
+pub base_stand : (a b : State) (p : Position) → SameBase a b → CanStandAt a.component a.matrix p → CanStandAt b.component b.matrix p
+base_stand a b p same can =
+    subst (λ x. CanStandAt x b.matrix p) (sym same.component) (subst (λ x. CanStandAt a.component x p) (sym same.matrix_is) can)
+
+pub base_at : (a b : State) (p : Position) → SameBase a b → at_position b p ≡ at_position a p
+base_at a b p same =
+    ap (λ x. let y : State = record { component = x; matrix = b.matrix; cells = p.cells.items; locks = p.locks.items; threads = p.threads.items } in y) same.component
+    ∙ ap (λ x. let y : State = record { component = a.component; matrix = x; cells = p.cells.items; locks = p.locks.items; threads = p.threads.items } in y) same.matrix_is
+
+pub base_back : (a b : State) → SameBase a b → SameBase b a
+base_back a b same = record { component = sym same.component; matrix_is = sym same.matrix_is }
+
+pub base_grows : (a b : State) (old new : List StoredNode) → SameBase a b → Grows b old new → Grows a old new
+base_grows a b old new same grows = record {
+  more = grows.more;
+  parts = grows.parts;
+  stand = λ can kept is. base_stand b a kept.position (base_back a b same) (grows.stand (λ x at. base_stand a b x.position same (can x at)) kept is);
+}
+
+pub home_again : (a b new : State) (home : Position) → SameBase a b → at_position a home ≡ a → new ≡ at_position b home → new ≡ a
+home_again a b new home same here is = is ∙ (base_at a b home same ∙ here)
+
+pub next_made : (rows : Rows) (a : State) (m : Move) (b : State) (event : Option Event) (all : List StoredNode) (monitor after : List Shown) → ClientStep (InOrder None) a m b event → HasNodeFor all (node_at b after) → IsAfterMove (table_of [] rows) b event monitor after → HasNext rows all (node_at a monitor) m
+next_made rows a m b event all monitor after made keeps is other others step =
+    let same = in_order_once None a m b other event others made step in
+    let one : b ≡ other = same.0 in
+    let now : IsAfterMove (table_of [] rows) b event monitor keeps.0.monitor = subst (λ x. IsAfterMove (table_of [] rows) b event monitor x) (sym keeps.2.1) is in (
+      keeps.0,
+      keeps.1,
+      sym (base_at a b keeps.0.position (moved_base a m b event made)) ∙ (keeps.2.0 ∙ one),
+      subst (λ e. IsAfterMove (table_of [] rows) other e monitor keeps.0.monitor) same.1 (subst (λ x. IsAfterMove (table_of [] rows) x event monitor keeps.0.monitor) one now),
+    )
+
+pub adds_made : (rows : Rows) (a : State) (m : Move) (b : State) (event : Option Event) (index : ℕ) (old new : List StoredNode) (monitor after : List Shown) → ClientStep (InOrder None) a m b event → IsAfterMove (table_of [] rows) b event monitor after → AddsOnly b after (arrived index m) old new → AddsFrom rows a index (node_at a monitor) old new
+adds_made rows a m b event index old new monitor after step is only kept at =
+    elim (only kept at) as (λ _. IsIn old kept ⊎ ComesFrom rows a index (node_at a monitor) kept) [
+      | inl before ↦ inl before
+      | inr mine ↦
+          (let here : at_position a kept.position ≡ b = sym (base_at a b kept.position (moved_base a m b event step)) ∙ mine.0.0 in
+          inr (m, event, mine.1, (b, step, subst (AreAlike [] b) (sym here) (alike_itself [] b), subst (λ x. IsAfterMove (table_of [] rows) b event monitor x) (sym mine.0.1) is)))
+    ]
+
+pub only_one : (For : StoredNode → Type 0) (all new : List StoredNode) (one : StoredNode) → new ≡ all ++ one ∷ [] → For one → (kept : StoredNode) → IsIn new kept → IsIn all kept ⊎ For kept
+only_one For all new one is for kept at =
+    elim (at_push all one kept at.0 (ap (λ (xs : List StoredNode). slice_get xs at.0) (sym is) ∙ at.1)) as (λ _. IsIn all kept ⊎ For kept) [
+      | inl before ↦ inl (at.0, before.1)
+      | inr last ↦ inr (subst For (sym last.1) for)
+    ]
+
+-- ---- all moves
+
+-- of threads before this one, and of this thread picks before this one
+abbrev pub IsBelow : ℕ → ℕ → Move → Type 0
+IsBelow t p m = (m.thread < t) ⊎ ((m.thread ≡ t) × (m.pick < p))
+
+pub record SoFar (rows : Rows) (s : State) (monitor : List Shown) (index : ℕ) (old : List StoredNode) (machine : State) (all : List StoredNode) (t p : ℕ) : Type 0 where
+  pub machine_is : machine ≡ s
+  pub grows : Grows s old all
+  pub below : (m : Move) → IsBelow t p m → HasNext rows all (node_at s monitor) m
+  pub adds : AddsFrom rows s index (node_at s monitor) old all
+
+module _ (rows : Rows) (s : State) (monitor : List Shown) (index : ℕ) (old : List StoredNode) where
+  pub far_none : SoFar rows s monitor index old s old 0 0
+  far_none = record { machine_is = refl; grows = grows_none s old; below = λ m below. elim below [ inl lt ↦ absurd (omega (arith, lt)) | inr at ↦ (let lt = at.1 in absurd (omega (arith, lt))) ]; adds = λ kept at. inl at }
+
+  pub far_more : (machine next : State) (all new : List StoredNode) (t p : ℕ) → SoFar rows s monitor index old machine all t p → next ≡ machine → Grows machine all new → HasNext rows new (node_at machine monitor) (record { thread = t; pick = p }) → AddsFrom rows machine index (node_at machine monitor) all new → SoFar rows s monitor index old next new t (p + 1)
+  far_more machine next all new t p far home grows keeps adds =
+      let more : Grows s all new = subst (λ x. Grows x all new) far.machine_is grows in
+      let here : HasNext rows new (node_at s monitor) (record { thread = t; pick = p }) = subst (λ x. HasNext rows new (node_at x monitor) (record { thread = t; pick = p })) far.machine_is keeps in
+      record {
+        machine_is = home ∙ far.machine_is;
+        grows = grows_on s old all new far.grows more;
+        below = λ m below.
+            elim below as (λ _. HasNext rows new (node_at s monitor) m) [
+              | inl lt ↦ next_more rows s all new more (node_at s monitor) m (far.below m (inl lt))
+              | inr at ↦ elim (cases_lt m.pick p) as (λ _. HasNext rows new (node_at s monitor) m) [
+                | inl less ↦ next_more rows s all new more (node_at s monitor) m (far.below m (inr (at.0, less)))
+                | inr past ↦
+                    (let lt = at.1 in
+                    let pick : m.pick ≡ p = omega (arith, lt, past) in
+                    let one : Move = record { thread = t; pick = p } in
+                    let same : m ≡ one = ap (λ (x : ℕ). let y : Move = record { thread = x; pick = m.pick } in y) at.0 ∙ ap (λ (x : ℕ). let y : Move = record { thread = t; pick = x } in y) pick in
+                    subst (HasNext rows new (node_at s monitor)) (sym same) here)
+              ]
+            ];
+        adds = λ kept at.
+            elim (subst (λ x. AddsFrom rows x index (node_at x monitor) all new) far.machine_is adds kept at) as (λ _. IsIn old kept ⊎ ComesFrom rows s index (node_at s monitor) kept) [
+              | inl before ↦ far.adds kept before
+              | inr mine ↦ inr mine
+            ];
+      }
+
+  never : (all : List StoredNode) (m : Move) → picks_of s m.thread ≤ m.pick → HasNext rows all (node_at s monitor) m
+  never all m past b event step = let it = (moves_in_order None s m b event).0 step in let lt = step_feasible s m it.0 event it.1 in absurd (omega (arith, lt, past))
+
+  pub far_turn : (machine : State) (all : List StoredNode) (t p : ℕ) → picks_of s t ≤ p → SoFar rows s monitor index old machine all t p → SoFar rows s monitor index old machine all (t + 1) 0
+  far_turn machine all t p over far =
+      record {
+        machine_is = far.machine_is;
+        grows = far.grows;
+        below = λ m below.
+            elim below as (λ _. HasNext rows all (node_at s monitor) m) [
+              | inl lt ↦ elim (cases_lt m.thread t) as (λ _. HasNext rows all (node_at s monitor) m) [
+                | inl less ↦ far.below m (inl less)
+                | inr same ↦
+                    (let here : m.thread ≡ t = omega (arith, lt, same) in
+                    elim (cases_lt m.pick p) as (λ _. HasNext rows all (node_at s monitor) m) [
+                      | inl less ↦ far.below m (inr (here, less))
+                      | inr more ↦ never all m (let few : picks_of s m.thread ≤ p = subst (λ x. picks_of s x ≤ p) (sym here) over in omega (arith, few, more))
+                    ])
+              ]
+              | inr at ↦ (let lt = at.1 in absurd (omega (arith, lt)))
+            ];
+        adds = far.adds;
+      }
+
+  picks_past : (t : ℕ) → length s.threads ≤ t → picks_of s t ≡ 0
+  picks_past t past = rw (slice_get_past s.threads t past) refl
+
+  pub far_all : (machine : State) (all : List StoredNode) (t p : ℕ) → length s.threads ≤ t → SoFar rows s monitor index old machine all t p → HasAllNext rows all (node_at s monitor)
+  far_all machine all t p past far m =
+      elim (cases_lt m.thread t) as (λ _. HasNext rows all (node_at s monitor) m) [
+        | inl less ↦ far.below m (inl less)
+        | inr over ↦ never all m (let zero_picks = picks_past m.thread (omega (arith, past, over)) in omega (arith, zero_picks))
+      ]
+
+-- ---- node after node
+
+pub moves_on : (table : Table) (u : List Move) (first node next : Node) (m : Move) (event : Option Event) → MovesLead [] table (InOrder None) first u node → IsMove [] table (InOrder None) node m event next → MovesLead [] table (InOrder None) first (u ++ m ∷ []) next
+moves_on table [] first node next m event path move = (next, event, subst (λ (x : Node). IsMove [] table (InOrder None) x m event next) path move, refl)
+moves_on table (o ∷ u) first node next m event path move = (path.0, path.1, path.2, moves_on table u path.0 node next m event path.3 move)
+
+pub base_node : (s machine : State) (kept : StoredNode) → SameBase s machine → node_of machine kept ≡ node_of s kept
+base_node s machine kept same = ap (λ (x : State). node_at x kept.monitor) (base_at s machine kept.position same)
+
+-- the node that is kept under this number
+pub here_node : (machine new : State) (items xs ys : List StoredNode) (number : ℕ) (d e kept : StoredNode) (monitor : List Shown) → xs ≡ items → ys ≡ items → monitor ≡ (get_or xs number d).monitor → new ≡ at_position machine (get_or ys number e).position → slice_get items number ≡ Some kept → node_at new monitor ≡ node_of machine kept
+here_node machine new items xs ys number d e kept monitor first second same is at =
+    let mine : get_or xs number d ≡ kept = ap (λ (zs : List StoredNode). get_or zs number d) first ∙ get_or_from_slice_get items number kept d at in
+    let other : get_or ys number e ≡ kept = ap (λ (zs : List StoredNode). get_or zs number e) second ∙ get_or_from_slice_get items number kept e at in
+    ap (λ x. node_at x monitor) (is ∙ ap (λ (x : StoredNode). at_position machine x.position) other)
+    ∙ ap (λ m. node_at (at_position machine kept.position) m) (same ∙ ap (λ (x : StoredNode). x.monitor) mine)
+
+pub adds_here : (rows : Rows) (machine new : State) (index : ℕ) (node here : Node) (old all : List StoredNode) → SameBase machine new → node ≡ here → AddsFrom rows new index node old all → AddsFrom rows machine index here old all
+adds_here rows machine new index node here old all same is adds kept at =
+    elim (adds kept at) as (λ _. IsIn old kept ⊎ ComesFrom rows machine index here kept) [
+      | inl before ↦ inl before
+      | inr mine ↦
+          inr (
+            mine.0,
+            mine.1,
+            mine.2,
+            subst (λ (x : Node). IsMove [] (table_of [] rows) (InOrder None) x mine.0 mine.1 (node_of machine kept)) is
+                (subst (λ (x : Node). IsMove [] (table_of [] rows) (InOrder None) node mine.0 mine.1 x) (base_node machine new kept same) mine.3),
+          )
+    ]
+
+-- what is kept before some more
+old_at : (all more : List StoredNode) (i : ℕ) (kept : StoredNode) → i < length all → slice_get (all ++ more) i ≡ Some kept → slice_get all i ≡ Some kept
+old_at all more i kept lt at =
+    let old = within_some all i lt in
+    let same : old.0 ≡ kept = same_Some old.0 kept (sym (kept_at all more old.0 i old.1) ∙ at) in
+    old.1 ∙ ap Some same
+
+-- from the node of this number all is kept, and it is good if it is blocked
+abbrev pub IsVisited : Rows → State → List StoredNode → ℕ → List StoredNode → Type 0
+IsVisited rows s old number new =
+    (kept : StoredNode) → slice_get old number ≡ Some kept → IsGoodIfBlocked rows (node_of s kept) × HasAllNext rows new (node_of s kept)
+
+-- ---- arrivals
+
+-- an arrival stays one as the list grows, for any later index too
+arrival_more : (rows : Rows) (s : State) (all new : List StoredNode) → Grows s all new → (kept : StoredNode) (i j : ℕ) → i ≤ j → (a : Option Arrival) → IsArrival rows s all i kept a → IsArrival rows s new j kept a
+arrival_more rows s all new grows kept i j le None is = is
+arrival_more rows s all new grows kept i j le (Some a) is =
+    let before = is.0 in
+    (omega (arith, before, le), is.1, ap (λ (x : List StoredNode). slice_get x a.parent) grows.parts ∙ kept_at all grows.more is.1 a.parent is.2, is.3, is.4)
+
+pub arrivals_more : (rows : Rows) (s : State) (n : ℕ) (all new : List StoredNode) → n < length all → AreArrivals rows s all → Grows s all new → AddsAt rows s n all new → AreArrivals rows s new
+arrivals_more rows s n all new within are grows adds i kept at =
+    let here = within_some all n within in
+    elim (cases_lt i (length all)) as (λ _. IsArrival rows s new i kept kept.arrival) [
+      | inl less ↦
+          (let old = old_at all grows.more i kept less (sym (ap (λ (x : List StoredNode). slice_get x i) grows.parts) ∙ at) in
+          arrival_more rows s all new grows kept i i (omega arith) kept.arrival (are i kept old))
+      | inr past ↦ elim (adds here.0 here.1 kept (i, at)) as (λ _. IsArrival rows s new i kept kept.arrival) [
+        | inl before ↦
+            (let lt = slice_get_within all before.0 kept before.1 in
+            arrival_more rows s all new grows kept before.0 i (omega (arith, lt, past)) kept.arrival (are before.0 kept before.1))
+        | inr mine ↦
+            subst (IsArrival rows s new i kept) (sym mine.2)
+            (omega (arith, within, past), here.0, ap (λ (x : List StoredNode). slice_get x n) grows.parts ∙ kept_at all grows.more here.0 n here.1, mine.1, mine.3)
+      ]
+    ]
+
+pub arrival_is : (list : List StoredNode) (i : ℕ) (kept : StoredNode) → slice_get list i ≡ Some kept → arrival_at list i ≡ kept.arrival
+arrival_is list i kept at = ap (option_and_then (λ (x : StoredNode). x.arrival)) at
+
+-- where there is an arrival, there is a node
+arrival_there : (list : List StoredNode) (i : ℕ) (a : Arrival) → arrival_at list i ≡ Some a → (kept : StoredNode) × (slice_get list i ≡ Some kept) × (kept.arrival ≡ Some a)
+arrival_there list i a is = by (slice_get list i) refl is
+  where
+    by : (o : Option StoredNode) → slice_get list i ≡ o → option_and_then (λ (x : StoredNode). x.arrival) o ≡ Some a → (kept : StoredNode) × (slice_get list i ≡ Some kept) × (kept.arrival ≡ Some a)
+    by None at h = absurd cc
+    by (Some kept) at h = (kept, at, h)
+
+pub parents_before : (rows : Rows) (s : State) (all : List StoredNode) → AreArrivals rows s all → HasParentsBefore all
+parents_before rows s all are i a is =
+    let there = arrival_there all i a is in
+    (subst (IsArrival rows s all i there.0) there.2 (are i there.0 there.1)).0
+
+-- where moves from the first node lead
+pub record WayFrom (rows : Rows) (s : State) (u : List Move) (node : Node) : Type 0 where
+  pub first : Node
+  pub is_first : IsFirst [] s first
+  pub lead : MovesLead [] (table_of [] rows) (InOrder None) first u node
+
+pub way_leads : (rows : Rows) (s : State) (all : List StoredNode) → AreArrivals rows s all → (back : List Move) (i : ℕ) → IsWayBack all i back → (kept : StoredNode) → slice_get all i ≡ Some kept → WayFrom rows s (reverse back) (node_of s kept)
+way_leads rows s all are [] i way kept at = record {
+  first = node_of s kept;
+  is_first = subst (IsArrival rows s all i kept) (sym (arrival_is all i kept at) ∙ way.1) (are i kept at);
+  lead = refl;
+}
+way_leads rows s all are (m ∷ back) i way kept at =
+    let a : Arrival = record { parent = way.0; by = m } in
+    let is : IsArrival rows s all i kept (Some a) = subst (IsArrival rows s all i kept) (sym (arrival_is all i kept at) ∙ way.1) (are i kept at) in
+    let before = way_leads rows s all are back way.0 way.2 is.1 is.2 in
+    record {
+      first = before.first;
+      is_first = before.is_first;
+      lead = subst (λ u. MovesLead [] (table_of [] rows) (InOrder None) before.first u (node_of s kept)) (sym (reverse-append (m ∷ []) back)) (moves_on (table_of [] rows) (reverse back) before.first (node_of s is.1) (node_of s kept) m is.3 before.lead is.4);
+    }
+
+pub searched_next : (rows : Rows) (s : State) (n : ℕ) (all new : List StoredNode) → n < length all → AreSearched rows s n all → Grows s all new → IsVisited rows s all n new → AddsAt rows s n all new → AreSearched rows s (n + 1) new
+searched_next rows s n all new within are grows visited adds = record {
+  arrivals = arrivals_more rows s n all new within are.arrivals grows adds;
+  first = (are.first.0, in_more s all new grows are.first.0 are.first.1, are.first.2, are.first.3);
+  stand = grows.stand are.stand;
+  closed = λ i lt kept at.
+      let old = old_at all grows.more i kept (omega (arith, lt, within)) (sym (ap (λ (x : List StoredNode). slice_get x i) grows.parts) ∙ at) in
+      elim (cases_lt i n) as (λ _. HasAllNext rows new (node_of s kept)) [
+        | inl less ↦ λ m. next_more rows s all new grows (node_of s kept) m (are.closed i less kept old m)
+        | inr past ↦ (let same : i ≡ n = omega (arith, lt, past) in (visited kept (ap (slice_get all) (sym same) ∙ old)).1)
+      ];
+  good = λ i lt kept at.
+      let old = old_at all grows.more i kept (omega (arith, lt, within)) (sym (ap (λ (x : List StoredNode). slice_get x i) grows.parts) ∙ at) in
+      elim (cases_lt i n) as (λ _. IsGoodIfBlocked rows (node_of s kept)) [
+        | inl less ↦ are.good i less kept old
+        | inr past ↦ (let same : i ≡ n = omega (arith, lt, past) in (visited kept (ap (slice_get all) (sym same) ∙ old)).0)
+      ];
+}
+
+pub searched_none : (rows : Rows) (s : State) (all : List StoredNode) (monitor : List Shown) → HasNodeFor all (node_at s monitor) → AllCanStand s all → AreInitial 0 monitor → ((kept : StoredNode) → IsIn all kept → IsStoredFor (node_at s monitor) kept × (kept.arrival ≡ None)) → AreSearched rows s 0 all
+searched_none rows s all monitor keeps can first only = record {
+  arrivals = λ i kept at.
+      let mine = only kept (i, at) in
+      subst (IsArrival rows s all i kept) (sym mine.1) (subst (AreAlike [] s) (sym mine.0.0) (alike_itself [] s), subst (AreInitial 0) (sym mine.0.1) first);
+  first = (keeps.0, keeps.1, keeps.2.0, subst (AreInitial 0) (sym keeps.2.1) first);
+  stand = can;
+  closed = λ i lt kept at. absurd (omega (arith, lt));
+  good = λ i lt kept at. absurd (omega (arith, lt));
+}
+
+-- ---- which stages a table has changes nothing
+
+after_any : (stages others : List Stage) (rows : Rows) (b : State) (event : Option Event) (old new : List Shown) → IsAfterMove (table_of others rows) b event old new → IsAfterMove (table_of stages rows) b event old new
+after_any stages others rows b None old new is = is
+after_any stages others rows b (Some (Call t k)) old new is = is
+after_any stages others rows b (Some (Return t k outcome)) old new is = is
+
+good_any : (stages others : List Stage) (rows : Rows) (node : Node) → IsGoodNode (table_of others rows) node → IsGoodNode (table_of stages rows) node
+good_any stages others rows node good = record { complete = good.complete; stuck = good.stuck }
+
+pub can_none : (s : State) (all : List StoredNode) → all ≡ [] → AllCanStand s all
+can_none s all none kept is = absurd (nothing is.0 (ap (λ (xs : List StoredNode). slice_get xs is.0) (sym none) ∙ is.1))
+  where
+    nothing : (i : ℕ) → slice_get {X = StoredNode} [] i ≡ Some kept → ⊥
+    nothing zero at = cc
+    nothing (suc i) at = cc
+
+pub only_first : (For : StoredNode → Type 0) (old new : List StoredNode) → old ≡ [] → ((kept : StoredNode) → IsIn new kept → IsIn old kept ⊎ For kept) → (kept : StoredNode) → IsIn new kept → For kept
+only_first For old new none only kept at =
+    elim (only kept at) as (λ _. For kept) [
+      | inl before ↦ absurd (nothing before.0 (ap (λ (xs : List StoredNode). slice_get xs before.0) (sym none) ∙ before.1))
+      | inr mine ↦ mine
+    ]
+  where
+    nothing : (i : ℕ) → slice_get {X = StoredNode} [] i ≡ Some kept → ⊥
+    nothing zero at = cc
+    nothing (suc i) at = cc
+
+pub base_adds : (rows : Rows) (s machine : State) (same : SameBase s machine) (index : ℕ) (kept : StoredNode) (old new : List StoredNode) → AddsFrom rows machine index (node_of machine kept) old new → AddsFrom rows s index (node_of s kept) old new
+base_adds rows s machine same index kept old new adds other at =
+    elim (adds other at) as (λ _. IsIn old other ⊎ ComesFrom rows s index (node_of s kept) other) [
+      | inl before ↦ inl before
+      | inr mine ↦
+          inr (
+            mine.0,
+            mine.1,
+            mine.2,
+            subst (λ (x : Node). IsMove [] (table_of [] rows) (InOrder None) x mine.0 mine.1 (node_of s other)) (base_node s machine kept same)
+                (subst (λ (x : Node). IsMove [] (table_of [] rows) (InOrder None) (node_of machine kept) mine.0 mine.1 x) (base_node s machine other same) mine.3),
+          )
+    ]
+
+-- ---- where all were searched
+
+module _ (c : Component) (matrix : Matrix) (rows : Rows) (s : State) (is : IsStart c matrix s) (place : ℕ) (all : List StoredNode) (past : length all ≤ place) (are : AreSearched rows s place all) where
+  there : (kept : StoredNode) → IsIn all kept → IsIn (map (node_of s) all) (node_of s kept)
+  there kept at = (at.0, slice_get-map (node_of s) all at.0 ∙ ap (option_map (node_of s)) at.1)
+
+  record From (node : Node) : Type 0 where
+    i : ℕ
+    kept : StoredNode
+    at : slice_get all i ≡ Some kept
+    is_node : node_of s kept ≡ node
+
+  from : (node : Node) → IsIn (map (node_of s) all) node → From node
+  from node (i, at) = by (slice_get all i) refl
+    where
+      by : (o : Option StoredNode) → slice_get all i ≡ o → From node
+      by None e = absurd (let none : slice_get (map (node_of s) all) i ≡ None = slice_get-map (node_of s) all i ∙ ap (option_map (node_of s)) e in cc)
+      by (Some kept) e = record {
+        i = i;
+        kept = kept;
+        at = e;
+        is_node = same_Some (node_of s kept) node (sym (slice_get-map (node_of s) all i ∙ ap (option_map (node_of s)) e) ∙ at);
+      }
+
+  module _ (stages : List Stage) where
+    abbrev table : Table
+    table = table_of stages rows
+
+    closed_at : (kept : StoredNode) (i : ℕ) → slice_get all i ≡ Some kept → (m : Move) (b : State) (event : Option Event) → ClientStep (InOrder None) (node_of s kept).state m b event → (next : Node) × IsIn (map (node_of s) all) next × Represents [] next b × IsAfterMove table b event kept.monitor next.monitor
+    closed_at kept i at m b event step =
+        let within = slice_get_within all i kept at in
+        let on = are.closed i (omega (arith, within, past)) kept at m b event step in
+        (node_of s on.0, there on.0 on.1, subst (AreAlike [] b) (sym on.2) (alike_itself [] b), after_any stages [] rows b event kept.monitor on.0.monitor on.3)
+
+    nodes : AreNodes [] table (InOrder None) s (map (node_of s) all)
+    nodes = record {
+      starts = (node_of s are.first.0, there are.first.0 are.first.1, (subst (AreAlike [] s) (sym are.first.2) (alike_itself [] s), are.first.3));
+      closed = λ node m b event at step.
+          let f = from node at in
+          subst (λ (x : Node). (next : Node) × IsIn (map (node_of s) all) next × Represents [] next b × IsAfterMove table b event x.monitor next.monitor) f.is_node
+          (closed_at f.kept f.i f.at m b event (subst (λ (x : Node). ClientStep (InOrder None) x.state m b event) (sym f.is_node) step));
+      good = λ node at blocked.
+          let f = from node at in
+          let within = slice_get_within all f.i f.kept f.at in
+          subst (IsGoodNode table) f.is_node
+          (good_any stages [] rows (node_of s f.kept) (are.good f.i (omega (arith, within, past)) f.kept f.at (subst (λ (x : Node). AllBlocked x.state) (sym f.is_node) blocked)));
+    }
+
+  pub shows_all : IsVerdict c matrix rows AlwaysLinearizable
+  shows_all stages bound tables = nodes_tell_all c (InOrder None) matrix bound s [] (table_of stages rows) (map (node_of s) all) is (none_dead c) (tables s is) (nodes stages)
+
+moves_any : (stages others : List Stage) (rows : Rows) (u : List Move) (first node : Node) → MovesLead [] (table_of others rows) (InOrder None) first u node → MovesLead [] (table_of stages rows) (InOrder None) first u node
+moves_any stages others rows [] first node path = path
+moves_any stages others rows (m ∷ u) first node path = (
+  path.0,
+  path.1,
+  (path.2.0, path.2.1, path.2.2, after_any stages others rows path.2.0 path.1 first.monitor path.0.monitor path.2.3),
+  moves_any stages others rows u path.0 node path.3,
+)
+
+pub shows_failing : (c : Component) (matrix : Matrix) (rows : Rows) (s : State) → IsStart c matrix s → (moves : Vec Move) (node : Node) → WayFrom rows s moves.items node → IsBad rows node → IsVerdict c matrix rows (Fails moves)
+shows_failing c matrix rows s is moves node way bad stages bound tables =
+    bad_node_fails c None matrix bound s [] (table_of stages rows) way.first moves.items node is (none_dead c) (tables s is) way.is_first (moves_any stages [] rows moves.items way.first node way.lead) bad.0
+    (λ good. bad.1 (good_any [] stages rows node good))

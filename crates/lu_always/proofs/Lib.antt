@@ -1,0 +1,11 @@
+pub mod Tabled
+pub mod Stood
+pub mod Standings
+pub mod Closed
+pub mod Arounds
+pub mod Keeping
+pub mod Likeness
+pub mod Followed
+pub mod Refuting
+pub mod OneRound
+pub mod Decided

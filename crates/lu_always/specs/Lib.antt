@@ -1,0 +1,7 @@
+pub mod Always
+pub mod OneRound
+pub mod Tables
+pub mod Reading
+pub mod Nodes
+pub mod Searching
+pub mod Ways

@@ -1,0 +1,27 @@
+//! Linearizability of all matrices that are unrolled from one: each thread repeats its line of
+//! calls any number of times, and may stop anywhere.
+//!
+//! A node is a state of the client with a monitor. [`find_verdict`] searches all nodes, given a
+//! table of the serial histories.
+#![tactic(auto)]
+
+mod following;
+mod judging;
+mod laws;
+mod nodes;
+mod searching;
+mod standing;
+mod stepping;
+mod stored;
+mod table;
+mod verdicts;
+mod ways;
+
+pub use following::after_move;
+pub use judging::is_good;
+pub use laws::{always_laws, node_laws};
+pub use searching::find_verdict;
+pub use stepping::client_step;
+pub use stored::{Arrival, StoredNode};
+pub use table::AnswerTable;
+pub use verdicts::Verdict;
