@@ -13,3 +13,4 @@ pub mod Ran
 pub mod Checked
 pub mod Completed
 pub mod Stuck
+pub mod Saying
