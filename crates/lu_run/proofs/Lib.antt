@@ -14,3 +14,4 @@ pub mod Checked
 pub mod Completed
 pub mod Stuck
 pub mod Saying
+pub mod Failing
