@@ -84,7 +84,7 @@ module _ (before : List (Option ThreadCall)) (t : ℕ) (long : length before ≡
 -- ---- one event more
 
 module _ (c : Component) (setup calls : List ACall) (events done more : List RunEvent) (s : State) (start : IsStart c (matrix_of setup calls events) s) (run : IsRun calls events) where
-  one_more : (e : RunEvent) → events ≡ done ++ e ∷ more → HasSequentialThreads (history_of done ++ next_event (history_of done) e ∷ [])
+  pub one_more : (e : RunEvent) → events ≡ done ++ e ∷ more → HasSequentialThreads (history_of done ++ next_event (history_of done) e ∷ [])
   one_more e is = subst HasSequentialThreads (history_push [] done e) (sequential_front (done ++ e ∷ []) more (subst (λ x. HasSequentialThreads (history_of x)) (is ∙ sym (append_assoc done (e ∷ []) more)) run.sequential))
 
   pub advanced_call : (t n : ℕ) (old new : Table) (before pending : List (Option ThreadCall)) (list closure : List Kept) → events ≡ done ++ Calls t n ∷ more → IsFollowed c s calls events old before list (history_of done) → IsTable c calls new → Grows old new

@@ -20,15 +20,15 @@ first_of : (positions : List Position) → 0 < length positions → (p : Positio
 first_of [] some = absurd (omega arith)
 first_of (p ∷ positions) some = (p, inl refl)
 
-module _ (c : Component) (s : State) (calls : List ACall) (events : List RunEvent) (table : Table) (pending : List (Option ThreadCall)) where
-  pub none_left : (list : List Kept) → list ≡ [] → IsFollowed c s calls events table pending list (history_of events) → HasLinearization s events → ⊥
+module _ (c : Component) (s : State) (calls : List ACall) (events done : List RunEvent) (table : Table) (pending : List (Option ThreadCall)) where
+  pub none_left : (list : List Kept) → list ≡ [] → IsFollowed c s calls events table pending list (history_of done) → HasLinearization s done → ⊥
   none_left list empty was (q, line) =
       let rest : Rest = line.member.0 in
-      let d : Configuration Rest = record { state = rest; effects = effects_in q (history_of events) } in
+      let d : Configuration Rest = record { state = rest; effects = effects_in q (history_of done) } in
       let found : Represents table list d = (was.configurations d).0 (record { q = q; linearizes = line; leads = line.member.1; effects = λ t. refl }) in
       subst (λ x. Holds x found.0) empty found.1
 
-  pub some_left : (list : List Kept) → (list ≡ [] → ⊥) → IsFollowed c s calls events table pending list (history_of events) → HasLinearization s events
+  pub some_left : (list : List Kept) → (list ≡ [] → ⊥) → IsFollowed c s calls events table pending list (history_of done) → HasLinearization s done
   some_left [] some was = absurd (some refl)
   some_left (one ∷ list) some was =
       let d : Configuration ℕ = configuration_of one in

@@ -13,3 +13,5 @@ pub mod Ran
 pub mod Checked
 pub mod Completed
 pub mod Stuck
+pub mod Saying
+pub mod Failing

@@ -141,7 +141,7 @@ module _ (c : Component) (setup calls : List ACall) (events : List RunEvent) (s 
 
     -- ---- the whole verdict
 
-    seat : (a : OpId) → IsPending (history_of events) a → a.t < 8
+    pub seat : (a : OpId) → IsPending (history_of events) a → a.t < 8
     seat a pend = elim (cases_lt a.t 8) as (λ _. a.t < 8) [
       | inl lt ↦ lt
       | inr past ↦ absurd (
@@ -151,7 +151,7 @@ module _ (c : Component) (setup calls : List ACall) (events : List RunEvent) (s 
           omega (arith, one, made, none))
     ]
 
-    waits : (a : OpId) → IsPending (history_of events) a → by_thread pending a.t ≡ Some (call_of calls events a)
+    pub waits : (a : OpId) → IsPending (history_of events) a → by_thread pending a.t ≡ Some (call_of calls events a)
     waits a pend =
         let counts = pending_count (history_of events) a run.sequential pend in
         let lt : length (outcomes a.t (history_of events)) < calls_count a.t (history_of events) = omega (arith, counts.0, counts.1) in
@@ -159,7 +159,7 @@ module _ (c : Component) (setup calls : List ACall) (events : List RunEvent) (s 
         ∙ (ap (λ b. if b then Some (call_of calls events (record { t = a.t; k = length (outcomes a.t (history_of events)) })) else None) (lt-ltb (length (outcomes a.t (history_of events))) (calls_count a.t (history_of events)) lt)
         ∙ ap (λ k. Some (call_of calls events (record { t = a.t; k = k }))) counts.1)
 
-    who_waits : (t : ℕ) (call : ThreadCall) → by_thread pending t ≡ Some call → (a : OpId) × IsPending (history_of events) a × (a.t ≡ t) × (call_of calls events a ≡ call)
+    pub who_waits : (t : ℕ) (call : ThreadCall) → by_thread pending t ≡ Some call → (a : OpId) × IsPending (history_of events) a × (a.t ≡ t) × (call_of calls events a ≡ call)
     who_waits t call there =
         let a : OpId = record { t = t; k = length (outcomes t (history_of events)) } in
         let tells = waiting_tells (call_of calls events) (history_of events) t call (sym (was.pends t) ∙ there) in
@@ -197,7 +197,7 @@ module _ (c : Component) (setup calls : List ACall) (events : List RunEvent) (s 
 
     pub tells_good : IsGoodNow table list pending → IsGood (IsSerialHistory s) (history_of events)
     tells_good now = record {
-      complete = λ free. (complete_witness (all_returned free)).1 (configured (some_left c s calls events table pending list (now.complete (λ t lt. none_waits free t)) was));
+      complete = λ free. (complete_witness (all_returned free)).1 (configured (some_left c s calls events events table pending list (now.complete (λ t lt. none_waits free t)) was));
       stuck = λ a pend. (stuck_witness a pend (waits a pend)).1 (subst (StuckIfPending table list) (waits a pend) (now.stuck a.t (seat a pend)));
     }
 
@@ -214,8 +214,8 @@ module _ (c : Component) (setup calls : List ACall) (events : List RunEvent) (s 
 
     pub passing : (stuck : Bool) → IsPassingNow stuck table list pending → IsPassing s events stuck
     passing true now = tells_good now
-    passing false some = (completes (Reads (RestAfter s)) never_stuck (history_of events) run.sequential nobody).0 (some_left c s calls events table pending list some was)
+    passing false some = (completes (Reads (RestAfter s)) never_stuck (history_of events) run.sequential nobody).0 (some_left c s calls events events table pending list some was)
 
     pub passing_back : (stuck : Bool) → IsPassing s events stuck → IsPassingNow stuck table list pending
     passing_back true good = good_tells good
-    passing_back false linearizable = λ empty. none_left c s calls events table pending list empty was ((completes (Reads (RestAfter s)) never_stuck (history_of events) run.sequential nobody).1 linearizable)
+    passing_back false linearizable = λ empty. none_left c s calls events events table pending list empty was ((completes (Reads (RestAfter s)) never_stuck (history_of events) run.sequential nobody).1 linearizable)

@@ -1,5 +1,5 @@
 -- The runs that pass.
-use Rattle.std.specs.Prelude.{◌≢◌, ◌<◌, Bool, MatchBool, ◌≡◌, ◌↔◌, ℕ, List, [], ◌∷◌, ◌++◌, length, Option, Some, None, IsSome, slice_get, unwrap_or}
+use Rattle.std.specs.Prelude.{◌≢◌, ◌<◌, ◌+◌, Bool, true, MatchBool, ◌≡◌, ◌↔◌, ℕ, List, [], ◌∷◌, ◌++◌, length, take, Option, Some, None, IsSome, slice_get, unwrap_or}
 use Rattle.lu_component.specs.Component.{Component}
 use Rattle.lu_test.specs.declared.matrix.Call.{Call as ACall}
 use Rattle.lu_test.specs.Matrix.{Matrix}
@@ -8,10 +8,12 @@ use Rattle.lu_machine.specs.declared.position.Position.{Position}
 use Rattle.lu_machine.specs.Starts.{IsStart}
 use Rattle.lu_machine.specs.States.{State}
 use Rattle.lu_history.specs.declared.operation.OpId.{OpId}
+use Rattle.lu_history.specs.Histories.{IsPending}
+use Rattle.lu_history.specs.Parts.{keep_pending}
 use Rattle.lu_history.specs.declared.serial.SerialOp.{SerialOp}
 use Rattle.lu_history.specs.declared.serial.SerialOutcome.{SerialOutcome}
 use Rattle.lu_serial.specs.Serial.{IsSerialHistory}
-use Rattle.lu_witness.specs.Witnesses.{IsGood}
+use Rattle.lu_witness.specs.Witnesses.{HasWitness, IsGood}
 use Rattle.lu_client.specs.Alone.{Plays, Rest, RestAfter, rest_of}
 use Rattle.lu_linearization.specs.declared.configuration.Configuration.{Configuration as Kept}
 use Rattle.lu_linearization.specs.Linearizations.{IsLinearization}
@@ -22,7 +24,7 @@ use Rattle.lu_run.specs.declared.run.RunEvent.{RunEvent}
 use Rattle.lu_run.specs.declared.table.Rests.{Rests}
 use Rattle.lu_run.specs.declared.table.Table.{Table}
 use Rattle.lu_run.specs.declared.judging.RunVerdict.{RunVerdict}
-use Rattle.lu_run.specs.declared.judging.RunVerdict.TheVariants.{Passes, Fails, Undecided}
+use Rattle.lu_run.specs.declared.judging.RunVerdict.TheVariants.{Passes, FailsAt, CannotBeStuck as NotStuck, Undecided}
 use Rattle.lu_run.specs.declared.table.Question.{Question}
 use Rattle.lu_run.specs.Asking.{HasRest, IsAtRest, rest_at}
 use Rattle.lu_run.specs.Completions.{HasCompletion}
@@ -140,8 +142,54 @@ abbrev pub IsPassingNow : Bool → Table → List Kept → List (Option ThreadCa
 IsPassingNow stuck table list pending =
     MatchBool stuck (IsGoodNow table list pending) (list ≢ [])
 
--- the verdict on the run is right
+-- The event with number n, counted from 0, is the first after which the run has no linearization.
+pub record IsFirstWithout (s : State) (events : List RunEvent) (n : ℕ) : Type 0 where
+  pub within : n < length events
+  pub before : HasLinearization s (take n events)
+  pub after : HasLinearization s (take (n + 1) events) → ⊥
+
+-- Thread t has a pending call, and no serial run gets stuck in it: without the other pending calls,
+-- the history has no witness.
+pub record IsNeverStuck (s : State) (events : List RunEvent) (t : ℕ) : Type 0 where
+  pub call : OpId
+  pub of : call.t ≡ t
+  pub pending : IsPending (history_of events) call
+  pub never : HasWitness (IsSerialHistory s) (keep_pending call.t (history_of events)) → ⊥
+
+-- The verdict on the run is right, and a run that does not pass has its reason.
 abbrev pub IsVerdict : State → List RunEvent → Bool → RunVerdict → Type 0
 IsVerdict s events stuck Passes = IsPassing s events stuck
-IsVerdict s events stuck Fails = IsPassing s events stuck → ⊥
+IsVerdict s events stuck (FailsAt n) =
+    IsFirstWithout s events n × (IsPassing s events stuck → ⊥)
+IsVerdict s events stuck (NotStuck t) =
+    (stuck ≡ true) × IsNeverStuck s events t × (IsPassing s events stuck → ⊥)
 IsVerdict s events stuck Undecided = Unit {0}
+
+-- ---- the reason
+
+-- what is known of it after the first i events
+abbrev pub TellsLost : State → List RunEvent → ℕ → Option ℕ → Type 0
+TellsLost s events i None = HasLinearization s (take i events)
+TellsLost s events i (Some n) =
+    IsFirstWithout s events n × (HasLinearization s (take i events) → ⊥)
+
+-- the event with number i is the first after which no configuration is left, unless one before it
+-- is; none where some are left
+abbrev pub FindsLost : Option ℕ → ℕ → List Kept → Option ℕ → Type 0
+FindsLost (Some n) i list result = result ≡ Some n
+FindsLost None i list (Some n) = (n ≡ i) × (list ≡ [])
+FindsLost None i list None = list ≢ []
+
+-- the pending call of the thread can't be stuck; where there is no such thread, each can be
+abbrev pub TellsNotStuck : Table → List Kept → List (Option ThreadCall) → Option ℕ → Type 0
+TellsNotStuck table list pending None = AllStuck table list pending
+TellsNotStuck table list pending (Some t) = StuckIfPending table list (by_thread pending t) → ⊥
+
+-- the verdict at the end of a run that has a linearization
+abbrev pub IsEndVerdict : Bool → Table → List Kept → List (Option ThreadCall) → RunVerdict
+    → Type 0
+IsEndVerdict stuck table list pending Passes =
+    MatchBool stuck (AllStuck table list pending) (Unit {0})
+IsEndVerdict stuck table list pending (NotStuck t) =
+    (stuck ≡ true) × (StuckIfPending table list (by_thread pending t) → ⊥)
+IsEndVerdict stuck table list pending _ = ⊥

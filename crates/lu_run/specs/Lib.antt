@@ -1,7 +1,10 @@
+pub mod Codes
 pub mod Runs
+pub mod RunText
 pub mod Checking
 pub mod Asking
 pub mod Tables
 pub mod Following
 pub mod Completions
 pub mod Judging
+pub mod Reading

@@ -43,6 +43,12 @@ abbrev pub with_numbers : List ACall → List ℕ → List ACall
 with_numbers table [] = []
 with_numbers table (n ∷ numbers) = listed (slice_get table n) ++ with_numbers table numbers
 
+-- no call has two numbers
+abbrev pub AreDistinct : List ACall → Type 0
+AreDistinct table =
+    (i j : ℕ) (call : ACall) → slice_get table i ≡ Some call → slice_get table j ≡ Some call
+    → i ≡ j
+
 -- thread t's calls, in order
 abbrev pub calls_by : List ACall → List RunEvent → ℕ → List ACall
 calls_by table events t = with_numbers table (numbers_of t events)

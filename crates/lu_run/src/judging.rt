@@ -4,7 +4,7 @@ ghost use Rattle.std.specs.Prelude.{◌≡◌, ◌<◌, ◌≤◌, ◌↔◌, If
 ghost use Rattle.lu_machine.specs.declared.TheConstants.{MOST_MOVES};
 ghost use Rattle.lu_machine.specs.Starts.{CanRun, FromEachStart};
 ghost use Rattle.lu_run.specs.Following.{AreSeated};
-ghost use Rattle.lu_run.specs.Judging.{Advances, AllStuck, IsGoodNow, IsPassingNow, IsVerdict, NonePending, StuckIfPending};
+ghost use Rattle.lu_run.specs.Judging.{Advances, FindsLost, IsEndVerdict, IsVerdict, StuckIfPending, TellsNotStuck};
 ghost use Rattle.lu_run.specs.Runs.{IsEventOf, IsRun, matrix_of};
 ghost use Rattle.lu_run.specs.Tables.{AreCallsOf, IsTable};
 
@@ -24,8 +24,13 @@ pub enum RunVerdict {
     /// The run is linearizable; or it is stuck, and so are its pending calls in some serial runs.
     Passes,
 
-    /// The run does not pass.
-    Fails,
+    /// The run does not pass: after the event with this number, counted from 0, it has no
+    /// linearization, and before it, it has one.
+    FailsAt(usize),
+
+    /// The run does not pass: it is stuck, and no serial run gets stuck in the pending call of this
+    /// thread.
+    CannotBeStuck(u8),
 
     /// A call that the run might have made takes more moves than the bound, or has two outcomes.
     Undecided,
@@ -82,54 +87,52 @@ fn is_stuck_if_pending(table: &Table, monitor: &Monitor, pending: Option<ThreadC
     }
 }
 
-/// Whether each pending call can be stuck.
-fn all_stuck(table: &Table, monitor: &Monitor, pending: &[Option<ThreadCall>; 8]) -> bool
-    ensures { IsTrue result ↔ AllStuck table.now monitor.now pending.now }
+/// The first thread whose pending call can't be stuck, if there is one.
+fn first_not_stuck(
+    table: &Table,
+    monitor: &Monitor,
+    pending: &[Option<ThreadCall>; 8],
+) -> Option<u8>
+    ensures { TellsNotStuck table.now monitor.now pending.now result }
 {
-    for thread in 0..8 {
-        if !is_stuck_if_pending(table, monitor, pending[thread]) {
-            return false;
+    for thread in 0..8u8 {
+        if !is_stuck_if_pending(table, monitor, pending[usize::from(thread)]) {
+            return Some(thread);
         }
     }
-    true
+    None
 }
 
-/// Whether no thread has a pending call.
-fn none_pending(pending: &[Option<ThreadCall>; 8]) -> bool
-    ensures { IsTrue result ↔ NonePending pending.now }
-{
-    for thread in 0..8 {
-        if pending[thread].is_some() {
-            return false;
-        }
-    }
-    true
-}
-
-/// Whether each pending call can be stuck; and where there is none, whether a configuration is left.
-fn is_good(table: &Table, monitor: &Monitor, pending: &[Option<ThreadCall>; 8]) -> bool
-    ensures { IsTrue result ↔ IsGoodNow table.now monitor.now pending.now }
-{
-    if none_pending(pending) && monitor.is_empty() {
-        return false;
-    }
-    all_stuck(table, monitor, pending)
-}
-
-/// Whether the run that has ended so passes.
-fn is_passing(
+/// The verdict at the end of a run that has a linearization.
+fn end_verdict(
     is_stuck: bool,
     table: &Table,
     monitor: &Monitor,
     pending: &[Option<ThreadCall>; 8],
-) -> bool
-    ensures { IsTrue result ↔ IsPassingNow is_stuck table.now monitor.now pending.now }
+) -> RunVerdict
+    ensures { IsEndVerdict is_stuck table.now monitor.now pending.now result }
 {
-    if is_stuck {
-        is_good(table, monitor, pending)
-    } else {
-        !monitor.is_empty()
+    if !is_stuck {
+        return RunVerdict::Passes;
     }
+    match first_not_stuck(table, monitor, pending) {
+        None => RunVerdict::Passes,
+        Some(thread) => RunVerdict::CannotBeStuck(thread),
+    }
+}
+
+/// The number of the first event after which no configuration is left, as far as the event with this
+/// number.
+fn first_lost(lost: Option<usize>, number: usize, monitor: &Monitor) -> Option<usize>
+    ensures { FindsLost lost number monitor.now result }
+{
+    if lost.is_some() {
+        return lost;
+    }
+    if monitor.is_empty() {
+        return Some(number);
+    }
+    None
 }
 
 /// Whether the run passes, with the component's serial runs as the specification, after the setup of
@@ -137,7 +140,8 @@ fn is_passing(
 ///
 /// A run passes if it is linearizable (Herlihy and Wing, 1990). A run that is stuck passes if, for
 /// each pending call, a serial run with the same operations gets stuck in this call (Burckhardt,
-/// Dern, Musuvathi and Tan, 2010).
+/// Dern, Musuvathi and Tan, 2010). A run that does not pass has the number of the first event after
+/// which it has no linearization, or else a thread whose pending call can't be stuck.
 ///
 /// `bound`, up to 256, is the number of moves that an operation may take after its call. The memory
 /// that is needed depends on the states and the pending calls, and not on the length of the run.
@@ -164,7 +168,8 @@ pub fn judge_run(
     let mut table = first_table(alloc, start)?;
     let mut monitor = Monitor::new(alloc, 0)?;
     let mut pending = [None; 8];
-    for event in &run.events {
+    let mut lost = None;
+    for (number, event) in run.events.iter().enumerate() {
         let Some(next) = advance(
             alloc,
             component,
@@ -178,11 +183,11 @@ pub fn judge_run(
         else {
             return Ok(RunVerdict::Undecided);
         };
+        lost = first_lost(lost, number, &next);
         monitor = next;
     }
-    if is_passing(run.is_stuck, &table, &monitor, &pending) {
-        Ok(RunVerdict::Passes)
-    } else {
-        Ok(RunVerdict::Fails)
+    match lost {
+        Some(number) => Ok(RunVerdict::FailsAt(number)),
+        None => Ok(end_verdict(run.is_stuck, &table, &monitor, &pending)),
     }
 }

@@ -64,9 +64,9 @@ fn runs_of_a_counter(rt: HostRuntime) -> Result<(), Fail> {
     let good = verdict(&rt, &[INC0, INC1, back(1, 1), back(0, 2)], false)?;
     assert!(rt; good == RunVerdict::Passes);
     let lost = verdict(&rt, &[INC0, INC1, back(1, 1), back(0, 1)], false)?;
-    assert!(rt; lost == RunVerdict::Fails);
+    assert!(rt; lost == RunVerdict::FailsAt(3));
     let late = verdict(&rt, &[INC0, back(0, 2), INC1, back(1, 1)], false)?;
-    assert!(rt; late == RunVerdict::Fails);
+    assert!(rt; late == RunVerdict::FailsAt(1));
     let pending = verdict(&rt, &[INC0, INC1, back(1, 2)], false)?;
     assert!(rt; pending == RunVerdict::Passes);
     let waits = verdict(
@@ -76,11 +76,11 @@ fn runs_of_a_counter(rt: HostRuntime) -> Result<(), Fail> {
     )?;
     assert!(rt; waits == RunVerdict::Passes);
     let early = verdict(&rt, &[WAIT2, INC0, back(0, 1), back(2, 7)], false)?;
-    assert!(rt; early == RunVerdict::Fails);
+    assert!(rt; early == RunVerdict::FailsAt(3));
     let stuck = verdict(&rt, &[WAIT2, INC0, back(0, 1)], true)?;
     assert!(rt; stuck == RunVerdict::Passes);
     let blocked = verdict(&rt, &[WAIT2, INC0, back(0, 1), INC1, back(1, 2)], true)?;
-    assert!(rt; blocked == RunVerdict::Fails);
+    assert!(rt; blocked == RunVerdict::CannotBeStuck(2));
     Ok(())
 }
 

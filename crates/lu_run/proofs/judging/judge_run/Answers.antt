@@ -1,18 +1,21 @@
-use Rattle.std.proofs.Common.{arith, ◌≡◌, ◌+◌, Some, refl, sym, ◌∙◌, ap, subst, List, [], ◌++◌, ◌∷◌, length, take, drop, get_or, slice_get, suc, add-one}
+use Rattle.std.proofs.Common.{arith, replicate, ◌≡◌, ◌+◌, Some, None, refl, sym, ◌∙◌, ap, subst, List, [], ◌++◌, ◌∷◌, length, take, drop, get_or, slice_get, suc, add-one}
 use Rattle.std.proofs.lemmas.List.{take_all}
-use Rattle.std.proofs.lemmas.Option.{slice_get-get_or}
+use Rattle.std.proofs.lemmas.Option.{slice_get-get_or, slice_get_within}
 use Rattle.lu_test.specs.declared.matrix.Call.{Call as ACall}
 use Rattle.lu_history.proofs.Events.{split_at, take_next}
+use Rattle.lu_machine.specs.Starts.{IsStart}
+use Rattle.lu_machine.specs.States.{State}
 use Rattle.lu_run.specs.declared.run.RunEvent.{RunEvent}
 use Rattle.lu_run.specs.declared.run.RunEvent.TheVariants.{Call as Calls}
-use Rattle.lu_run.specs.Judging.{Advances, IsFollowed}
+use Rattle.lu_run.specs.Judging.{Advances, HasLinearization, IsFollowed, TellsLost}
 use Rattle.lu_run.specs.Runs.{history_of, matrix_of}
-use Rattle.lu_run.proofs.Stuck.{passing, passing_back}
 use Rattle.lu_run.proofs.Beginning.{first_followed, first_is, no_pending}
+use Rattle.lu_run.proofs.Failing.{at_end, lost_fails, next_lost, not_empty}
+use Rattle.lu_run.proofs.Finished.{some_left}
 use Rattle.lu_run.proofs.judging.judge_run.Goals as goal
 
-pub loop-event-init : goal.loop-event-init
-loop-event-init c =
+pub loop-number-init : goal.loop-number-init
+loop-number-init c =
     let component = c.args.component.now in
     let calls = c.args.run.now.calls.items in
     let events = c.args.run.now.events.items in
@@ -22,6 +25,10 @@ loop-event-init c =
       table = first_is component calls p c.in_ok-table.table c.in_ok-table.ensures good;
       seated = λ t call is. absurd (let e = no_pending t in cc);
       followed = λ s start. first_followed component calls p c.in_ok-table.table c.in_ok-table.ensures good s events (matrix_of c.args.matrix.now.setup calls events) _ c.in_ok-monitor.monitor start (c.in_ok-start.ensures.rest (matrix_of c.args.matrix.now.setup calls events) s refl start) no_pending c.in_ok-monitor.ensures;
+      lost = λ s start.
+          (let list = c.in_ok-monitor.monitor in
+          let was = first_followed component calls p c.in_ok-table.table c.in_ok-table.ensures good s events (matrix_of c.args.matrix.now.setup calls events) _ list start (c.in_ok-start.ensures.rest (matrix_of c.args.matrix.now.setup calls events) s refl start) no_pending c.in_ok-monitor.ensures in
+          some_left component s calls events [] c.in_ok-table.table (replicate 8 None) list (not_empty list c.in_ok-monitor.ensures) was);
     }
 
 pub advance-requires-clause-calls : goal.advance-requires-clause-calls
@@ -30,46 +37,49 @@ advance-requires-clause-calls c = rw c.deref.ensures.value c.requires.calls
 pub advance-requires-clause-event : goal.advance-requires-clause-event
 advance-requires-clause-event c =
     let items = c.deref-event-items.result.now in
-    let i = c.loop-event.event-index in
+    let i = c.loop-number.number in
     let e : RunEvent = get_or items i (Calls 0 0) in
-    let at : slice_get c.args.run.now.events.items i ≡ Some e = ap (λ xs. slice_get xs i) (sym c.deref-event-items.ensures.value) ∙ slice_get-get_or items i (Calls 0 0) c.loop-event-test.true in
+    let at : slice_get c.args.run.now.events.items i ≡ Some e = ap (λ xs. slice_get xs i) (sym c.deref-event-items.ensures.value) ∙ slice_get-get_or items i (Calls 0 0) c.loop-number-test.true in
     rw c.deref.ensures.value (c.requires.run.events_of i e at)
 
-pub loop-event-preserved : goal.loop-event-preserved
-loop-event-preserved c =
+pub loop-number-preserved : goal.loop-number-preserved
+loop-number-preserved c =
     let component = c.args.component.now in
     let calls = c.args.run.now.calls.items in
     let events = c.args.run.now.events.items in
     let items = c.deref-event-items.result.now in
-    let i = c.loop-event.event-index in
+    let i = c.loop-number.number in
     let e : RunEvent = get_or items i (Calls 0 0) in
-    let at : slice_get events i ≡ Some e = ap (λ xs. slice_get xs i) (sym c.deref-event-items.ensures.value) ∙ slice_get-get_or items i (Calls 0 0) c.loop-event-test.true in
-    let advances : Advances component c.deref.result.now e c.loop-event.table c.loop-event.pending c.loop-event.monitor c.advance.new.table c.advance.new.pending c.in-Some.next = rw c.in-Some.is at c.in_ok-next.ensures.advances in
-    let here : Advances component calls e c.loop-event.table c.loop-event.pending c.loop-event.monitor c.advance.new.table c.advance.new.pending c.in-Some.next = subst (λ (x : List ACall). Advances component x e c.loop-event.table c.loop-event.pending c.loop-event.monitor c.advance.new.table c.advance.new.pending c.in-Some.next) c.deref.ensures.value advances in
+    let at : slice_get events i ≡ Some e = ap (λ xs. slice_get xs i) (sym c.deref-event-items.ensures.value) ∙ slice_get-get_or items i (Calls 0 0) c.loop-number-test.true in
+    let advances : Advances component c.deref.result.now e c.loop-number.table c.loop-number.pending c.loop-number.monitor c.advance.new.table c.advance.new.pending c.in-Some.next = rw c.in-Some.is at c.in_ok-next.ensures.advances in
+    let here : Advances component calls e c.loop-number.table c.loop-number.pending c.loop-number.monitor c.advance.new.table c.advance.new.pending c.in-Some.next = subst (λ (x : List ACall). Advances component x e c.loop-number.table c.loop-number.pending c.loop-number.monitor c.advance.new.table c.advance.new.pending c.in-Some.next) c.deref.ensures.value advances in
     let taken : take (i + 1) events ≡ take i events ++ e ∷ [] = rw (add-one i) (take_next events e i at) in
+    let follows : (s : State) → IsStart component (matrix_of c.args.matrix.now.setup calls events) s → IsFollowed component s calls events c.advance.new.table c.advance.new.pending c.in-Some.next (history_of (take (i + 1) events)) =
+    (λ s start. subst (λ x. IsFollowed component s calls events c.advance.new.table c.advance.new.pending c.in-Some.next (history_of x)) (sym taken)
+    (here c.args.matrix.now.setup events (take i events) (drop (suc i) events) s start c.requires.run (split_at events e i at) (c.loop-number.invariant.followed s start))) in
     record {
       table = rw (← c.deref.ensures.value) c.in_ok-next.ensures.table;
       seated = c.in_ok-next.ensures.seated;
-      followed = λ s start. subst (λ x. IsFollowed component s calls events c.advance.new.table c.advance.new.pending c.in-Some.next (history_of x)) (sym taken)
-          (here c.args.matrix.now.setup events (take i events) (drop (suc i) events) s start c.requires.run (split_at events e i at) (c.loop-event.invariant.followed s start));
+      followed = follows;
+      lost = λ s start. next_lost component c.args.matrix.now.setup calls events s start c.requires.run i (drop (suc i) events) e c.advance.new.table c.advance.new.pending c.in-Some.next c.loop-number.lost c.first_lost-lost.result (slice_get_within events i e at) (split_at events e i at) taken (follows s start) c.first_lost-lost.ensures (c.loop-number.invariant.lost s start);
     }
 
-pub returns-then-is_passing : goal.returns-then-is_passing
-returns-then-is_passing c = λ s start.
+pub returns-in-Some-lost : goal.returns-in-Some-lost
+returns-in-Some-lost c = λ s start.
     let events = c.args.run.now.events.items in
     let long = ap length c.deref-event-items.ensures.value in
-    let le = c.loop-event-test.false in
-    let all : take c.loop-event.event-index events ≡ events = take_all c.loop-event.event-index events (omega (arith, long, le)) in
-    let was : IsFollowed c.args.component.now s c.args.run.now.calls.items events c.loop-event.table c.loop-event.pending c.loop-event.monitor (history_of events) = subst (λ x. IsFollowed c.args.component.now s c.args.run.now.calls.items events c.loop-event.table c.loop-event.pending c.loop-event.monitor (history_of x)) all (c.loop-event.invariant.followed s start) in
-    passing c.args.component.now c.args.matrix.now.setup c.args.run.now.calls.items events s start c.requires.run c.loop-event.table c.loop-event.pending c.loop-event.monitor was c.args.run.now.is_stuck (c.is_passing.ensures.0 c.if-is_passing.true)
+    let le = c.loop-number-test.false in
+    let all : take c.loop-number.number events ≡ events = take_all c.loop-number.number events (omega (arith, long, le)) in
+    let was : IsFollowed c.args.component.now s c.args.run.now.calls.items events c.loop-number.table c.loop-number.pending c.loop-number.monitor (history_of events) = subst (λ x. IsFollowed c.args.component.now s c.args.run.now.calls.items events c.loop-number.table c.loop-number.pending c.loop-number.monitor (history_of x)) all (c.loop-number.invariant.followed s start) in
+    let told : TellsLost s events c.loop-number.number (Some c.in-Some-lost.number) = subst (TellsLost s events c.loop-number.number) c.in-Some-lost.is (c.loop-number.invariant.lost s start) in
+    (told.0, lost_fails c.args.component.now c.args.matrix.now.setup c.args.run.now.calls.items events s start c.requires.run c.loop-number.table c.loop-number.pending c.loop-number.monitor was c.args.run.now.is_stuck (λ line. told.1 (subst (HasLinearization s) (sym all) line)))
 
 pub returns : goal.returns
-returns c = λ s start pass.
+returns c = λ s start.
     let events = c.args.run.now.events.items in
     let long = ap length c.deref-event-items.ensures.value in
-    let le = c.loop-event-test.false in
-    let all : take c.loop-event.event-index events ≡ events = take_all c.loop-event.event-index events (omega (arith, long, le)) in
-    let was : IsFollowed c.args.component.now s c.args.run.now.calls.items events c.loop-event.table c.loop-event.pending c.loop-event.monitor (history_of events) = subst (λ x. IsFollowed c.args.component.now s c.args.run.now.calls.items events c.loop-event.table c.loop-event.pending c.loop-event.monitor (history_of x)) all (c.loop-event.invariant.followed s start) in
-    let yes = c.is_passing.ensures.1 (passing_back c.args.component.now c.args.matrix.now.setup c.args.run.now.calls.items events s start c.requires.run c.loop-event.table c.loop-event.pending c.loop-event.monitor was c.args.run.now.is_stuck pass) in
-    let no = c.if-is_passing.false in
-    cc
+    let le = c.loop-number-test.false in
+    let all : take c.loop-number.number events ≡ events = take_all c.loop-number.number events (omega (arith, long, le)) in
+    let was : IsFollowed c.args.component.now s c.args.run.now.calls.items events c.loop-number.table c.loop-number.pending c.loop-number.monitor (history_of events) = subst (λ x. IsFollowed c.args.component.now s c.args.run.now.calls.items events c.loop-number.table c.loop-number.pending c.loop-number.monitor (history_of x)) all (c.loop-number.invariant.followed s start) in
+    let told : TellsLost s events c.loop-number.number None = subst (TellsLost s events c.loop-number.number) c.in-None.is (c.loop-number.invariant.lost s start) in
+    at_end c.args.component.now c.args.matrix.now.setup c.args.run.now.calls.items events s start c.requires.run c.loop-number.table c.loop-number.pending c.loop-number.monitor was c.args.run.now.is_stuck c.end_verdict.result (subst (HasLinearization s) all told) c.end_verdict.ensures
