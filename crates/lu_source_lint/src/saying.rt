@@ -4,7 +4,7 @@ use crate::foreign::{foreign_word, foreign_words};
 use crate::meaning::word_is;
 use crate::message::{SourceMessage, Warning, What};
 use crate::scope::{Declared, Scope};
-use lu_source_text::{SourceFaultKind, is_free_name, source_words};
+use lu_source_text::{MOST_NESTING, SourceFaultKind, is_free_name, nesting, source_words};
 use lu_text::value_in;
 use std::alloc::{AllocError, Global};
 use std::str;
@@ -286,6 +286,8 @@ fn number_words(alloc: Global, words: &[&[u8]]) -> Result<String, AllocError> {
 fn limit_words(words: &[&[u8]]) -> &'static str {
     if words.len() > 256 {
         "too many words in this line; at most 256 are allowed"
+    } else if nesting(words) > MOST_NESTING {
+        "too many operators, `(` and `[` in this line; at most 64 are allowed; help: keep a part in a local"
     } else if word_is(words, 0, b"word") {
         "too many shared words (at most 16), an array length out of range (1 to 64), or a name over 32 bytes"
     } else if word_is(words, 0, b"lock") {
