@@ -2,7 +2,7 @@
 use Rattle.std.specs.Prelude.{◌≡◌, ℕ, ◌<◌, List, Option, Some, None, IsSome, slice_get}
 use Rattle.lu_history.specs.declared.serial.SerialOutcome.{SerialOutcome}
 use Rattle.lu_linearization.specs.declared.configuration.Configuration.{Configuration as Kept}
-use Rattle.lu_linearization.specs.Monitors.{by_thread}
+use Rattle.lu_linearization.specs.Monitors.{AreClosed, by_thread}
 use Rattle.lu_run.specs.declared.automaton.ThreadCall.{ThreadCall}
 use Rattle.lu_run.specs.declared.table.Question.{Question}
 use Rattle.lu_run.specs.declared.table.Table.{Table}
@@ -45,3 +45,8 @@ AllKnown table pending list =
 abbrev pub AreSeated : List (Option ThreadCall) → Type 0
 AreSeated pending =
     (t : ℕ) (call : ThreadCall) → by_thread pending t ≡ Some call → call.thread < 8
+
+-- after a call of thread t, the configurations are those of this list and those that come of them
+abbrev pub IsClosure : Table → List (Option ThreadCall) → ℕ → List Kept → List Kept → Type 0
+IsClosure table pending t list next =
+    AreClosed (NextState table) (by_thread pending) t list next

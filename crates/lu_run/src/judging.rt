@@ -1,11 +1,11 @@
 //! The verdict on a run.
 
-ghost use Rattle.std.specs.Prelude.{◌≡◌, ◌<◌, ◌≤◌, ◌↔◌, IfOk, IfSome, IsTrue, OnOk};
+ghost use Rattle.std.specs.Prelude.{◌≡◌, ◌<◌, ◌≤◌, ◌↔◌, IsTrue, OnOk};
 ghost use Rattle.lu_machine.specs.declared.TheConstants.{MOST_MOVES};
-ghost use Rattle.lu_machine.specs.Starts.{CanRun, FromEachStart};
+ghost use Rattle.lu_machine.specs.Starts.{CanRun};
 ghost use Rattle.lu_run.specs.Following.{AreSeated};
-ghost use Rattle.lu_run.specs.Judging.{Advances, FindsLost, IsEndVerdict, IsVerdict, StuckIfPending, TellsNotStuck};
-ghost use Rattle.lu_run.specs.Runs.{IsEventOf, IsRun, matrix_of};
+ghost use Rattle.lu_run.specs.Judging.{FindsLost, IfAdvances, IsEndVerdict, JudgesRun, StuckIfPending, TellsNotStuck};
+ghost use Rattle.lu_run.specs.Runs.{IsEventOf, IsRun};
 ghost use Rattle.lu_run.specs.Tables.{AreCallsOf, IsTable};
 
 use crate::automaton::ThreadCall;
@@ -55,8 +55,8 @@ fn advance(
     requires few { bound ≤ MOST_MOVES }
     ensures table { OnOk result (IsTable component.now calls.now table.new) }
     ensures seated { OnOk result (AreSeated pending.new) }
-    ensures advances { IfOk result (λ m. IfSome m (Advances component.now calls.now event
-        table.old pending.old monitor.now table.new pending.new)) }
+    ensures advances { IfAdvances component.now calls.now event table.old pending.old monitor.now
+        table.new pending.new result }
 {
     match event {
         RunEvent::Call { thread, call } => {
@@ -160,9 +160,7 @@ pub fn judge_run(
     requires calls { AreCallsOf component.now run.now.calls.items }
     requires run { IsRun run.now.calls.items run.now.events.items }
     requires few { bound ≤ MOST_MOVES }
-    ensures { FromEachStart component.now
-        (matrix_of matrix.now.setup run.now.calls.items run.now.events.items)
-        (λ s. IfOk result (IsVerdict s run.now.events.items run.now.is_stuck)) }
+    ensures { JudgesRun component.now matrix.now run.now result }
 {
     let start = start_of(alloc, component, matrix)?;
     let mut table = first_table(alloc, start)?;
