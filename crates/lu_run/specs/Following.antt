@@ -1,5 +1,5 @@
 -- The monitor over the automaton, as far as it has been asked.
-use Rattle.std.specs.Prelude.{◌≡◌, ℕ, ◌<◌, List, Option, Some, None, IsSome, slice_get}
+use Rattle.std.specs.Prelude.{◌≡◌, ℕ, ◌<◌, List, Option, Some, None, IfOk, IfSome, IsSome, Result, slice_get}
 use Rattle.lu_history.specs.declared.serial.SerialOutcome.{SerialOutcome}
 use Rattle.lu_linearization.specs.declared.configuration.Configuration.{Configuration as Kept}
 use Rattle.lu_linearization.specs.Monitors.{AreClosed, by_thread}
@@ -46,7 +46,9 @@ abbrev pub AreSeated : List (Option ThreadCall) → Type 0
 AreSeated pending =
     (t : ℕ) (call : ThreadCall) → by_thread pending t ≡ Some call → call.thread < 8
 
--- after a call of thread t, the configurations are those of this list and those that come of them
-abbrev pub IsClosure : Table → List (Option ThreadCall) → ℕ → List Kept → List Kept → Type 0
-IsClosure table pending t list next =
-    AreClosed (NextState table) (by_thread pending) t list next
+-- what is returned, if anything is, has the configurations of this list after a call of thread t, and
+-- those that come of them
+abbrev pub IfCloses : {E : Type 0} → Table → List (Option ThreadCall) → ℕ → List Kept
+    → Result (Option (List Kept)) E → Type 0
+IfCloses table pending t list result =
+    IfOk result (λ next. IfSome next (AreClosed (NextState table) (by_thread pending) t list))

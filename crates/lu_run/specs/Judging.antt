@@ -24,6 +24,7 @@ use Rattle.lu_run.specs.declared.run.Run.{Run}
 use Rattle.lu_run.specs.declared.run.RunEvent.{RunEvent}
 use Rattle.lu_run.specs.declared.table.Rests.{Rests}
 use Rattle.lu_run.specs.declared.table.Table.{Table}
+use Rattle.lu_run.specs.declared.judging.Follower.{Follower}
 use Rattle.lu_run.specs.declared.judging.RunVerdict.{RunVerdict}
 use Rattle.lu_run.specs.declared.judging.RunVerdict.TheVariants.{Passes, FailsAt, CannotBeStuck as NotStuck, Undecided}
 use Rattle.lu_run.specs.declared.table.Question.{Question}
@@ -96,22 +97,30 @@ pub record IsFollowed (c : Component) (s : State) (calls : List ACall) (events :
       → (state : Rests) × (slice_get table.states.keys d.state ≡ Some state)
   pub answered : AreAnswered table (by_thread pending) list
 
--- With the event that comes next in the run, the new table, pending calls and monitor follow it.
-abbrev pub Advances : Component → List ACall → RunEvent → Table → List (Option ThreadCall)
-    → List Kept → Table → List (Option ThreadCall) → List Kept → Type 0
-Advances c calls event table pending list new now next =
+-- The table's answers are right, and each pending call is one of its thread, of eight.
+pub record IsReady (c : Component) (calls : List ACall) (f : Follower) : Type 0 where
+  pub table : IsTable c calls f.table
+  pub seated : AreSeated f.pending
+  pub eight : length f.pending ≡ 8
+
+-- the follower has followed the run up to this history
+abbrev pub HasFollowed : Component → State → List ACall → List RunEvent → Follower → List Event
+    → Type 0
+HasFollowed c s calls events f h = IsFollowed c s calls events f.table f.pending f.monitor h
+
+-- with the event that comes next in the run, the new follower follows it
+abbrev pub Advances : Component → List ACall → RunEvent → Follower → Follower → Type 0
+Advances c calls event old new =
     (setup : List ACall) (events done more : List RunEvent) (s : State) →
     IsStart c (matrix_of setup calls events) s → IsRun calls events
-    → events ≡ done ++ event ∷ more
-    → IsFollowed c s calls events table pending list (history_of done)
-    → IsFollowed c s calls events new now next (history_of (done ++ event ∷ []))
+    → events ≡ done ++ event ∷ more → HasFollowed c s calls events old (history_of done)
+    → HasFollowed c s calls events new (history_of (done ++ event ∷ []))
 
 -- the same, of what a step returns, unless it is undecided or memory ran out
-abbrev pub IfAdvances : {E : Type 0} → Component → List ACall → RunEvent → Table
-    → List (Option ThreadCall) → List Kept → Table → List (Option ThreadCall)
-    → Result (Option (List Kept)) E → Type 0
-IfAdvances c calls event table pending list new now result =
-    IfOk result (λ next. IfSome next (Advances c calls event table pending list new now))
+abbrev pub IfAdvances : {E : Type 0} → Component → List ACall → RunEvent → Follower
+    → Result (Option Follower) E → Type 0
+IfAdvances c calls event old result =
+    IfOk result (λ next. IfSome next (Advances c calls event old))
 
 -- the matrix with this setup, in which eight threads make no calls
 abbrev pub idle_matrix : List ACall → Matrix

@@ -15,7 +15,7 @@ use Rattle.lu_run.specs.declared.words.TextEvent.{TextEvent}
 use Rattle.lu_run.specs.declared.words.TextEvent.TheVariants.{Call, Return}
 use Rattle.lu_run.specs.Checking.{TellsPending}
 use Rattle.lu_run.specs.Runs.{IsRun, history_of}
-use Rattle.lu_run.specs.RunText.{RunLines, by_words, event_line, event_of, is_pending, line_of, line_with, next_line, numbers_in, said_events, with_event}
+use Rattle.lu_run.specs.RunText.{RunLines, by_words, call_said, event_line, event_of, is_pending, line_of, line_with, next_line, numbers_in, said_events, with_event}
 use Rattle.lu_run.specs.Tables.{AreCallsOf, IsCallFor}
 
 -- these are the numbers of the words, if each is one
@@ -32,6 +32,12 @@ IsOf c pending (Return t outcome) = (t < 8) × (is_pending pending t ≡ true)
 abbrev pub seat_of : TextEvent → ℕ
 seat_of (Call t call) = t
 seat_of (Return t outcome) = t
+
+-- a line that says this call has this event, or a fault
+abbrev pub HasCall : Component → ℕ → List Bool → ℕ → Word → List ℕ
+    → Result TextEvent (Fault RunFaultKind) → Type 0
+HasCall c line pending t name numbers result =
+    OnLine line result (call_said c pending t name numbers)
 
 -- a line of these words has this event, or a fault
 abbrev pub HasEvent : Component → ℕ → List Bool → Word → List Word

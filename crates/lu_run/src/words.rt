@@ -12,8 +12,8 @@ ghost use Rattle.lu_text.specs.Words.{exactly_two};
 ghost use Rattle.lu_component.specs.Component.{Component};
 ghost use Rattle.lu_test.specs.Matrix.{AreArguments};
 ghost use Rattle.lu_run.specs.RunText as spec;
-ghost use Rattle.lu_run.specs.RunText.{call_said, value_return_of};
-ghost use Rattle.lu_run.specs.Reading.{AreNumbersOf, HasEvent, IsOf};
+ghost use Rattle.lu_run.specs.RunText.{value_return_of};
+ghost use Rattle.lu_run.specs.Reading.{AreNumbersOf, HasCall, HasEvent, IsOf};
 ghost use Rattle.lu_run.specs.Tables.{IsCallFor};
 
 use crate::fault::{RunFault, RunFaultKind};
@@ -110,8 +110,7 @@ fn call_next(
     numbers: Vec<u32>,
 ) -> Result<TextEvent, RunFault>
     requires { thread < 8 }
-    ensures event { OnLine line result
-        (call_said component.now pending.now thread name.now numbers.items) }
+    ensures event { HasCall component.now line pending.now thread name.now numbers.items result }
     ensures of { IfOk result (IsOf component.now pending.now) }
 {
     let Some(call) = named_call(component, name, numbers) else {
