@@ -1,8 +1,8 @@
 -- The monitor over the automaton, as far as it has been asked.
-use Rattle.std.specs.Prelude.{◌≡◌, ℕ, ◌<◌, List, Option, Some, None, IsSome, slice_get}
+use Rattle.std.specs.Prelude.{◌≡◌, ℕ, ◌<◌, List, Option, Some, None, IfOk, IfSome, IsSome, Result, slice_get}
 use Rattle.lu_history.specs.declared.serial.SerialOutcome.{SerialOutcome}
 use Rattle.lu_linearization.specs.declared.configuration.Configuration.{Configuration as Kept}
-use Rattle.lu_linearization.specs.Monitors.{by_thread}
+use Rattle.lu_linearization.specs.Monitors.{AreClosed, by_thread}
 use Rattle.lu_run.specs.declared.automaton.ThreadCall.{ThreadCall}
 use Rattle.lu_run.specs.declared.table.Question.{Question}
 use Rattle.lu_run.specs.declared.table.Table.{Table}
@@ -45,3 +45,10 @@ AllKnown table pending list =
 abbrev pub AreSeated : List (Option ThreadCall) → Type 0
 AreSeated pending =
     (t : ℕ) (call : ThreadCall) → by_thread pending t ≡ Some call → call.thread < 8
+
+-- what is returned, if anything is, has the configurations of this list after a call of thread t, and
+-- those that come of them
+abbrev pub IfCloses : {E : Type 0} → Table → List (Option ThreadCall) → ℕ → List Kept
+    → Result (Option (List Kept)) E → Type 0
+IfCloses table pending t list result =
+    IfOk result (λ next. IfSome next (AreClosed (NextState table) (by_thread pending) t list))

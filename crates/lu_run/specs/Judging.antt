@@ -1,11 +1,11 @@
 -- The runs that pass.
-use Rattle.std.specs.Prelude.{◌≢◌, ◌<◌, ◌+◌, Bool, true, MatchBool, ◌≡◌, ◌↔◌, ℕ, List, [], ◌∷◌, ◌++◌, length, take, Option, Some, None, IsSome, slice_get, unwrap_or}
+use Rattle.std.specs.Prelude.{◌≢◌, ◌<◌, ◌+◌, Bool, true, MatchBool, ◌≡◌, ◌↔◌, ℕ, List, [], ◌∷◌, ◌++◌, length, take, Option, Some, None, IfOk, IfSome, IsSome, Result, replicate, slice_get, unwrap_or}
 use Rattle.lu_component.specs.Component.{Component}
 use Rattle.lu_test.specs.declared.matrix.Call.{Call as ACall}
-use Rattle.lu_test.specs.Matrix.{Matrix}
+use Rattle.lu_test.specs.Matrix.{Matrix, matrix_with}
 use Rattle.lu_machine.specs.declared.event.Event.{Event}
 use Rattle.lu_machine.specs.declared.position.Position.{Position}
-use Rattle.lu_machine.specs.Starts.{IsStart}
+use Rattle.lu_machine.specs.Starts.{FromEachStart, IsStart}
 use Rattle.lu_machine.specs.States.{State}
 use Rattle.lu_history.specs.declared.operation.OpId.{OpId}
 use Rattle.lu_history.specs.Histories.{IsPending}
@@ -20,9 +20,11 @@ use Rattle.lu_linearization.specs.Linearizations.{IsLinearization}
 use Rattle.lu_linearization.specs.Configurations.{Configuration, IsConfiguration, Reads, pending_call}
 use Rattle.lu_linearization.specs.Monitors.{CanBeStuck, Holds, by_thread}
 use Rattle.lu_run.specs.declared.automaton.ThreadCall.{ThreadCall}
+use Rattle.lu_run.specs.declared.run.Run.{Run}
 use Rattle.lu_run.specs.declared.run.RunEvent.{RunEvent}
 use Rattle.lu_run.specs.declared.table.Rests.{Rests}
 use Rattle.lu_run.specs.declared.table.Table.{Table}
+use Rattle.lu_run.specs.declared.judging.Follower.{Follower}
 use Rattle.lu_run.specs.declared.judging.RunVerdict.{RunVerdict}
 use Rattle.lu_run.specs.declared.judging.RunVerdict.TheVariants.{Passes, FailsAt, CannotBeStuck as NotStuck, Undecided}
 use Rattle.lu_run.specs.declared.table.Question.{Question}
@@ -95,15 +97,34 @@ pub record IsFollowed (c : Component) (s : State) (calls : List ACall) (events :
       → (state : Rests) × (slice_get table.states.keys d.state ≡ Some state)
   pub answered : AreAnswered table (by_thread pending) list
 
--- With the event that comes next in the run, the new table, pending calls and monitor follow it.
-abbrev pub Advances : Component → List ACall → RunEvent → Table → List (Option ThreadCall)
-    → List Kept → Table → List (Option ThreadCall) → List Kept → Type 0
-Advances c calls event table pending list new now next =
+-- The table's answers are right, and each pending call is one of its thread, of eight.
+pub record IsReady (c : Component) (calls : List ACall) (f : Follower) : Type 0 where
+  pub table : IsTable c calls f.table
+  pub seated : AreSeated f.pending
+  pub eight : length f.pending ≡ 8
+
+-- the follower has followed the run up to this history
+abbrev pub HasFollowed : Component → State → List ACall → List RunEvent → Follower → List Event
+    → Type 0
+HasFollowed c s calls events f h = IsFollowed c s calls events f.table f.pending f.monitor h
+
+-- with the event that comes next in the run, the new follower follows it
+abbrev pub Advances : Component → List ACall → RunEvent → Follower → Follower → Type 0
+Advances c calls event old new =
     (setup : List ACall) (events done more : List RunEvent) (s : State) →
     IsStart c (matrix_of setup calls events) s → IsRun calls events
-    → events ≡ done ++ event ∷ more
-    → IsFollowed c s calls events table pending list (history_of done)
-    → IsFollowed c s calls events new now next (history_of (done ++ event ∷ []))
+    → events ≡ done ++ event ∷ more → HasFollowed c s calls events old (history_of done)
+    → HasFollowed c s calls events new (history_of (done ++ event ∷ []))
+
+-- the same, of what a step returns, unless it is undecided or memory ran out
+abbrev pub IfAdvances : {E : Type 0} → Component → List ACall → RunEvent → Follower
+    → Result (Option Follower) E → Type 0
+IfAdvances c calls event old result =
+    IfOk result (λ next. IfSome next (Advances c calls event old))
+
+-- the matrix with this setup, in which eight threads make no calls
+abbrev pub idle_matrix : List ACall → Matrix
+idle_matrix setup = matrix_with setup (replicate 8 [])
 
 -- The position is at rest, and its rest is that of each matrix with this setup at the start.
 pub record IsStartPosition (c : Component) (setup : List ACall) (p : Position) : Type 0 where
@@ -164,6 +185,12 @@ IsVerdict s events stuck (FailsAt n) =
 IsVerdict s events stuck (NotStuck t) =
     (stuck ≡ true) × IsNeverStuck s events t × (IsPassing s events stuck → ⊥)
 IsVerdict s events stuck Undecided = Unit {0}
+
+-- from each start with the setup of the matrix, the verdict on the run is right
+abbrev pub JudgesRun : {E : Type 0} → Component → Matrix → Run → Result RunVerdict E → Type 0
+JudgesRun c matrix run result =
+    FromEachStart c (matrix_of matrix.setup run.calls.items run.events.items)
+    (λ s. IfOk result (IsVerdict s run.events.items run.is_stuck))
 
 -- ---- the reason
 

@@ -1,6 +1,7 @@
 pub mod Codes
 pub mod Runs
 pub mod RunText
+pub mod RunWriting
 pub mod Checking
 pub mod Asking
 pub mod Tables

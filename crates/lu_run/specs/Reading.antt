@@ -1,9 +1,13 @@
 -- A run as far as its text is read.
-use Rattle.std.specs.Prelude.{◌≡◌, ◌⊎◌, ℕ, ◌<◌, Bool, true, false, List, [], ◌∷◌, ◌++◌, length, map, Option, Some, None, Vec, Result, Ok, Err, slice_get}
+use Rattle.std.specs.Prelude.{◌≡◌, ◌⊎◌, ℕ, ◌<◌, Bool, true, false, List, [], ◌∷◌, ◌++◌, length, map, Option, Some, None, Vec, Result, Ok, Err, IfOk, slice_get}
 use Rattle.std.specs.Option.{option_map}
+use Rattle.lu_text.specs.declared.fault.Fault.{Fault}
+use Rattle.lu_text.specs.Faults.{OnLine}
 use Rattle.lu_text.specs.Words.{Word}
 use Rattle.lu_component.specs.Component.{Component}
 use Rattle.lu_test.specs.declared.matrix.Call.{Call as ACall}
+use Rattle.lu_run.specs.declared.fault.RunFaultKind.{RunFaultKind}
+use Rattle.lu_run.specs.declared.run.Run.{Run}
 use Rattle.lu_run.specs.declared.reading.CallKey.{CallKey}
 use Rattle.lu_run.specs.declared.reading.Draft.{Draft}
 use Rattle.lu_run.specs.declared.run.RunEvent.{RunEvent}
@@ -11,7 +15,7 @@ use Rattle.lu_run.specs.declared.words.TextEvent.{TextEvent}
 use Rattle.lu_run.specs.declared.words.TextEvent.TheVariants.{Call, Return}
 use Rattle.lu_run.specs.Checking.{TellsPending}
 use Rattle.lu_run.specs.Runs.{IsRun, history_of}
-use Rattle.lu_run.specs.RunText.{RunLines, is_pending, numbers_in, said_events, with_event}
+use Rattle.lu_run.specs.RunText.{RunLines, by_words, call_said, event_line, event_of, is_pending, line_of, line_with, next_line, numbers_in, said_events, with_event}
 use Rattle.lu_run.specs.Tables.{AreCallsOf, IsCallFor}
 
 -- these are the numbers of the words, if each is one
@@ -28,6 +32,17 @@ IsOf c pending (Return t outcome) = (t < 8) × (is_pending pending t ≡ true)
 abbrev pub seat_of : TextEvent → ℕ
 seat_of (Call t call) = t
 seat_of (Return t outcome) = t
+
+-- a line that says this call has this event, or a fault
+abbrev pub HasCall : Component → ℕ → List Bool → ℕ → Word → List ℕ
+    → Result TextEvent (Fault RunFaultKind) → Type 0
+HasCall c line pending t name numbers result =
+    OnLine line result (call_said c pending t name numbers)
+
+-- a line of these words has this event, or a fault
+abbrev pub HasEvent : Component → ℕ → List Bool → Word → List Word
+    → Result TextEvent (Fault RunFaultKind) → Type 0
+HasEvent c line pending word words result = OnLine line result (event_of c pending word words)
 
 -- ---- the calls, by number
 
@@ -89,3 +104,44 @@ IsSoundIf c (Some d) = IsSound c d
 -- the draft says one event more
 abbrev pub Follows : Component → Draft → TextEvent → Draft → Type 0
 Follows c old e new = (seen new ≡ with_event (seen old) e) × IsSound c new
+
+-- what is returned is the draft with one event more
+abbrev pub AddsEvent : {E : Type 0} → Draft → TextEvent → Result Draft E → Type 0
+AddsEvent old e result =
+    (c : Component) → IsSound c old → IsOf c old.pending e → IfOk result (Follows c old e)
+
+-- what is returned is the draft with one line more, or the line's fault: a line that says an event,
+abbrev pub AddsEventLine : Component → ℕ → Draft → Word → List Word → Result Draft (Fault RunFaultKind) → Type 0
+AddsEventLine c line old word words result =
+    OnLine line (seen_next result) (event_line c (seen old) word words)
+
+-- a line after the line `run`,
+abbrev pub AddsNext : Component → ℕ → Draft → Word → List Word → Result Draft (Fault RunFaultKind) → Type 0
+AddsNext c line old word words result =
+    OnLine line (seen_next result) (next_line c (seen old) word words)
+
+-- a line with words,
+abbrev pub AddsWith : Component → ℕ → Option Draft → Word → List Word
+    → Result (Option Draft) (Fault RunFaultKind) → Type 0
+AddsWith c line old word words result =
+    OnLine line (seen_in result) (line_with c (seen_if old) word words)
+
+-- a line by its words,
+abbrev pub AddsWords : Component → ℕ → Option Draft → List Word
+    → Result (Option Draft) (Fault RunFaultKind) → Type 0
+AddsWords c line old words result = OnLine line (seen_in result) (by_words c (seen_if old) words)
+
+-- and any line
+abbrev pub AddsLine : Component → ℕ → Option Draft → List ℕ → Result (Option Draft) (Fault RunFaultKind)
+    → Type 0
+AddsLine c line old text result = OnLine line (seen_in result) (line_of c (seen_if old) text)
+
+-- ---- the run at the end
+
+-- the component has the run's calls
+abbrev pub HasCallsOf : Component → Run → Type 0
+HasCallsOf c run = AreCallsOf c run.calls.items
+
+-- the run's events are those of a run with its calls
+abbrev pub IsWholeRun : Run → Type 0
+IsWholeRun run = IsRun run.calls.items run.events.items

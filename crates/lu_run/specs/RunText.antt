@@ -3,7 +3,8 @@ use Rattle.std.specs.Prelude.{ℕ, ◌==◌, ◌&&◌, Bool, true, false, List, 
 use Rattle.std.specs.List.{filter_map, list_all}
 use Rattle.std.specs.Option.{option_map}
 use Rattle.std.specs.Str.{bytes_eq}
-use Rattle.lu_text.specs.Faults.{Grammar}
+use Rattle.lu_text.specs.declared.fault.Fault.{Fault}
+use Rattle.lu_text.specs.Faults.{Grammar, meaning_of_lines}
 use Rattle.lu_text.specs.Lines.{words_of, is_allowed}
 use Rattle.lu_text.specs.Numbers.{below, value_in}
 use Rattle.lu_text.specs.Words.{Word, exactly_two, exactly_three}
@@ -81,10 +82,13 @@ abbrev pub named_call : Component → Word → List ℕ → Option ACall
 named_call c name numbers =
     call_of_number c.operations numbers (operation_number c.operations name)
 
+-- the call of thread t of the operation of this name with these arguments
+abbrev pub call_said : Component → List Bool → ℕ → Word → List ℕ → Result TextEvent RunFaultKind
+call_said c pending t name numbers = call_next pending t (named_call c name numbers)
+
 abbrev pub call_with : Component → List Bool → Option ℕ → Word → Option (List ℕ)
     → Result TextEvent RunFaultKind
-call_with c pending (Some t) name (Some numbers) =
-    call_next pending t (named_call c name numbers)
+call_with c pending (Some t) name (Some numbers) = call_said c pending t name numbers
 call_with c pending _ name _ = Err Number
 
 -- after `call`: a thread, the name of an operation, and its arguments
@@ -105,13 +109,16 @@ returned pending (Some (t, word, value)) =
     else Err Form
 returned pending None = Err Form
 
+abbrev pub value_return_of : List Bool → List Word → Result TextEvent RunFaultKind
+value_return_of pending words = returned pending (exactly_three words)
+
 -- or a thread and `trap`
 abbrev pub trapped : List Bool → List Word → Option (Word × Word)
     → Result TextEvent RunFaultKind
 trapped pending words (Some (t, word)) =
     if bytes_eq word (codes "trap") then return_with pending (thread_in t) (Some Trap)
     else Err Form
-trapped pending words None = returned pending (exactly_three words)
+trapped pending words None = value_return_of pending words
 
 -- what these words say after `return`
 abbrev pub return_of : List Bool → List Word → Result TextEvent RunFaultKind
@@ -193,6 +200,10 @@ finished (Some lines) = Ok lines.said
 -- the text of a run of a component
 abbrev pub run_grammar : Component → Grammar RunFaultKind (Option RunLines) RunText
 run_grammar c = record { nothing = None; line = line_of c; finish = finished }
+
+-- the run that these lines say, or their first fault
+abbrev pub run_said : Component → List (List ℕ) → Result RunText (Fault RunFaultKind)
+run_said c lines = meaning_of_lines (run_grammar c) lines
 
 -- ---- a run and its text
 

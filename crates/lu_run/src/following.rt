@@ -2,8 +2,7 @@
 
 ghost use Rattle.std.specs.Prelude.{◌≡◌, ◌<◌, ◌≤◌, IfOk, IfSome, IsTrue, OnOk, length, slice_get};
 ghost use Rattle.lu_machine.specs.declared.TheConstants.{MOST_MOVES};
-ghost use Rattle.lu_linearization.specs.Monitors.{AreClosed, by_thread};
-ghost use Rattle.lu_run.specs.Following.{AllKnown, AreSeated, IsKnownAt, NextState, question_at};
+ghost use Rattle.lu_run.specs.Following.{AllKnown, AreSeated, IfCloses, IsKnownAt, question_at};
 ghost use Rattle.lu_run.specs.Tables.{AreCallsOf, Grows, IsTable};
 
 use crate::automaton::{ThreadCall, question_of};
@@ -142,8 +141,7 @@ pub(crate) fn follow(
     requires few { bound ≤ MOST_MOVES }
     ensures table { OnOk result (IsTable component.now calls.now table.new) }
     ensures grows { OnOk result (Grows table.old table.new) }
-    ensures closed { IfOk result (λ m. IfSome m (λ next.
-        AreClosed (NextState table.new) (by_thread pending.now) thread monitor.now next)) }
+    ensures closed { IfCloses table.new pending.now thread monitor.now result }
     ensures known { IfOk result (λ m. IfSome m (AllKnown table.new pending.now)) }
 {
     for _round in 0..MOST_ROUNDS {

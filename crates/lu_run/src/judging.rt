@@ -1,12 +1,11 @@
 //! The verdict on a run.
 
-ghost use Rattle.std.specs.Prelude.{◌≡◌, ◌<◌, ◌≤◌, ◌↔◌, IfOk, IfSome, IsTrue, OnOk};
+ghost use Rattle.std.specs.Prelude.{◌≡◌, ◌<◌, ◌≤◌, ◌↔◌, IfOk, IfSome, IsTrue};
 ghost use Rattle.lu_machine.specs.declared.TheConstants.{MOST_MOVES};
-ghost use Rattle.lu_machine.specs.Starts.{CanRun, FromEachStart};
-ghost use Rattle.lu_run.specs.Following.{AreSeated};
-ghost use Rattle.lu_run.specs.Judging.{Advances, FindsLost, IsEndVerdict, IsVerdict, StuckIfPending, TellsNotStuck};
-ghost use Rattle.lu_run.specs.Runs.{IsEventOf, IsRun, matrix_of};
-ghost use Rattle.lu_run.specs.Tables.{AreCallsOf, IsTable};
+ghost use Rattle.lu_machine.specs.Starts.{CanRun};
+ghost use Rattle.lu_run.specs.Judging.{FindsLost, IfAdvances, IsEndVerdict, IsReady, JudgesRun, StuckIfPending, TellsNotStuck};
+ghost use Rattle.lu_run.specs.Runs.{IsEventOf, IsRun};
+ghost use Rattle.lu_run.specs.Tables.{AreCallsOf};
 
 use crate::automaton::ThreadCall;
 use crate::following::follow;
@@ -36,43 +35,61 @@ pub enum RunVerdict {
     Undecided,
 }
 
-/// The monitor after one more event. None where a call takes more moves than the bound, or has two
+/// A run as far as it is followed.
+#[derive(Drop)]
+pub(crate) struct Follower {
+    pub(crate) table: Table,
+
+    /// Of each thread, its pending call.
+    pub(crate) pending: [Option<ThreadCall>; 8],
+    pub(crate) monitor: Monitor,
+}
+
+/// The follower after one more event. None where a call takes more moves than the bound, or has two
 /// outcomes.
 fn advance(
     alloc: Global,
     component: &Component,
     calls: &[Call],
     bound: u16,
-    table: &mut Table,
-    pending: &mut [Option<ThreadCall>; 8],
-    monitor: &Monitor,
+    follower: Follower,
     event: RunEvent,
-) -> Result<Option<Monitor>, AllocError>
-    requires table { IsTable component.now calls.now table.old }
+) -> Result<Option<Follower>, AllocError>
+    requires ready { IsReady component.now calls.now follower }
     requires calls { AreCallsOf component.now calls.now }
-    requires seated { AreSeated pending.old }
     requires event { IsEventOf calls.now event }
     requires few { bound ≤ MOST_MOVES }
-    ensures table { OnOk result (IsTable component.now calls.now table.new) }
-    ensures seated { OnOk result (AreSeated pending.new) }
-    ensures advances { IfOk result (λ m. IfSome m (Advances component.now calls.now event
-        table.old pending.old monitor.now table.new pending.new)) }
+    ensures ready { IfOk result (λ next. IfSome next (IsReady component.now calls.now)) }
+    ensures advances { IfAdvances component.now calls.now event follower result }
 {
+    let Follower {
+        mut table,
+        mut pending,
+        monitor,
+    } = follower;
     match event {
         RunEvent::Call { thread, call } => {
             pending[usize::from(thread)] = Some(ThreadCall { thread, call });
             let followed = follow(
-                alloc, component, calls, bound, table, monitor, pending, thread,
+                alloc, component, calls, bound, &mut table, &monitor, &pending, thread,
             )?;
             match followed {
                 None => Ok(None),
-                Some(next) => Ok(Some(next)),
+                Some(next) => Ok(Some(Follower {
+                    table,
+                    pending,
+                    monitor: next,
+                })),
             }
         }
         RunEvent::Return { thread, outcome } => {
             pending[usize::from(thread)] = None;
             let next = monitor.ret(alloc, thread, outcome)?;
-            Ok(Some(next))
+            Ok(Some(Follower {
+                table,
+                pending,
+                monitor: next,
+            }))
         }
     }
 }
@@ -160,34 +177,29 @@ pub fn judge_run(
     requires calls { AreCallsOf component.now run.now.calls.items }
     requires run { IsRun run.now.calls.items run.now.events.items }
     requires few { bound ≤ MOST_MOVES }
-    ensures { FromEachStart component.now
-        (matrix_of matrix.now.setup run.now.calls.items run.now.events.items)
-        (λ s. IfOk result (IsVerdict s run.now.events.items run.now.is_stuck)) }
+    ensures { JudgesRun component.now matrix.now run.now result }
 {
     let start = start_of(alloc, component, matrix)?;
-    let mut table = first_table(alloc, start)?;
-    let mut monitor = Monitor::new(alloc, 0)?;
-    let mut pending = [None; 8];
+    let mut follower = Follower {
+        table: first_table(alloc, start)?,
+        pending: [None; 8],
+        monitor: Monitor::new(alloc, 0)?,
+    };
     let mut lost = None;
     for (number, event) in run.events.iter().enumerate() {
-        let Some(next) = advance(
-            alloc,
-            component,
-            &run.calls,
-            bound,
-            &mut table,
-            &mut pending,
-            &monitor,
-            *event,
-        )?
-        else {
+        let Some(next) = advance(alloc, component, &run.calls, bound, follower, *event)? else {
             return Ok(RunVerdict::Undecided);
         };
-        lost = first_lost(lost, number, &next);
-        monitor = next;
+        lost = first_lost(lost, number, &next.monitor);
+        follower = next;
     }
     match lost {
         Some(number) => Ok(RunVerdict::FailsAt(number)),
-        None => Ok(end_verdict(run.is_stuck, &table, &monitor, &pending)),
+        None => Ok(end_verdict(
+            run.is_stuck,
+            &follower.table,
+            &follower.monitor,
+            &follower.pending,
+        )),
     }
 }

@@ -12,9 +12,11 @@ mod run;
 mod starting;
 mod table;
 mod words;
+mod writing;
 
 pub use checking::{are_calls_of, is_run};
 pub use fault::{RunFault, RunFaultKind};
 pub use judging::{RunVerdict, judge_run};
 pub use reading::read_run;
 pub use run::{Run, RunEvent};
+pub use writing::write_run;

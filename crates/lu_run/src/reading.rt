@@ -3,10 +3,10 @@
 ghost use Rattle.std.specs.Prelude.{◌≡◌, ◌<◌, IfOk, IfSome, OnOk, length};
 ghost use Rattle.lu_component.specs.Component.{Component};
 ghost use Rattle.lu_text.specs.Lines.{texts};
-ghost use Rattle.lu_text.specs.Faults.{Gives, OnLine, TellsFirst, meaning_of, meaning_of_lines};
+ghost use Rattle.lu_text.specs.Faults.{Gives, OnLine, TellsFirst, meaning_of};
 ghost use Rattle.lu_run.specs.RunText as spec;
-ghost use Rattle.lu_run.specs.RunText.{event_line, run_grammar, said_by};
-ghost use Rattle.lu_run.specs.Reading.{Follows, IsNumberOf, IsOf, IsSound, IsSoundIf, KeepsKeys, call_of_key, calls_of_keys, seat_of, seen, seen_if, seen_in, seen_next};
+ghost use Rattle.lu_run.specs.RunText.{run_grammar, run_said, said_by};
+ghost use Rattle.lu_run.specs.Reading.{AddsEvent, AddsEventLine, AddsLine, AddsNext, AddsWith, AddsWords, HasCallsOf, IsNumberOf, IsSound, IsSoundIf, IsWholeRun, KeepsKeys, call_of_key, calls_of_keys, seat_of, seen, seen_if};
 ghost use Rattle.lu_run.specs.declared.words.TextEvent.TheVariants as text;
 ghost use Rattle.lu_run.specs.Runs.{AreDistinct, IsRun};
 ghost use Rattle.lu_run.specs.Tables.{AreCallsOf};
@@ -63,8 +63,7 @@ fn number_of(keys: &mut IndexSet<CallKey>, key: CallKey) -> Result<Option<u32>, 
 /// The draft with a call more.
 fn with_call(alloc: Global, mut draft: Draft, thread: u8, call: &Call) -> Result<Draft, AllocError>
     requires { thread < 8 }
-    ensures { (c : Component) → IsSound c draft → IsOf c draft.pending (text.Call thread call.now)
-        → IfOk result (Follows c draft (text.Call thread call.now)) }
+    ensures { AddsEvent draft (text.Call thread call.now) result }
 {
     let key = key_of(alloc, call)?;
     let Some(number) = number_of(&mut draft.keys, key)? else {
@@ -81,8 +80,7 @@ fn with_call(alloc: Global, mut draft: Draft, thread: u8, call: &Call) -> Result
 /// The draft with a return more.
 fn with_return(mut draft: Draft, thread: u8, outcome: Outcome) -> Result<Draft, AllocError>
     requires { thread < 8 }
-    ensures { (c : Component) → IsSound c draft → IsOf c draft.pending (text.Return thread outcome)
-        → IfOk result (Follows c draft (text.Return thread outcome)) }
+    ensures { AddsEvent draft (text.Return thread outcome) result }
 {
     draft.events.push(RunEvent::Return { thread, outcome })?;
     draft.pending[usize::from(thread)] = false;
@@ -92,8 +90,7 @@ fn with_return(mut draft: Draft, thread: u8, outcome: Outcome) -> Result<Draft, 
 /// The draft with an event more.
 fn with_event(alloc: Global, draft: Draft, event: &TextEvent) -> Result<Draft, AllocError>
     requires { seat_of event.now < 8 }
-    ensures { (c : Component) → IsSound c draft → IsOf c draft.pending event.now
-        → IfOk result (Follows c draft event.now) }
+    ensures { AddsEvent draft event.now result }
 {
     match event {
         TextEvent::Call { thread, call } => with_call(alloc, draft, *thread, call),
@@ -118,8 +115,7 @@ fn event_line(
     words: &[&[u8]],
 ) -> Result<Draft, RunFault>
     requires { IsSound component.now draft }
-    ensures said { OnLine line (seen_next result)
-        (event_line component.now (seen draft) word.now (texts words.now)) }
+    ensures said { AddsEventLine component.now line draft word.now (texts words.now) result }
     ensures sound { IfOk result (IsSound component.now) }
 {
     let event = event_in(alloc, component, line, &draft.pending, word, words)?;
@@ -136,8 +132,7 @@ fn next_line(
     words: &[&[u8]],
 ) -> Result<Draft, RunFault>
     requires { IsSound component.now draft }
-    ensures said { OnLine line (seen_next result)
-        (spec.next_line component.now (seen draft) word.now (texts words.now)) }
+    ensures said { AddsNext component.now line draft word.now (texts words.now) result }
     ensures sound { IfOk result (IsSound component.now) }
 {
     if draft.is_stuck {
@@ -173,8 +168,7 @@ fn line_with(
     words: &[&[u8]],
 ) -> Result<Option<Draft>, RunFault>
     requires { IsSoundIf component.now draft }
-    ensures said { OnLine line (seen_in result)
-        (spec.line_with component.now (seen_if draft) word.now (texts words.now)) }
+    ensures said { AddsWith component.now line draft word.now (texts words.now) result }
     ensures sound { IfOk result (IsSoundIf component.now) }
 {
     match draft {
@@ -197,8 +191,7 @@ fn with_words(
     words: &[&[u8]],
 ) -> Result<Option<Draft>, RunFault>
     requires { IsSoundIf component.now draft }
-    ensures said { OnLine line (seen_in result)
-        (spec.by_words component.now (seen_if draft) (texts words.now)) }
+    ensures said { AddsWords component.now line draft (texts words.now) result }
     ensures sound { IfOk result (IsSoundIf component.now) }
 {
     let Some((word, rest)) = words.split_first() else {
@@ -217,8 +210,7 @@ fn read_line(
     text: &[u8],
 ) -> Result<Option<Draft>, RunFault>
     requires { IsSoundIf component.now draft }
-    ensures said { OnLine line (seen_in result)
-        (spec.line_of component.now (seen_if draft) text.now) }
+    ensures said { AddsLine component.now line draft text.now result }
     ensures sound { IfOk result (IsSoundIf component.now) }
 {
     if !are_allowed(text) {
@@ -247,10 +239,8 @@ fn calls_of_keys(alloc: Global, keys: &[CallKey]) -> Result<Vec<Call>, AllocErro
 fn finish(alloc: Global, draft: Option<Draft>, lines: usize) -> Result<Run, RunFault>
     ensures said { OnLine lines (said_by result) (spec.finished (seen_if draft)) }
     ensures distinct { IfOk result (λ run. AreDistinct run.calls.items) }
-    ensures calls { (c : Component) → IsSoundIf c draft
-        → IfOk result (λ run. AreCallsOf c run.calls.items) }
-    ensures run { (c : Component) → IsSoundIf c draft
-        → IfOk result (λ run. IsRun run.calls.items run.events.items) }
+    ensures calls { (c : Component) → IsSoundIf c draft → IfOk result (HasCallsOf c) }
+    ensures run { (c : Component) → IsSoundIf c draft → IfOk result IsWholeRun }
 {
     let Some(draft) = draft else {
         return Err(Fault::At(RunFaultKind::Form, lines));
@@ -264,8 +254,7 @@ fn finish(alloc: Global, draft: Option<Draft>, lines: usize) -> Result<Run, RunF
 }
 
 fn read_lines(alloc: Global, component: &Component, lines: &[&[u8]]) -> Result<Run, RunFault>
-    ensures said { Gives (said_by result)
-        (meaning_of_lines (run_grammar component.now) (texts lines.now)) }
+    ensures said { Gives (said_by result) (run_said component.now (texts lines.now)) }
     ensures distinct { IfOk result (λ run. AreDistinct run.calls.items) }
     ensures calls { IfOk result (λ run. AreCallsOf component.now run.calls.items) }
     ensures run { IfOk result (λ run. IsRun run.calls.items run.events.items) }

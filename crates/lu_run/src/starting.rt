@@ -2,8 +2,7 @@
 
 ghost use Rattle.std.specs.Prelude.{◌≡◌, [], ◌∷◌, IfOk, IfSome, IsSome, replicate};
 ghost use Rattle.lu_machine.specs.Starts.{CanRun};
-ghost use Rattle.lu_test.specs.Matrix.{matrix_with};
-ghost use Rattle.lu_run.specs.Judging.{IsFirstTable, IsStartPosition};
+ghost use Rattle.lu_run.specs.Judging.{IsFirstTable, IsStartPosition, idle_matrix};
 
 use crate::asking::copy_of;
 use crate::table::{Rests, Table};
@@ -43,8 +42,7 @@ fn without_calls(
 ) -> Result<Option<Matrix>, AllocError>
     requires { CanRun component.now matrix.now }
     ensures made { IfOk result (λ new. IsSome new) }
-    ensures calls { IfOk result (λ new. IfSome new (λ idle.
-        idle ≡ matrix_with matrix.now.setup (replicate 8 []))) }
+    ensures calls { IfOk result (λ new. IfSome new (λ idle. idle ≡ idle_matrix matrix.now.setup)) }
     ensures runs { IfOk result (λ new. IfSome new (λ idle. CanRun component.now idle)) }
 {
     let setup = Calls::new(copies_of(alloc, matrix.setup().as_slice())?);

@@ -8,11 +8,12 @@ ghost use Rattle.lu_text.specs.Faults.{OnLine};
 ghost use Rattle.lu_text.specs.Lines.{texts};
 ghost use Rattle.lu_text.specs.Numbers.{value_in};
 ghost use Rattle.lu_text.specs.Results.{HasItems};
-ghost use Rattle.lu_text.specs.Words.{exactly_two, exactly_three};
+ghost use Rattle.lu_text.specs.Words.{exactly_two};
 ghost use Rattle.lu_component.specs.Component.{Component};
 ghost use Rattle.lu_test.specs.Matrix.{AreArguments};
 ghost use Rattle.lu_run.specs.RunText as spec;
-ghost use Rattle.lu_run.specs.Reading.{AreNumbersOf, IsOf};
+ghost use Rattle.lu_run.specs.RunText.{value_return_of};
+ghost use Rattle.lu_run.specs.Reading.{AreNumbersOf, HasCall, HasEvent, IsOf};
 ghost use Rattle.lu_run.specs.Tables.{IsCallFor};
 
 use crate::fault::{RunFault, RunFaultKind};
@@ -109,8 +110,7 @@ fn call_next(
     numbers: Vec<u32>,
 ) -> Result<TextEvent, RunFault>
     requires { thread < 8 }
-    ensures event { OnLine line result
-        (spec.call_next pending.now thread (spec.named_call component.now name.now numbers.items)) }
+    ensures event { HasCall component.now line pending.now thread name.now numbers.items result }
     ensures of { IfOk result (IsOf component.now pending.now) }
 {
     let Some(call) = named_call(component, name, numbers) else {
@@ -167,8 +167,7 @@ fn return_with(
 
 /// What the words after `return` say, where they are to be those of a value.
 fn value_return_in(line: usize, pending: &[bool; 8], words: &[&[u8]]) -> Result<TextEvent, RunFault>
-    ensures event { OnLine line result
-        (spec.returned pending.now (exactly_three (texts words.now))) }
+    ensures event { OnLine line result (value_return_of pending.now (texts words.now)) }
     ensures of { (c : Component) → IfOk result (IsOf c pending.now) }
 {
     let Some((thread, word, value)) = exactly_three(words) else {
@@ -204,8 +203,7 @@ pub(crate) fn event_in(
     word: &[u8],
     words: &[&[u8]],
 ) -> Result<TextEvent, RunFault>
-    ensures event { OnLine line result
-        (spec.event_of component.now pending.now word.now (texts words.now)) }
+    ensures event { HasEvent component.now line pending.now word.now (texts words.now) result }
     ensures of { IfOk result (IsOf component.now pending.now) }
 {
     if is_text(word, "call") {

@@ -22,13 +22,16 @@ loop-number-init c =
     let p = c.in_ok-start.start in
     let good = c.in_ok-start.ensures.at_rest in
     record {
-      table = first_is component calls p c.in_ok-table.table c.in_ok-table.ensures good;
-      seated = λ t call is. absurd (let e = no_pending t in cc);
-      followed = λ s start. first_followed component calls p c.in_ok-table.table c.in_ok-table.ensures good s events (matrix_of c.args.matrix.now.setup calls events) _ c.in_ok-monitor.monitor start (c.in_ok-start.ensures.rest (matrix_of c.args.matrix.now.setup calls events) s refl start) no_pending c.in_ok-monitor.ensures;
+      ready = record {
+        table = first_is component calls p c.in_ok-first_table.field-0 c.in_ok-first_table.ensures good;
+        seated = λ t call is. absurd (let e = no_pending t in cc);
+        eight = refl;
+      };
+      followed = λ s start. first_followed component calls p c.in_ok-first_table.field-0 c.in_ok-first_table.ensures good s events (matrix_of c.args.matrix.now.setup calls events) _ c.in_ok-new.field-0 start (c.in_ok-start.ensures.rest (matrix_of c.args.matrix.now.setup calls events) s refl start) no_pending c.in_ok-new.ensures;
       lost = λ s start.
-          (let list = c.in_ok-monitor.monitor in
-          let was = first_followed component calls p c.in_ok-table.table c.in_ok-table.ensures good s events (matrix_of c.args.matrix.now.setup calls events) _ list start (c.in_ok-start.ensures.rest (matrix_of c.args.matrix.now.setup calls events) s refl start) no_pending c.in_ok-monitor.ensures in
-          some_left component s calls events [] c.in_ok-table.table (replicate 8 None) list (not_empty list c.in_ok-monitor.ensures) was);
+          (let list = c.in_ok-new.field-0 in
+          let was = first_followed component calls p c.in_ok-first_table.field-0 c.in_ok-first_table.ensures good s events (matrix_of c.args.matrix.now.setup calls events) _ list start (c.in_ok-start.ensures.rest (matrix_of c.args.matrix.now.setup calls events) s refl start) no_pending c.in_ok-new.ensures in
+          some_left component s calls events [] c.in_ok-first_table.field-0 (replicate 8 None) list (not_empty list c.in_ok-new.ensures) was);
     }
 
 pub advance-requires-clause-calls : goal.advance-requires-clause-calls
@@ -51,17 +54,16 @@ loop-number-preserved c =
     let i = c.loop-number.number in
     let e : RunEvent = get_or items i (Calls 0 0) in
     let at : slice_get events i ≡ Some e = ap (λ xs. slice_get xs i) (sym c.deref-event-items.ensures.value) ∙ slice_get-get_or items i (Calls 0 0) c.loop-number-test.true in
-    let advances : Advances component c.deref.result.now e c.loop-number.table c.loop-number.pending c.loop-number.monitor c.advance.new.table c.advance.new.pending c.in-Some.next = rw c.in-Some.is at c.in_ok-next.ensures.advances in
-    let here : Advances component calls e c.loop-number.table c.loop-number.pending c.loop-number.monitor c.advance.new.table c.advance.new.pending c.in-Some.next = subst (λ (x : List ACall). Advances component x e c.loop-number.table c.loop-number.pending c.loop-number.monitor c.advance.new.table c.advance.new.pending c.in-Some.next) c.deref.ensures.value advances in
+    let advances : Advances component c.deref.result.now e c.loop-number.follower c.in-Some.next = rw c.in-Some.is at c.in_ok-next.ensures.advances in
+    let here : Advances component calls e c.loop-number.follower c.in-Some.next = subst (λ (x : List ACall). Advances component x e c.loop-number.follower c.in-Some.next) c.deref.ensures.value advances in
     let taken : take (i + 1) events ≡ take i events ++ e ∷ [] = rw (add-one i) (take_next events e i at) in
-    let follows : (s : State) → IsStart component (matrix_of c.args.matrix.now.setup calls events) s → IsFollowed component s calls events c.advance.new.table c.advance.new.pending c.in-Some.next (history_of (take (i + 1) events)) =
-    (λ s start. subst (λ x. IsFollowed component s calls events c.advance.new.table c.advance.new.pending c.in-Some.next (history_of x)) (sym taken)
+    let follows : (s : State) → IsStart component (matrix_of c.args.matrix.now.setup calls events) s → IsFollowed component s calls events c.in-Some.next.table c.in-Some.next.pending c.in-Some.next.monitor (history_of (take (i + 1) events)) =
+    (λ s start. subst (λ x. IsFollowed component s calls events c.in-Some.next.table c.in-Some.next.pending c.in-Some.next.monitor (history_of x)) (sym taken)
     (here c.args.matrix.now.setup events (take i events) (drop (suc i) events) s start c.requires.run (split_at events e i at) (c.loop-number.invariant.followed s start))) in
     record {
-      table = rw (← c.deref.ensures.value) c.in_ok-next.ensures.table;
-      seated = c.in_ok-next.ensures.seated;
+      ready = rw (← c.deref.ensures.value) (rw c.in-Some.is at c.in_ok-next.ensures.ready);
       followed = follows;
-      lost = λ s start. next_lost component c.args.matrix.now.setup calls events s start c.requires.run i (drop (suc i) events) e c.advance.new.table c.advance.new.pending c.in-Some.next c.loop-number.lost c.first_lost-lost.result (slice_get_within events i e at) (split_at events e i at) taken (follows s start) c.first_lost-lost.ensures (c.loop-number.invariant.lost s start);
+      lost = λ s start. next_lost component c.args.matrix.now.setup calls events s start c.requires.run i (drop (suc i) events) e c.in-Some.next.table c.in-Some.next.pending c.in-Some.next.monitor c.loop-number.lost c.first_lost-lost.result (slice_get_within events i e at) (split_at events e i at) taken (follows s start) c.first_lost-lost.ensures (c.loop-number.invariant.lost s start);
     }
 
 pub returns-in-Some-lost : goal.returns-in-Some-lost
@@ -70,9 +72,9 @@ returns-in-Some-lost c = λ s start.
     let long = ap length c.deref-event-items.ensures.value in
     let le = c.loop-number-test.false in
     let all : take c.loop-number.number events ≡ events = take_all c.loop-number.number events (omega (arith, long, le)) in
-    let was : IsFollowed c.args.component.now s c.args.run.now.calls.items events c.loop-number.table c.loop-number.pending c.loop-number.monitor (history_of events) = subst (λ x. IsFollowed c.args.component.now s c.args.run.now.calls.items events c.loop-number.table c.loop-number.pending c.loop-number.monitor (history_of x)) all (c.loop-number.invariant.followed s start) in
+    let was : IsFollowed c.args.component.now s c.args.run.now.calls.items events c.loop-number.follower.table c.loop-number.follower.pending c.loop-number.follower.monitor (history_of events) = subst (λ x. IsFollowed c.args.component.now s c.args.run.now.calls.items events c.loop-number.follower.table c.loop-number.follower.pending c.loop-number.follower.monitor (history_of x)) all (c.loop-number.invariant.followed s start) in
     let told : TellsLost s events c.loop-number.number (Some c.in-Some-lost.number) = subst (TellsLost s events c.loop-number.number) c.in-Some-lost.is (c.loop-number.invariant.lost s start) in
-    (told.0, lost_fails c.args.component.now c.args.matrix.now.setup c.args.run.now.calls.items events s start c.requires.run c.loop-number.table c.loop-number.pending c.loop-number.monitor was c.args.run.now.is_stuck (λ line. told.1 (subst (HasLinearization s) (sym all) line)))
+    (told.0, lost_fails c.args.component.now c.args.matrix.now.setup c.args.run.now.calls.items events s start c.requires.run c.loop-number.follower.table c.loop-number.follower.pending c.loop-number.follower.monitor was c.args.run.now.is_stuck (λ line. told.1 (subst (HasLinearization s) (sym all) line)))
 
 pub returns : goal.returns
 returns c = λ s start.
@@ -80,6 +82,6 @@ returns c = λ s start.
     let long = ap length c.deref-event-items.ensures.value in
     let le = c.loop-number-test.false in
     let all : take c.loop-number.number events ≡ events = take_all c.loop-number.number events (omega (arith, long, le)) in
-    let was : IsFollowed c.args.component.now s c.args.run.now.calls.items events c.loop-number.table c.loop-number.pending c.loop-number.monitor (history_of events) = subst (λ x. IsFollowed c.args.component.now s c.args.run.now.calls.items events c.loop-number.table c.loop-number.pending c.loop-number.monitor (history_of x)) all (c.loop-number.invariant.followed s start) in
+    let was : IsFollowed c.args.component.now s c.args.run.now.calls.items events c.loop-number.follower.table c.loop-number.follower.pending c.loop-number.follower.monitor (history_of events) = subst (λ x. IsFollowed c.args.component.now s c.args.run.now.calls.items events c.loop-number.follower.table c.loop-number.follower.pending c.loop-number.follower.monitor (history_of x)) all (c.loop-number.invariant.followed s start) in
     let told : TellsLost s events c.loop-number.number None = subst (TellsLost s events c.loop-number.number) c.in-None.is (c.loop-number.invariant.lost s start) in
-    at_end c.args.component.now c.args.matrix.now.setup c.args.run.now.calls.items events s start c.requires.run c.loop-number.table c.loop-number.pending c.loop-number.monitor was c.args.run.now.is_stuck c.end_verdict.result (subst (HasLinearization s) all told) c.end_verdict.ensures
+    at_end c.args.component.now c.args.matrix.now.setup c.args.run.now.calls.items events s start c.requires.run c.loop-number.follower.table c.loop-number.follower.pending c.loop-number.follower.monitor was c.args.run.now.is_stuck c.end_verdict.result (subst (HasLinearization s) all told) c.end_verdict.ensures

@@ -1,16 +1,13 @@
 use Rattle.std.proofs.Common.{take}
 use Rattle.lu_machine.specs.Starts.{IsStart}
 use Rattle.lu_machine.specs.States.{State}
-use Rattle.lu_run.specs.Following.{AreSeated}
-use Rattle.lu_run.specs.Judging.{IsFollowed, TellsLost}
+use Rattle.lu_run.specs.Judging.{HasFollowed, IsReady, TellsLost}
 use Rattle.lu_run.specs.Runs.{history_of, matrix_of}
-use Rattle.lu_run.specs.Tables.{IsTable}
 use Rattle.lu_run.proofs.judging.judge_run.Given as goal
 
 abbrev pub invariant-loop-number : goal.invariant-loop-number
 invariant-loop-number l = record {
-  table : IsTable l.component l.run.calls.items l.table;
-  seated : AreSeated l.pending;
-  followed : (s : State) → IsStart l.component (matrix_of l.matrix.setup l.run.calls.items l.run.events.items) s → IsFollowed l.component s l.run.calls.items l.run.events.items l.table l.pending l.monitor (history_of (take l.number l.run.events.items));
+  ready : IsReady l.component l.run.calls.items l.follower;
+  followed : (s : State) → IsStart l.component (matrix_of l.matrix.setup l.run.calls.items l.run.events.items) s → HasFollowed l.component s l.run.calls.items l.run.events.items l.follower (history_of (take l.number l.run.events.items));
   lost : (s : State) → IsStart l.component (matrix_of l.matrix.setup l.run.calls.items l.run.events.items) s → TellsLost s l.run.events.items l.number l.lost;
 }
