@@ -1,19 +1,19 @@
 -- What a closed list of nodes, and a bad node, tell of all unrolled matrices.
+use Rattle.std.specs.Prelude.{IsTrue}
 use Rattle.std.proofs.Common.{◌≡◌, ℕ, zero, suc, true, List, [], ◌∷◌, ◌++◌, refl, sym, ◌∙◌, ap, subst, inl, inr}
 use Rattle.lu_component.specs.Component.{Component}
 use Rattle.lu_test.specs.declared.schedule.Move.{Move}
-use Rattle.lu_test.specs.Matrix.{Matrix}
+use Rattle.lu_test.specs.Matrix.{Matrix, cut}
 use Rattle.lu_machine.specs.declared.event.Event.{Event}
 use Rattle.lu_machine.specs.States.{State}
 use Rattle.lu_machine.specs.Runs.{with_event}
-use Rattle.lu_machine.specs.Schedules.{Reaches}
-use Rattle.lu_machine.specs.Starts.{IsStart}
+use Rattle.lu_machine.specs.Starts.{IsStart, at_rest}
 use Rattle.lu_horizon.specs.Dead.{DeadTable, IsDeadTable, is_dead}
 use Rattle.lu_tree.proofs.AlikeRuns.{alike_back}
 use Rattle.lu_machine.proofs.Keeping.{step_moved}
 use Rattle.lu_machine.proofs.Orders.{smaller_cases}
 use Rattle.lu_machine.proofs.Paths.{leads_same}
-use Rattle.lu_machine.proofs.Starting.{start_same}
+use Rattle.lu_machine.proofs.Starting.{other_start, settles_too, start_same, start_there}
 use Rattle.lu_history.specs.declared.serial.SerialOp.{SerialOp}
 use Rattle.lu_history.specs.declared.serial.SerialOutcome.{SerialOutcome}
 use Rattle.lu_trie.specs.Conflicts.{ConflictAt}
@@ -22,24 +22,40 @@ use Rattle.lu_serial.specs.Serial.{EndsAs, IsSerialHistory, IsSeriallyEnded}
 use Rattle.lu_serial.specs.Offences.{IsSerialConflict, NoOffence}
 use Rattle.lu_serial.proofs.CallsLeft.{none_at_start}
 use Rattle.lu_serial.proofs.Single.{ends_same, one_along}
-use Rattle.lu_witness.specs.Goodness.{IsGoodAt}
-use Rattle.lu_refute.specs.Linearizable.{Refutes}
+use Rattle.lu_graph.specs.Nodes.{EndsBadly}
+use Rattle.lu_witness.specs.Witnesses.{IsMember}
+use Rattle.lu_report.specs.declared.report.Finding.{Finding}
+use Rattle.lu_report.specs.declared.report.Finding.TheVariants.{Fail, Nondeterministic, Pass, SerialCut}
+use Rattle.lu_report.specs.Parts.{IsFailure}
+use Rattle.lu_replay.specs.Reports.{IsFinding}
 use Rattle.lu_spec.proofs.Closures.{conflict_on}
+use Rattle.lu_serial.specs.Cuts.{IsCutOf}
+use Rattle.lu_serial.proofs.Grounds.{seats_start}
+use Rattle.lu_serial.proofs.Cuts.{cut_start, with_matrix}
+use Rattle.lu_serial.proofs.Grounds.{Ground, ground_of, grounded, same_ground, start_on}
+use Rattle.lu_serial.proofs.Moves.{HasSeats}
+use Rattle.lu_serial.proofs.Ops.{NoCut}
+use Rattle.lu_certify.proofs.Begun.{Starts, begun}
+use Rattle.lu_certify.proofs.Fitted.{reaches_more}
+use Rattle.lu_certify.proofs.Linear.{begun_deterministic, clear_at, clear_cut, never_bad}
+use Rattle.lu_certify.proofs.Over.{cut_has}
 use Rattle.lu_client.specs.Rounds.Way.{InOrder}
 use Rattle.lu_client.specs.Rounds.{IsUnrolledFrom, Way}
 use Rattle.lu_client.specs.Clients.{ClientLeads, client_matrix, client_of}
 use Rattle.lu_client.specs.Alone.{rest_of}
 use Rattle.lu_client.proofs.Cutting.{client_has_ended, ended_is_blocked}
 use Rattle.lu_client.proofs.Played.{ready}
-use Rattle.lu_client.proofs.Unrolled.{client_starts}
-use Rattle.lu_always.specs.Always.{FailsNever, PrefixesAgree}
+use Rattle.lu_client.proofs.Unrolled.{client_setup, client_starts, cut_is_unrolled}
+use Rattle.lu_always.specs.Always.{AlwaysLinearizes, AlwaysServes, FailsNever, IsSerialPrefix, IsWell, PrefixesAgree}
+use Rattle.lu_always.specs.Certified.{CertifiedInOneRound, RefutedInOneRound}
 use Rattle.lu_always.specs.OneRound.{OneRoundIsAllCuts}
 use Rattle.lu_always.specs.Tables.{IsTableOf, Table}
-use Rattle.lu_always.specs.Nodes.{BadNodeFails, MovesLead, Node, NodesTellAll, NoneDead, Represents}
+use Rattle.lu_always.specs.Nodes.{BadNodeFails, MovesLead, Node, NodesServeAll, NodesTellAll, NoneDead, Represents}
 use Rattle.lu_always.proofs.Likeness.{alike_on, blocked_alike, client_alike, in_order_once}
 use Rattle.lu_always.proofs.Followed.{good_end, good_node, node_there, path_for}
 use Rattle.lu_always.proofs.OneRound.{one_round_is_cut}
 use Rattle.lu_always.proofs.Refuting.{bad_serves_none}
+use Rattle.lu_always.proofs.Spelled.{begun_spelled, spelled, spelled_determines}
 use Rattle.lu_always.proofs.Tabled.{none_offends}
 
 -- ---- nodes
@@ -113,7 +129,7 @@ bad_node_fails c rounds matrix bound start dead table first u node from sound ar
     let same = same_start c (InOrder rounds) matrix bound start table from are big s ended.unrolled ended.is_start in
     let mine = table_here c (InOrder rounds) matrix bound start table from are big s ended.unrolled ended.is_start in
     let there = path_for c (InOrder rounds) matrix big bound s dead sound table ended.unrolled ended.is_start mine (in_order_once rounds) u first node start ended.end it.1 same is_first path ended.leads in
-    let worse : Refutes (IsSerialHistory s) s u = record {
+    let worse : EndsBadly (IsSerialHistory s) s u = record {
       end = ended.end;
       history = it.1;
       leads = ended.leads;
@@ -137,7 +153,39 @@ none_dead c op place instr r is dead = absurd (never op place dead)
     never (suc op) zero e = cc
     never (suc op) (suc place) e = cc
 
+-- ---- serial histories of the cuts
+
+begun_on : (g : Ground) (matrix : Matrix) (lengths : List ℕ) (bound : ℕ) → with_matrix (start_on g (cut matrix lengths)) matrix ≡ start_on g matrix → NoOffence (start_on g matrix) bound → (q : List SerialOp) → IsSerialHistory (start_on g (cut matrix lengths)) q → Starts (start_on g matrix) q
+begun_on g matrix lengths bound same none q z =
+    subst (λ x. Starts x q) same
+    (begun matrix bound (start_on g (cut matrix lengths)) (cut_has matrix lengths)
+    (subst HasSeats (sym same) (seats_start g matrix))
+    (subst (λ x. NoCut x bound) (sym same) (λ u over. none u (inl over))) q z)
+
+-- a serial history of a cut begins one of the matrix
+begun_at_start : (c : Component) (matrix smaller : Matrix) (bound : ℕ) (s start : State) → IsCutOf matrix smaller → IsStart c matrix s → IsStart c smaller start → NoOffence s bound → (q : List SerialOp) → IsSerialHistory start q → Starts s q
+begun_at_start c matrix smaller bound s start is at from none q z =
+    let g = ground_of c s in
+    let one : s ≡ start_on g matrix = grounded c matrix s at in
+    let cut_from : IsStart c (cut matrix is.0) start = subst (λ x. IsStart c x start) is.2 from in
+    let other : start ≡ start_on g (cut matrix is.0) = same_ground c matrix (cut matrix is.0) s start at refl cut_from in
+    let same : with_matrix (start_on g (cut matrix is.0)) matrix ≡ start_on g matrix = ap (λ (x : State). with_matrix x matrix) (sym (cut_start g matrix is.0 is.1)) in
+    subst (λ x. Starts x q) (sym one)
+    (begun_on g matrix is.0 bound same (subst (λ x. NoOffence x bound) one none) q
+    (subst (λ x. IsSerialHistory x q) other z))
+
 -- ---- what follows
+
+cut_unrolled : (way : Way) (matrix big smaller : Matrix) → IsUnrolledFrom way matrix big → IsCutOf big smaller → IsUnrolledFrom way matrix smaller
+cut_unrolled way matrix big smaller unrolled is = subst (IsUnrolledFrom way matrix) (sym is.2) (cut_is_unrolled way matrix big is.0 unrolled is.1)
+
+pub always_linearizes : AlwaysLinearizes
+always_linearizes c matrix way bound big s always unrolled at smaller start u is from ended =
+    let well = always smaller (cut_unrolled way matrix big smaller unrolled is) start from in
+    let none = (always big unrolled s at).0 in
+    reaches_more (IsSerialHistory start) (IsSerialPrefix s)
+    (λ q z. let x = begun_at_start c big smaller bound s start is at from none q z in (x.1.0, subst (IsSerialHistory s) x.1.1 x.2))
+    start u (well.1 u ended)
 
 one_history : (c : Component) (matrix : Matrix) (s : State) → IsStart c matrix s → (u : List Move) (q p : List SerialOp) → IsSeriallyEnded s u q → IsSeriallyEnded s u p → q ≡ p
 one_history c matrix s is u q p x y =
@@ -168,17 +216,17 @@ prefixes_agree c matrix way bound big s p q i o always unrolled is x y conflict 
     serial_apart c big s bound is (always big unrolled s is).0 (p ++ x.0) (q ++ y.0) i o x.1 y.1
     (conflict_on p q (p ++ x.0) (q ++ y.0) i o (x.0, refl) (y.0, refl) conflict)
 
--- no schedule is both good and not good
-never_bad : (Set : List SerialOp → Type 0) (s : State) (u : List Move) → Refutes Set s u → Reaches s u (IsGoodAt Set) → ⊥
-never_bad Set s u bad good =
-    let same = leads_same s u good.end bad.end good.history bad.history good.leads bad.leads in
-    bad.holds.1 (subst (λ x. IsGoodAt Set bad.end x) same.1 (subst (λ x. IsGoodAt Set x good.history) same.0 good.holds))
+pub always_serves : AlwaysServes
+always_serves c matrix way bound big s members always unrolled is are = (
+  begun_deterministic c big s bound members is (always big unrolled s is).0 are,
+  (λ smaller start u of from ended.
+      reaches_more (IsSerialPrefix s) (IsMember members) (λ q z. (are q).1 (q ++ z.0, (z.0, refl), z.1)) start u
+      (always_linearizes c matrix way bound big s always unrolled is smaller start u of from ended)),
+)
 
 pub fails_never : FailsNever
 fails_never c matrix way bound u always fails =
-    never_bad (IsSerialHistory fails.start) fails.start u fails.bad
-    ((always fails.big fails.unrolled fails.start fails.is_start).1 u
-    (record { end = fails.bad.end; history = fails.bad.history; leads = fails.bad.leads; holds = fails.bad.holds.0 }))
+    never_bad (IsSerialHistory fails.start) fails.start (always fails.big fails.unrolled fails.start fails.is_start).1 u fails.bad
 
 -- ---- one round
 
@@ -187,3 +235,46 @@ one_round_is_all_cuts c matrix bound = (
   (λ always smaller is s from. always smaller ((one_round_is_cut matrix smaller).1 is) s from),
   (λ all big unrolled s from. all big ((one_round_is_cut matrix big).0 unrolled) s from),
 )
+
+-- ---- certificates
+
+pub certified_in_one_round : CertifiedInOneRound
+certified_in_one_round c matrix limits members is big unrolled s from =
+    let well = clear_at c big limits (clear_cut c matrix limits is.0 big ((one_round_is_cut matrix big).0 unrolled)) s from in
+    (well.none, well.well)
+
+never_fails : (s : State) (bound serial : ℕ) → IsWell serial s → (f : Finding) → IsFinding s bound serial f → IsFailure f → ⊥
+never_fails s bound serial is (SerialCut u) finding failure = failure
+never_fails s bound serial is (Nondeterministic u before earlier) finding failure = is.0 u finding.0.kind
+never_fails s bound serial is (Fail u why) finding failure = never_bad (IsSerialHistory s) s is.1 u finding.1.bad.1
+never_fails s bound serial is (Pass counts) finding failure = failure
+
+pub refuted_in_one_round : RefutedInOneRound
+refuted_in_one_round c matrix limits smaller r settles is always =
+    let cut_is : IsCutOf matrix smaller = (is.lengths, is.are, is.is) in
+    let there = start_there c smaller (settles_too c matrix smaller settles (ap (λ (x : Matrix). x.setup) is.is)) in
+    let well = always smaller ((one_round_is_cut matrix smaller).1 cut_is) there.0 there.1 in
+    elim is.fails [
+      | inl here ↦ never_fails there.0 limits.bound limits.serial well r.finding (here.0.3 there.0 there.1) here.1
+      | inr later ↦
+          (let bad = later.1.2 there.0 there.1 in
+          never_bad (IsSerialHistory there.0) there.0 well.1 bad.2.schedule bad.2.bad)
+    ]
+
+-- ---- specifications
+
+pub nodes_serve_all : NodesServeAll
+nodes_serve_all c way matrix bound start dead table list big from sound are nodes unrolled =
+    let always = nodes_tell_all c way matrix bound start dead table list from sound are nodes in
+    let setup : big.setup ≡ (client_matrix way matrix).setup = unrolled.setup ∙ sym (client_setup way matrix) in
+    let s = at_rest c big start.cells start.locks in
+    let is = other_start c (client_matrix way matrix) big start from setup in
+    let mine = table_here c way matrix bound start table from are big s unrolled is in (
+      spelled table big 0 [],
+      (
+        spelled_determines table big,
+        (λ smaller other u of at ended.
+            reaches_more (IsSerialPrefix s) (λ q. IsTrue (spelled table big 0 [] q)) (begun_spelled c way matrix big bound s table unrolled is mine) other u
+            (always_linearizes c matrix way bound big s always unrolled is smaller other u of at ended)),
+      ),
+    )

@@ -56,8 +56,8 @@ module _ (c : Component) (matrix : Matrix) (s : State) (start : IsStart c matrix
         refuted c matrix matrix (start_on ground matrix) (λ q. IsTrue (spec q)) u (whole_cut matrix) starts worse linear
 
 pub bad_serves_none : BadServesNone
-bad_serves_none c matrix s bound u start none bad (spec, determines, linear) =
+bad_serves_none c matrix s bound u start none bad (spec, serves) =
     let same = grounded c matrix s start in
-    against c matrix s start spec linear determines bound u
+    against c matrix s start spec serves.1 serves.0 bound u
     (subst (λ x. NoOffence x bound) same none)
     (subst (λ x. Refutes (IsSerialHistory x) x u) same bad)

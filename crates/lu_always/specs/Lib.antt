@@ -5,3 +5,4 @@ pub mod Reading
 pub mod Nodes
 pub mod Searching
 pub mod Ways
+pub mod Certified

@@ -18,9 +18,9 @@ use Rattle.lu_linearization.specs.Monitors.{AreClosed, AreInitial, AreNext, CanB
 use Rattle.lu_client.specs.Rounds.Way.{InOrder}
 use Rattle.lu_client.specs.Alone.{rest_of}
 use Rattle.lu_client.specs.Clients.{AllBlocked, ClientStep, client_matrix}
-use Rattle.lu_client.specs.Rounds.{Way}
+use Rattle.lu_client.specs.Rounds.{IsUnrolledFrom, Way}
 use Rattle.lu_client.specs.Stages.{IsIn}
-use Rattle.lu_always.specs.Always.{FailsBy, IsAlwaysLinearizable}
+use Rattle.lu_always.specs.Always.{FailsBy, HasSpec, IsAlwaysLinearizable}
 use Rattle.lu_always.specs.Tables.{Goes, IsTableOf, Table}
 
 -- a state of the client, and the configurations of the history so far
@@ -97,6 +97,15 @@ NodesTellAll =
     → IsTableOf c way matrix bound (rest_of start) table
     → AreNodes dead table way start list
     → IsAlwaysLinearizable c matrix way bound
+
+-- So each of them has a deterministic specification.
+abbrev pub NodesServeAll : Type 0
+NodesServeAll =
+    (c : Component) (way : Way) (matrix : Matrix) (bound : ℕ) (start : State)
+    (dead : DeadTable) (table : Table) (list : List Node) (big : Matrix) →
+    IsStart c (client_matrix way matrix) start → IsDeadTable c dead
+    → IsTableOf c way matrix bound (rest_of start) table
+    → AreNodes dead table way start list → IsUnrolledFrom way matrix big → HasSpec c big
 
 -- Where moves lead to a node in which all open operations are blocked, and which is not good, some
 -- unrolled matrix fails by these moves. Lines are made in order, so a move leads to one state only.

@@ -1,26 +1,36 @@
 //! Laws of unrolled matrices and of nodes. Their functions do nothing.
 
-ghost use Rattle.lu_always.specs.Always.{BadServesNone, FailsNever, PrefixesAgree};
-ghost use Rattle.lu_always.specs.Nodes.{BadNodeFails, NodesTellAll, NoneDead};
+ghost use Rattle.lu_always.specs.Always.{AlwaysLinearizes, AlwaysServes, BadServesNone, FailsNever, PrefixesAgree};
+ghost use Rattle.lu_always.specs.Certified.{CertifiedInOneRound, RefutedInOneRound};
+ghost use Rattle.lu_always.specs.Nodes.{BadNodeFails, NodesServeAll, NodesTellAll, NoneDead};
 ghost use Rattle.lu_always.specs.OneRound.{OneRoundIsAllCuts, OneRoundIsCut};
 
-/// What it means that all unrolled matrices are linearizable: none fails, and no two serial
-/// histories of one of them conflict. One that fails has no deterministic specification. In one
-/// round, the unrolled matrices are the cuts.
+/// What it means that all unrolled matrices are linearizable. The prefixes of the serial histories
+/// of each are its specification, and don't conflict. None fails: one that fails has no
+/// deterministic specification.
 pub fn always_laws()
+    ensures linearizes { AlwaysLinearizes }
+    ensures serves { AlwaysServes }
+    ensures agree { PrefixesAgree }
     ensures never { FailsNever }
     ensures none { BadServesNone }
-    ensures agree { PrefixesAgree }
+{}
+
+/// In one round, the unrolled matrices are the cuts, and a certificate says the same of them.
+pub fn one_round_laws()
     ensures cuts { OneRoundIsCut }
     ensures all_cuts { OneRoundIsAllCuts }
+    ensures certified { CertifiedInOneRound }
+    ensures refuted { RefutedInOneRound }
 {}
 
 /// A closed list of nodes in which each blocked node is good shows that all unrolled matrices are
-/// linearizable. A path to a blocked node that is not good shows that one of them is not. A node
-/// represents all states that differ from its own in dead registers only; with an empty table of
-/// dead registers, that is its own state.
+/// linearizable, each by a deterministic specification. A path to a blocked node that is not good
+/// shows that one of them is linearizable by none. A node represents all states that differ from its
+/// own in dead registers only; with an empty table of dead registers, that is its own state.
 pub fn node_laws()
     ensures all { NodesTellAll }
+    ensures serve { NodesServeAll }
     ensures bad { BadNodeFails }
     ensures none_dead { NoneDead }
 {}

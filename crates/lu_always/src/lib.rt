@@ -19,7 +19,7 @@ mod ways;
 
 pub use following::after_move;
 pub use judging::is_good;
-pub use laws::{always_laws, node_laws};
+pub use laws::{always_laws, node_laws, one_round_laws};
 pub use searching::find_verdict;
 pub use stepping::client_step;
 pub use stored::{Arrival, StoredNode};

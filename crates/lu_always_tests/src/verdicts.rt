@@ -1,0 +1,96 @@
+//! That a verdict is found: no clause says so.
+
+use lu_always::{AnswerTable, Verdict, find_verdict};
+use lu_fixtures::fixture_of;
+use lu_history::SerialOutcome;
+use std::process::Abort;
+use std::test::Fail;
+
+/// Operations that invert a bit and return its former value, with a lock and without.
+const BIT: &[u8] = b"component c
+word x 1 0
+lock m
+op flip 0
+load r0 x 0
+jz r0 L4
+store x 0 0
+return r0
+L4: store x 0 1
+return r0
+end
+op safe 0
+lock m
+load r0 x 0
+jz r0 L6
+store x 0 0
+unlock m
+return r0
+L6: store x 0 1
+unlock m
+return r0
+end
+";
+
+/// The verdict on two threads that invert the bit, with this limit of nodes.
+fn verdict_on(
+    rt: &(impl AllocGlobal + Abort),
+    matrix: &[u8],
+    most: usize,
+) -> Result<Verdict, Fail> {
+    let case = fixture_of(rt, BIT, matrix)?;
+    let first = Some((SerialOutcome::Ret(0), 1));
+    let second = Some((SerialOutcome::Ret(1), 0));
+    let mut rows = Vec::new(rt.alloc());
+    rows.push([first, first, None, None, None, None, None, None])?;
+    rows.push([second, second, None, None, None, None, None, None])?;
+    let table = AnswerTable::new(rows);
+    Ok(find_verdict(rt.alloc(), &case.component, &case.matrix, &table, most)?)
+}
+
+/// The number of moves of the schedule that fails, if the verdict is that one does.
+fn moves_in(verdict: Verdict) -> Option<usize> {
+    match verdict {
+        Verdict::AlwaysLinearizable => None,
+        Verdict::Fails(moves) => Some(moves.len()),
+        Verdict::Undecided => None,
+    }
+}
+
+/// Whether the verdict is that all are linearizable.
+fn is_always_linearizable(verdict: Verdict) -> bool {
+    match verdict {
+        Verdict::AlwaysLinearizable => true,
+        Verdict::Fails(_) => false,
+        Verdict::Undecided => false,
+    }
+}
+
+/// Whether there is no verdict.
+fn is_undecided(verdict: Verdict) -> bool {
+    match verdict {
+        Verdict::AlwaysLinearizable => false,
+        Verdict::Fails(_) => false,
+        Verdict::Undecided => true,
+    }
+}
+
+#[test]
+fn a_bit_with_a_lock_is_always_linearizable(rt: HostRuntime) -> Result<(), Fail> {
+    let verdict = verdict_on(&rt, b"thread safe\nthread safe\n", 1000)?;
+    assert!(rt; is_always_linearizable(verdict));
+    Ok(())
+}
+
+#[test]
+fn a_bit_without_a_lock_fails(rt: HostRuntime) -> Result<(), Fail> {
+    let verdict = verdict_on(&rt, b"thread flip\nthread flip\n", 1000)?;
+    assert!(rt; moves_in(verdict) == Some(10));
+    Ok(())
+}
+
+#[test]
+fn more_nodes_than_the_limit_are_undecided(rt: HostRuntime) -> Result<(), Fail> {
+    let verdict = verdict_on(&rt, b"thread safe\nthread safe\n", 5)?;
+    assert!(rt; is_undecided(verdict));
+    Ok(())
+}
