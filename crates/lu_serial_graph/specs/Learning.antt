@@ -1,27 +1,13 @@
 -- What is learnt of a component and a matrix, with the serial histories as a graph.
-use Rattle.std.specs.Prelude.{ℕ, List, Option, Result, IfOk, IfSome}
+use Rattle.std.specs.Prelude.{ℕ, Result, IfOk}
 use Rattle.lu_component.specs.Component.{Component}
 use Rattle.lu_test.specs.Matrix.{Matrix}
 use Rattle.lu_machine.specs.Starts.{FromEachStart}
 use Rattle.lu_machine.specs.States.{State}
-use Rattle.lu_history.specs.declared.serial.SerialOp.{SerialOp}
 use Rattle.lu_serial.specs.Offences.{IsFirstConflict, IsFirstCut, IsSetOf}
 use Rattle.lu_serial_graph.specs.declared.learning.LearntGraph.{LearntGraph}
 use Rattle.lu_serial_graph.specs.declared.learning.LearntGraph.TheVariants.{Conflict, Cut, Set}
 use Rattle.lu_serial_graph.specs.Graphs.{members_of}
-
--- what clauses see of a graph: the members below each node, and the place of the root
-abbrev pub Seen : Type 0
-Seen = List (List (List SerialOp)) × ℕ
-
--- the graph, if there is one, has the serial histories of s
-abbrev pub IsGraphOf : State → ℕ → Option Seen → Type 0
-IsGraphOf s bound found = IfSome found (λ graph. IsSetOf s bound (members_of graph))
-
--- from each start it has them, where memory suffices
-abbrev pub GivesGraph : {E : Type 0} → Component → Matrix → ℕ → Result (Option Seen) E → Type 0
-GivesGraph c matrix bound result =
-    FromEachStart c matrix (λ s. IfOk result (IsGraphOf s bound))
 
 -- what `learn_graph` answers: the set, where there is no offence; or the least offence, which is cut
 -- or conflicts so

@@ -1,6 +1,5 @@
 -- How an operation ends that one thread runs alone.
-use Rattle.std.specs.Prelude.{◌≡◌, ◌⊎◌, ℕ, ◌<◌, Bool, true, List, [], ◌∷◌, length, Option, Some, None}
-use Rattle.std.specs.Global.{Vec}
+use Rattle.std.specs.Prelude.{◌≡◌, ◌⊎◌, ℕ, ◌<◌, List, [], ◌∷◌, length, Option, Some, None}
 use Rattle.lu_component.specs.Component.{Component}
 use Rattle.lu_test.specs.declared.schedule.Move.{Move}
 use Rattle.lu_test.specs.Matrix.{Matrix}
@@ -117,12 +116,6 @@ pub record AddsEndings (s : State) (t : ℕ) (returned : Option SerialOutcome) (
   pub short : StillLasts s t returned n → ⊥
   pub some : (o : SerialOutcome) × (end : State) × Gives s t returned o end
   pub grows : Grows s.component s.matrix old new (Gives s t returned)
-
--- where `all` is true, the operation ends within n moves, and its endings are added
-abbrev pub AddsIfAll : State → ℕ → Option SerialOutcome → ℕ → Vec Ending → Vec Ending → Bool
-    → Type 0
-AddsIfAll s t returned n old new all =
-    all ≡ true → AddsEndings s t returned n old.items new.items
 
 -- After a first move of thread t with a pick below k, the operation ends so.
 pub record ComesBelow (s : State) (t k : ℕ) (outcome : SerialOutcome) (end : State) : Type 0 where

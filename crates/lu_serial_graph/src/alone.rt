@@ -1,7 +1,7 @@
 //! An operation that one thread makes alone.
 
 ghost use Rattle.std.specs.Prelude.{◌≡◌, true, false, IfOk};
-ghost use Rattle.lu_serial_graph.specs.Playing.{AddsIfAll, MayGoOn, StillLasts, returned_by};
+ghost use Rattle.lu_serial_graph.specs.Playing.{AddsEndings, MayGoOn, StillLasts, returned_by};
 
 use lu_history::SerialOutcome;
 use lu_machine::{Event, Machine, Position};
@@ -38,8 +38,8 @@ pub(crate) fn run_alone(
 ) -> Result<bool, AllocError>
     requires { MayGoOn machine.old t returned left }
     ensures home { IfOk result (λ all. all ≡ true → machine.new ≡ machine.old) }
-    ensures adds { IfOk result
-        (AddsIfAll machine.old t returned left endings.old endings.new) }
+    ensures adds { IfOk result (λ all. all ≡ true →
+        AddsEndings machine.old t returned left endings.old.items endings.new.items) }
     ensures long { IfOk result (λ all. all ≡ false → StillLasts machine.old t returned left) }
 {
     if let Some(outcome) = returned {

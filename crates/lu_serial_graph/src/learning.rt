@@ -1,11 +1,13 @@
 //! What the serial runs of a matrix show, with their histories as a graph.
 
-ghost use Rattle.std.specs.Prelude.{◌≤◌, IfNone, IfOk, OnOk};
+ghost use Rattle.std.specs.Prelude.{◌≤◌, IfNone, IfOk, IfSome, OnOk};
 ghost use Rattle.lu_component.specs.Component.{IsComponent};
 ghost use Rattle.lu_machine.specs.declared.TheConstants.{MOST_MOVES};
-ghost use Rattle.lu_machine.specs.Starts.{CanRun};
+ghost use Rattle.lu_machine.specs.Starts.{CanRun, FromEachStart};
+ghost use Rattle.lu_serial.specs.Offences.{IsSetOf};
 ghost use Rattle.lu_serial_graph.specs.Exploring.{Offends};
-ghost use Rattle.lu_serial_graph.specs.Learning.{GivesGraph, LearnsGraph};
+ghost use Rattle.lu_serial_graph.specs.Graphs.{members_of};
+ghost use Rattle.lu_serial_graph.specs.Learning.{LearnsGraph};
 ghost use Rattle.lu_test.specs.Matrix.{IsMatrix};
 
 use crate::exploring::{Rests, Search, explore};
@@ -49,7 +51,8 @@ fn graph_of<A: Allocator + Clone>(
 ) -> Result<Option<SerialGraph<A>>, AllocError>
     requires of { CanRun component.now matrix.now }
     requires few { bound ≤ MOST_MOVES }
-    ensures graph { GivesGraph component.now matrix.now bound result }
+    ensures graph { FromEachStart component.now matrix.now (λ s.
+        IfOk result (λ g. IfSome g (λ graph. IsSetOf s bound (members_of graph)))) }
     ensures offence { IfOk result (λ g. IfNone g (Offends component.now matrix.now bound)) }
     ensures limits { IsComponent component.now × IsMatrix matrix.now }
 {
