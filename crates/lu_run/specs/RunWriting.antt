@@ -17,6 +17,10 @@ abbrev pub call_words : List Op → Option ACall → List ℕ
 call_words operations None = []
 call_words operations (Some call) = call_text operations call
 
+-- the call of this number, if there is one
+abbrev pub numbered_call : List Op → List ACall → ℕ → List ℕ
+numbered_call operations calls n = call_words operations (slice_get calls n)
+
 abbrev pub outcome_words : Outcome → List ℕ
 outcome_words (Ret n) = codes "ret " ++ decimal n
 outcome_words Trap = codes "trap"
@@ -24,7 +28,7 @@ outcome_words Trap = codes "trap"
 -- the line of an event of a run with these calls
 abbrev pub event_text : List Op → List ACall → RunEvent → List ℕ
 event_text operations calls (Call t n) =
-    codes "call " ++ decimal t ++ codes " " ++ call_words operations (slice_get calls n) ++ 10 ∷ []
+    codes "call " ++ decimal t ++ codes " " ++ numbered_call operations calls n ++ 10 ∷ []
 event_text operations calls (Return t outcome) =
     codes "return " ++ decimal t ++ codes " " ++ outcome_words outcome ++ 10 ∷ []
 

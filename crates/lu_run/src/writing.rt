@@ -1,9 +1,9 @@
 //! Writing of runs.
 
-ghost use Rattle.std.specs.Prelude.{◌≡◌, IfOk, slice_get, string_bytes, take};
+ghost use Rattle.std.specs.Prelude.{◌≡◌, IfOk, string_bytes};
 ghost use Rattle.lu_text.specs.Writing.{Writes};
 ghost use Rattle.lu_run.specs.RunWriting as spec;
-ghost use Rattle.lu_run.specs.RunWriting.{call_words, event_text, events_text, run_text, stuck_text};
+ghost use Rattle.lu_run.specs.RunWriting.{event_text, events_text, numbered_call, run_text, stuck_text};
 
 use crate::run::{Run, RunEvent};
 use lu_component::{Component, Op};
@@ -18,8 +18,7 @@ fn put_call(
     calls: &[Call],
     number: u32,
 ) -> Result<(), AllocError>
-    ensures { Writes result text.old text.new
-        (call_words operations.now (slice_get calls.now number)) }
+    ensures { Writes result text.old text.new (numbered_call operations.now calls.now number) }
 {
     match calls.get(number as usize) {
         None => Ok(()),

@@ -1,7 +1,7 @@
 //! Texts of runs of a slot.
 
 use lu_lang::read_component;
-use lu_run::{RunFault, RunFaultKind, read_run};
+use lu_run::{RunFault, RunFaultKind, read_run, write_run};
 use lu_text::Fault;
 use std::process::Abort;
 use std::test::Fail;
@@ -82,5 +82,23 @@ fn a_long_text(rt: HostRuntime) -> Result<(), Fail> {
     }
     let long = sizes(&rt, text.as_bytes())?;
     assert!(rt; long == (60000, 30000));
+    Ok(())
+}
+
+/// The text of the first events of the run that the text says.
+fn written(rt: &(impl AllocGlobal + Abort), text: &[u8], count: usize) -> Result<String, Fail> {
+    let component = read_component(rt.alloc(), COMPONENT)?;
+    let run = read_run(rt.alloc(), &component, text)?;
+    Ok(write_run(rt.alloc(), &component, &run, count)?)
+}
+
+#[test]
+fn runs_are_written(rt: HostRuntime) -> Result<(), Fail> {
+    let text =
+        "run\ncall 0 put 7\ncall 1 take\nreturn 0 ret 0\nreturn 1 trap\ncall 0 put 7\nstuck\n";
+    let whole = written(&rt, text.as_bytes(), 5)?;
+    assert!(rt; whole.as_str() == text);
+    let part = written(&rt, text.as_bytes(), 2)?;
+    assert!(rt; part.as_str() == "run\ncall 0 put 7\ncall 1 take\n");
     Ok(())
 }

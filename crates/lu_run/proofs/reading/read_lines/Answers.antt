@@ -1,4 +1,4 @@
-use Rattle.std.proofs.Common.{◌+◌, refl, arith, length}
+use Rattle.std.proofs.Common.{◌+◌, arith, length}
 use Rattle.std.proofs.lemmas.Result.{err_from_is_err_and}
 use Rattle.lu_text.proofs.Reading.{goes_on, ends, is_done, text_more, texts_end}
 use Rattle.lu_run.specs.Reading.{seen_if}

@@ -1,4 +1,4 @@
-use Rattle.std.proofs.Common.{arith, ◌≡◌, ◌≤◌, Option, Some, true, slice_get, sym, ◌∙◌, ap, subst, length}
+use Rattle.std.proofs.Common.{◌≡◌, ◌≤◌, Option, Some, true, slice_get, sym, ◌∙◌, ap, subst, length}
 use Rattle.std.specs.Prelude.{IsSomeAnd, if◌then◌else◌, None, ◌==◌}
 use Rattle.std.proofs.lemmas.Bool.{eqb-true}
 use Rattle.std.proofs.lemmas.Option.{slice_get-get_or}
