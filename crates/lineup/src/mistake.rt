@@ -75,14 +75,16 @@ fn unknown_option(alloc: Global, command: &str, name: &str) -> Result<String, Al
     )
 }
 
-/// What is wrong with the value of an option that takes a number in this range.
+/// What is wrong with the value of an option, where it takes one.
 fn value_fault(
     alloc: Global,
-    name: &str,
+    row: &OptionRow,
     value: Option<&str>,
-    least: u64,
-    most: u64,
 ) -> Result<Option<String>, AllocError> {
+    let name = row.name;
+    let Some((least, most)) = range_of(row.kind) else {
+        return Ok(None);
+    };
     let Some(value) = value else {
         return Ok(Some(format!(in alloc;
             "expected a number from {least} to {most} after `--{name}`"
@@ -104,36 +106,48 @@ fn is_given(words: &[String], name: &str) -> bool {
         .is_some_and(|given| given == name))
 }
 
-/// What is wrong with the words after those of a command, the first of which are well.
+/// A word that is not an option.
+fn unexpected(alloc: Global, word: &str) -> Result<String, AllocError> {
+    format!(in alloc;
+        "unexpected `{word}`; help: the input is read from standard input, or by `./lineup` from one file"
+    )
+}
+
+/// What is wrong with the words after the command, where one of them alone is wrong.
 fn option_fault(
     alloc: Global,
     command: &str,
     words: &[String],
 ) -> Result<Option<String>, AllocError> {
-    let mut index = 0;
-    while index < words.len() {
-        let word = words[index].as_str();
+    // the option whose value comes next
+    let mut open: Option<&'static OptionRow> = None;
+    for (index, word) in words.iter().enumerate() {
+        let word = word.as_str();
+        if let Some(row) = open {
+            if let Some(fault) = value_fault(alloc, row, Some(word))? {
+                return Ok(Some(fault));
+            }
+            open = None;
+            continue;
+        }
         let Some(name) = word.strip_prefix("--") else {
-            return Ok(Some(format!(in alloc;
-                "unexpected `{word}`; help: the input is read from standard input, or by `./lineup` from one file"
-            )?));
+            return Ok(Some(unexpected(alloc, word)?));
         };
         let Some(row) = option_of(command, name) else {
             return Ok(Some(unknown_option(alloc, command, name)?));
         };
-        if is_given(&words[..index], name) {
+        let (before, _) = words.split_at(index.min(words.len()));
+        if is_given(before, name) {
             return Ok(Some(format!(in alloc; "`--{name}` is given twice")?));
         }
-        index += 1;
-        if let Some((least, most)) = range_of(row.kind) {
-            let value = words.get(index).map(|value| value.as_str());
-            if let Some(fault) = value_fault(alloc, name, value, least, most)? {
-                return Ok(Some(fault));
-            }
-            index = index.saturating_add(1);
+        if range_of(row.kind).is_some() {
+            open = Some(row);
         }
     }
-    Ok(None)
+    match open {
+        Some(row) => value_fault(alloc, row, None),
+        None => Ok(None),
+    }
 }
 
 /// What is wrong with the words of a command line that was refused, in words.
