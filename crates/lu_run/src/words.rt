@@ -165,7 +165,7 @@ fn return_with(
     Ok(TextEvent::Return { thread, outcome })
 }
 
-/// What the words after `return` say, where they are to be those of a value.
+/// The event that the words after `return` describe, where they end with `ret N`.
 fn value_return_in(line: usize, pending: &[bool; 8], words: &[&[u8]]) -> Result<TextEvent, RunFault>
     ensures event { OnLine line result (value_return_of pending.now (texts words.now)) }
     ensures of { (c : Component) → IfOk result (IsOf c pending.now) }
@@ -180,7 +180,7 @@ fn value_return_in(line: usize, pending: &[bool; 8], words: &[&[u8]]) -> Result<
     return_with(line, pending, thread_in(thread), outcome)
 }
 
-/// What the words after `return` say.
+/// The event that the words after `return` describe.
 fn return_in(line: usize, pending: &[bool; 8], words: &[&[u8]]) -> Result<TextEvent, RunFault>
     ensures event { OnLine line result (spec.return_of pending.now (texts words.now)) }
     ensures of { (c : Component) → IfOk result (IsOf c pending.now) }
