@@ -3,6 +3,7 @@
 ghost use Rattle.std.specs.Prelude.{◌≡◌, ◌≤◌, ◌<◌, IfOk, IfErr, IfSome, OnOk};
 ghost use Rattle.lu_test.specs.Matrix.{IsMatrix};
 ghost use Rattle.lu_machine.specs.Starts.{CanRun};
+ghost use Rattle.lu_machine.specs.Tests.{IsStartOf};
 ghost use Rattle.lu_report.specs.Limits.{most_moves};
 ghost use Rattle.lu_replay.specs.Reports.{IsReport};
 ghost use Rattle.lu_parallel.specs.Findings.{FindsFromStarts, FindsAgainst, MayFindAgainst, ReportsAsAsked};
@@ -18,10 +19,10 @@ use crate::worker::{Job, REMEMBERED};
 use crate::worker_threads::run_workers;
 use lu_board::Board;
 use lu_component::Component;
-use lu_machine::Test;
+use lu_machine::{Machine, Test};
 use lu_replay::graph_or_offence;
 use lu_report::{Finding, Report};
-use lu_serial_graph::learn_graph;
+use lu_serial_graph::learn_graph_from;
 use lu_test::{Matrix, Schedule};
 use lu_tree::{SearchSpace, Searcher, Watch, frontier};
 use lu_trie::SerialTree;
@@ -76,11 +77,13 @@ where
 }
 
 /// What the calling thread finds alone against the set of a tree, with the head start: none where
-/// that is over before the search.
-fn search_ahead<R, G, T: SerialTree>(
-    check: &Checking<'_, R, G>,
+/// that is over before the search. The machine is at the start of a run.
+fn search_ahead<'a, R, G, T: SerialTree>(
+    check: &Checking<'a, R, G>,
+    machine: Machine<'a>,
     tree: &T,
 ) -> Result<Option<Finding>, AllocError>
+    requires start { IsStartOf check.now.space.test machine }
     ensures found { MayFindAgainst check.now.space (T.members tree.now) result }
     ensures limits { IfOk result (λ f. IfSome f (λ _. IsMatrix check.now.space.test.matrix.now)) }
 {
@@ -90,7 +93,7 @@ fn search_ahead<R, G, T: SerialTree>(
     }
     let space = &check.space;
     let whole = Schedule::new(Vec::new(space.alloc));
-    let mut searcher = Searcher::new(*space, tree)?;
+    let mut searcher = Searcher::from_start(*space, machine, tree)?;
     let mut cache = Cache::new(space.alloc, tree, REMEMBERED)?;
     let mut watch = HeadStart::new(looks);
     let found = searcher.search(&mut cache, &whole, &mut watch)?;
@@ -98,44 +101,43 @@ fn search_ahead<R, G, T: SerialTree>(
 }
 
 /// What is found against the set of a tree. One worker searches all schedules on the calling
-/// thread, which does so for several too, as far as their head start goes.
-fn search_tree<R: Threads + Wait, G: Gate, T: SerialTree + Sync>(
-    check: &Checking<'_, R, G>,
+/// thread, which does so for several too, as far as their head start goes, by a machine that is at
+/// the start of a run. Workers that are started make machines of their own.
+fn search_tree<'a, R: Threads + Wait, G: Gate, T: SerialTree + Sync>(
+    check: &Checking<'a, R, G>,
+    machine: Machine<'a>,
     tree: &T,
 ) -> Result<Finding, CheckFault>
 where
     T::Place: Send + Sync,
+    requires start { IsStartOf check.now.space.test machine }
     ensures found { FindsAgainst check.now.space (T.members tree.now) result }
     ensures limits { OnOk result (IsMatrix check.now.space.test.matrix.now) }
     ensures alone { IfErr result (λ fault. check.now.options.workers ≡ 1 → fault ≡ Memory) }
 {
     if check.options.workers() == 1 {
-        let finding = search_all(&check.space, tree)?;
+        let finding = search_all(&check.space, machine, tree)?;
         return Ok(finding);
     }
-    match search_ahead(check, tree)? {
+    match search_ahead(check, machine, tree)? {
         Some(finding) => Ok(finding),
         None => search_by_workers(check, tree),
     }
 }
 
 /// The least serial offence, or what is found among all schedules. All workers read one graph of the
-/// serial histories.
+/// serial histories. The setup is run once, and once more by each worker that is started.
 fn find<R: Threads + Wait, G: Gate>(check: &Checking<'_, R, G>) -> Result<Finding, CheckFault>
     ensures found { FindsFromStarts check.now.space check.now.options.serial result }
     ensures limits { OnOk result (IsMatrix check.now.space.test.matrix.now) }
     ensures alone { IfErr result (λ fault. check.now.options.workers ≡ 1 → fault ≡ Memory) }
 {
-    let space = check.space;
+    let SearchSpace { alloc, test, .. } = check.space;
     let serial = check.options.serial();
-    match graph_or_offence(learn_graph(
-        space.alloc,
-        space.alloc,
-        space.test.component,
-        space.test.matrix,
-        serial,
-    )?) {
-        Ok(graph) => search_tree(check, &&graph),
+    let machine = Machine::start(alloc, test.component, test.matrix)?;
+    let copy = machine.try_clone(alloc)?;
+    match graph_or_offence(learn_graph_from(alloc, alloc, test, copy, serial)?) {
+        Ok(graph) => search_tree(check, machine, &&graph),
         Err(offence) => Ok(offence),
     }
 }
@@ -214,6 +216,7 @@ where
         space,
         options,
     };
-    let finding = search_tree(&check, tree)?;
+    let machine = Machine::start(alloc, component, matrix)?;
+    let finding = search_tree(&check, machine, tree)?;
     Ok(Report::against(bound, component.local(), finding))
 }

@@ -3,16 +3,17 @@
 ghost use Rattle.std.specs.Prelude.{◌≡◌, ◌≤◌, IfOk, OnOk};
 ghost use Rattle.lu_test.specs.Matrix.{IsMatrix};
 ghost use Rattle.lu_machine.specs.Starts.{CanRun};
+ghost use Rattle.lu_machine.specs.Tests.{IsStartOf};
 ghost use Rattle.lu_report.specs.Limits.{IsSerialBound, most_moves};
 ghost use Rattle.lu_replay.specs.Reports.{IsReport};
 ghost use Rattle.lu_parallel.specs.Findings.{FindsFromStarts, FindsAgainst, ReportsAgainst, finding_of};
 
 use crate::worker::REMEMBERED;
 use lu_component::Component;
-use lu_machine::Test;
+use lu_machine::{Machine, Test};
 use lu_replay::graph_or_offence;
 use lu_report::{Finding, Report};
-use lu_serial_graph::learn_graph;
+use lu_serial_graph::learn_graph_from;
 use lu_test::{Matrix, Schedule};
 use lu_tree::{Found, SearchSpace, Searcher, Unwatched};
 use lu_trie::SerialTree;
@@ -30,23 +31,26 @@ pub(crate) fn finding_of(found: Found) -> Option<Finding>
     }
 }
 
-/// What a search of all schedules finds against the set of a tree.
-pub(crate) fn search_all<T: SerialTree>(
-    space: &SearchSpace<'_>,
+/// What a search of all schedules finds against the set of a tree. The machine is at the start of a
+/// run.
+pub(crate) fn search_all<'a, T: SerialTree>(
+    space: &SearchSpace<'a>,
+    machine: Machine<'a>,
     tree: &T,
 ) -> Result<Finding, AllocError>
-    requires { space.now.bound ≤ most_moves }
+    requires few { space.now.bound ≤ most_moves }
+    requires start { IsStartOf space.now.test machine }
     ensures found { FindsAgainst space.now (T.members tree.now) result }
     ensures limits { OnOk result (IsMatrix space.now.test.matrix.now) }
 {
     let whole = Schedule::new(Vec::new(space.alloc));
-    let mut searcher = Searcher::new(*space, tree)?;
+    let mut searcher = Searcher::from_start(*space, machine, tree)?;
     let mut cache = Cache::new(space.alloc, tree, REMEMBERED)?;
     let found = searcher.search(&mut cache, &whole, &mut Unwatched)?;
     Ok(finding_of(found).unwrap())
 }
 
-/// The least serial offence, or what a search of all schedules finds.
+/// The least serial offence, or what a search of all schedules finds. The setup is run once.
 fn find<A: Allocator + Clone>(
     space: &SearchSpace<'_>,
     set_alloc: A,
@@ -57,15 +61,11 @@ fn find<A: Allocator + Clone>(
     ensures found { FindsFromStarts space.now serial result }
     ensures limits { OnOk result (IsMatrix space.now.test.matrix.now) }
 {
-    let learnt = learn_graph(
-        space.alloc,
-        set_alloc,
-        space.test.component,
-        space.test.matrix,
-        serial,
-    )?;
-    match graph_or_offence(learnt) {
-        Ok(graph) => search_all(space, &&graph),
+    let SearchSpace { alloc, test, .. } = *space;
+    let machine = Machine::start(alloc, test.component, test.matrix)?;
+    let copy = machine.try_clone(alloc)?;
+    match graph_or_offence(learn_graph_from(alloc, set_alloc, test, copy, serial)?) {
+        Ok(graph) => search_all(space, machine, &&graph),
         Err(offence) => Ok(offence),
     }
 }
@@ -123,6 +123,7 @@ pub fn check_one_against<T: SerialTree>(
         test: Test { component, matrix },
         bound,
     };
-    let finding = search_all(&space, tree)?;
+    let machine = Machine::start(alloc, component, matrix)?;
+    let finding = search_all(&space, machine, tree)?;
     Ok(Report::against(bound, component.local(), finding))
 }

@@ -14,7 +14,7 @@ pub search-requires-clause-of : goal.search-requires-clause-of
 search-requires-clause-of g c =
     let empty : c.new-whole.result ≡ [] = c.new-whole.ensures ∙ c.new.ensures.items in
     let can : CanSearch c.args.space.now c.new-whole.result = record {
-      few = c.requires;
+      few = c.requires.few;
       short = omega (arith, ap length empty);
       leads = λ s is. subst (λ (u : List Move). IsSchedule s u) (sym empty) (empty_leads s);
     } in
