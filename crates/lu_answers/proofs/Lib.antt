@@ -1,0 +1,2 @@
+pub mod ReadSerially
+pub mod Closed
