@@ -622,6 +622,26 @@ impl<'a> Machine<'a> {
         })
     }
 
+    /// A second machine of the same component and matrix, which stands where this one does.
+    ///
+    /// # Errors
+    ///
+    /// Memory was refused.
+    pub fn try_clone(&self, alloc: Global) -> Result<Machine<'a>, AllocError>
+        ensures { IfOk result (λ copy. copy ≡ self.now) }
+    {
+        Ok(Machine {
+            component: self.component,
+            matrix: self.matrix,
+            spans: Vec::from_slice(alloc, &self.spans)?,
+            rows: Vec::from_slice(alloc, &self.rows)?,
+            agendas: Vec::from_slice(alloc, &self.agendas)?,
+            cells: Vec::from_slice(alloc, &self.cells)?,
+            locks: Vec::from_slice(alloc, &self.locks)?,
+            threads: Vec::from_slice(alloc, &self.threads)?,
+        })
+    }
+
     /// Stands where this says. A machine of the component and the matrix is asked to be able to, as
     /// it is where one of them stood ([`Machine::position`]).
     pub fn stand_at(&mut self, position: &Position)

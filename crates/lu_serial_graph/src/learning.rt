@@ -3,7 +3,8 @@
 ghost use Rattle.std.specs.Prelude.{◌≤◌, IfNone, IfOk, IfSome, OnOk};
 ghost use Rattle.lu_component.specs.Component.{IsComponent};
 ghost use Rattle.lu_machine.specs.declared.TheConstants.{MOST_MOVES};
-ghost use Rattle.lu_machine.specs.Starts.{CanRun, FromEachStart};
+ghost use Rattle.lu_machine.specs.Starts.{CanRun};
+ghost use Rattle.lu_machine.specs.Tests.{FromEachStartOf, IsStartOf};
 ghost use Rattle.lu_serial.specs.Offences.{IsSetOf};
 ghost use Rattle.lu_serial_graph.specs.Exploring.{Offends};
 ghost use Rattle.lu_serial_graph.specs.Graphs.{members_of};
@@ -15,7 +16,7 @@ use crate::graph::{SerialGraph, Table};
 use indexmap::IndexMap;
 use lu_component::Component;
 use lu_history::SerialOutcome;
-use lu_machine::Machine;
+use lu_machine::{Machine, Test};
 use lu_serial::{Learnt, learn};
 use lu_test::{Matrix, Schedule};
 use std::alloc::{AllocError, Allocator, Global};
@@ -45,18 +46,17 @@ pub enum LearntGraph<A: Allocator> {
 fn graph_of<A: Allocator + Clone>(
     alloc: Global,
     set_alloc: A,
-    component: &Component,
-    matrix: &Matrix,
+    test: Test<'_>,
+    machine: Machine<'_>,
     bound: u16,
 ) -> Result<Option<SerialGraph<A>>, AllocError>
-    requires of { CanRun component.now matrix.now }
+    requires start { IsStartOf test machine }
     requires few { bound ≤ MOST_MOVES }
-    ensures graph { FromEachStart component.now matrix.now (λ s.
+    ensures graph { FromEachStartOf test.entry (λ s.
         IfOk result (λ g. IfSome g (λ graph. IsSetOf s bound (members_of graph)))) }
-    ensures offence { IfOk result (λ g. IfNone g (Offends component.now matrix.now bound)) }
-    ensures limits { IsComponent component.now × IsMatrix matrix.now }
+    ensures offence { IfOk result
+        (λ g. IfNone g (Offends test.entry.component.now test.entry.matrix.now bound)) }
 {
-    let machine = Machine::start(alloc, component, matrix)?;
     let mut positions = Vec::new(alloc);
     positions.push(machine.position(alloc)?)?;
     let mut search = Search {
@@ -110,6 +110,8 @@ fn offence_of<A: Allocator + Clone>(
 /// [`learn`] gives the same set as a list. Histories that continue alike share one node of the
 /// graph, so it can be small where the list is long. An offence takes as long as with [`learn`].
 ///
+/// [`learn_graph_from`] is for a caller that has a machine at the start of a run.
+///
 /// # Errors
 ///
 /// `AllocError` where memory was refused.
@@ -126,8 +128,30 @@ pub fn learn_graph<A: Allocator + Clone>(
     ensures learnt { LearnsGraph component.now matrix.now bound result }
     ensures limits { OnOk result (IsComponent component.now × IsMatrix matrix.now) }
 {
-    match graph_of(alloc, set_alloc.clone()?, component, matrix, bound)? {
+    let machine = Machine::start(alloc, component, matrix)?;
+    let test = Test { component, matrix };
+    learn_graph_from(alloc, set_alloc, test, machine, bound)
+}
+
+/// The same as [`learn_graph`] for this test, by a machine that is at the start of a run.
+///
+/// # Errors
+///
+/// `AllocError` where memory was refused.
+pub fn learn_graph_from<A: Allocator + Clone>(
+    alloc: Global,
+    set_alloc: A,
+    test: Test<'_>,
+    machine: Machine<'_>,
+    bound: u16,
+) -> Result<LearntGraph<A>, AllocError>
+    requires start { IsStartOf test machine }
+    requires some { 1 ≤ bound }
+    requires few { bound ≤ MOST_MOVES }
+    ensures { LearnsGraph test.entry.component.now test.entry.matrix.now bound result }
+{
+    match graph_of(alloc, set_alloc.clone()?, test, machine, bound)? {
         Some(graph) => Ok(LearntGraph::Set(graph)),
-        None => offence_of(alloc, set_alloc, component, matrix, bound),
+        None => offence_of(alloc, set_alloc, test.component, test.matrix, bound),
     }
 }

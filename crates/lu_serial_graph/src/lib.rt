@@ -11,4 +11,4 @@ mod subset;
 
 pub use answering::{Answer, ask};
 pub use graph::SerialGraph;
-pub use learning::{LearntGraph, learn_graph};
+pub use learning::{LearntGraph, learn_graph, learn_graph_from};

@@ -5,14 +5,13 @@ ghost use Rattle.lu_machine.specs.declared.event.Event.{Event};
 ghost use Rattle.lu_machine.specs.Ends.{IsEnded};
 ghost use Rattle.lu_machine.specs.States.{progress};
 ghost use Rattle.lu_machine.specs.Steps.{IsFeasible, Step};
-ghost use Rattle.lu_machine.specs.Tests.{IsStartOf, IsWithinLimits};
 ghost use Rattle.lu_machine.specs.Undoes.{CanTake, restored};
 ghost use Rattle.lu_history.specs.Standing.{Agree};
 ghost use Rattle.lu_witness.specs.Caches.{SameButEntries};
 ghost use Rattle.lu_tree.specs.Walks.{IsBadEnd, IsGoodComplete, IsGoodEnd, IsLongerBy, IsTakenBack};
 
 use lu_judge::Trail;
-use lu_machine::{Machine, Status, Test, Undo};
+use lu_machine::{Machine, Status, Undo};
 use lu_test::Move;
 use lu_trie::SerialTree;
 use lu_witness::{Cache, Verdict, Why};
@@ -26,21 +25,18 @@ pub(crate) struct Node<'a, 't, T: SerialTree> {
 }
 
 impl<'a, 't, T: SerialTree> Node<'a, 't, T> {
-    /// The start of a run, whose histories are judged over the tree.
+    /// The start of a run, where the machine stands. Its histories are judged over the tree.
     pub(crate) fn start(
         alloc: Global,
-        test: Test<'a>,
+        machine: Machine<'a>,
         tree: &'t T,
     ) -> Result<Node<'a, 't, T>, AllocError>
-        ensures machine { IfOk result (λ node. IsStartOf test.entry node.machine) }
+        ensures machine { IfOk result (λ node. node.machine ≡ machine.entry) }
         ensures history { IfOk result (λ node. node.trail.history ≡ []) }
         ensures tree { IfOk result (λ node. node.trail.tree ≡ tree.entry.now) }
-        ensures limits { IsWithinLimits test.entry }
     {
-        Ok(Node {
-            machine: Machine::start(alloc, test.component, test.matrix)?,
-            trail: Trail::new(alloc, tree)?,
-        })
+        let trail = Trail::new(alloc, tree)?;
+        Ok(Node { machine, trail })
     }
 
     /// Makes the move here. With `RUNS_LOCAL` false no local instructions run with a move.

@@ -1,7 +1,7 @@
 //! Searches one after the other.
 
 ghost use Rattle.std.specs.Prelude.{◌≡◌, false, IfOk};
-ghost use Rattle.lu_machine.specs.Tests.{IsWithinLimits};
+ghost use Rattle.lu_machine.specs.Tests.{IsStartOf, IsWithinLimits};
 ghost use Rattle.lu_witness.specs.Caches.{SameButEntries};
 ghost use Rattle.lu_tree.specs.Trees.{CanSearch, MayFind, is_abandoned};
 
@@ -12,7 +12,7 @@ use crate::searching::{follow, search_below};
 use crate::space::SearchSpace;
 use crate::tables::Tables;
 use crate::watch::Watch;
-use lu_machine::Position;
+use lu_machine::{Machine, Position};
 use lu_test::Schedule;
 use lu_trie::SerialTree;
 use lu_witness::Cache;
@@ -49,8 +49,28 @@ impl<'a, 't, T: SerialTree> Searcher<'a, 't, T> {
         ensures tree { IfOk result (λ searcher. tree_of searcher ≡ tree.entry.now) }
         ensures limits { IsWithinLimits space.entry.test }
     {
+        let test = space.test;
+        let machine = Machine::start(space.alloc, test.component, test.matrix)?;
+        Searcher::from_start(space, machine, tree)
+    }
+
+    /// A searcher of this space over the tree, by a machine that is at the start of a run.
+    ///
+    /// # Errors
+    ///
+    /// `AllocError` where memory was refused.
+    pub fn from_start(
+        space: SearchSpace<'a>,
+        machine: Machine<'a>,
+        tree: &'t T,
+    ) -> Result<Searcher<'a, 't, T>, AllocError>
+        requires start { IsStartOf space.test machine }
+        ensures ready { IfOk result IsReadyToSearch }
+        ensures space { IfOk result (λ searcher. space_of searcher ≡ space.entry) }
+        ensures tree { IfOk result (λ searcher. tree_of searcher ≡ tree.entry.now) }
+    {
         let SearchSpace { alloc, test, bound } = space;
-        let node = Node::start(alloc, test, tree)?;
+        let node = Node::start(alloc, machine, tree)?;
         let tables = Tables::new(alloc, test.component, test.matrix, bound)?;
         let start = node.machine.position(alloc)?;
         let tally = WalkProgress::new(alloc)?;

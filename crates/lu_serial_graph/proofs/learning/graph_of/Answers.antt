@@ -13,11 +13,11 @@ use Rattle.lu_serial_graph.proofs.learning.graph_of.Goals as goal
 
 pub explore-requires-clause-reached : goal.explore-requires-clause-reached
 explore-requires-clause-reached g c =
-    let x : Component = c.args.component.now in
-    let matrix : Matrix = c.args.matrix.now in
-    let m : State = c.in_ok-machine.machine in
+    let x : Component = c.args.test.component.now in
+    let matrix : Matrix = c.args.test.matrix.now in
+    let m : State = c.args.machine in
     let p : Position = c.in_ok-position.field-0 in
-    let start = c.in_ok-machine.ensures.starts in
+    let start = c.requires.start in
     let at : IsReady x matrix m = ready x matrix m start in
     let here : state_at x matrix p ≡ m = sym (stands_here m x matrix p at.component at.matrix_is) ∙ c.in_ok-position.ensures.here in
     let items : c.push.new.self.items ≡ p ∷ [] = c.in_ok-push.ensures.items ∙ ap (λ (y : List Position). y ++ p ∷ []) c.new-positions.ensures.items in
@@ -28,11 +28,11 @@ explore-requires-clause-reached g c =
 
 pub returns-in-Some-clause-graph : goal.returns-in-Some-clause-graph
 returns-in-Some-clause-graph g c = λ s is_start.
-    (let x : Component = c.args.component.now in
-    let matrix : Matrix = c.args.matrix.now in
-    let m : State = c.in_ok-machine.machine in
+    (let x : Component = c.args.test.component.now in
+    let matrix : Matrix = c.args.test.matrix.now in
+    let m : State = c.args.machine in
     let p : Position = c.in_ok-position.field-0 in
-    let start = c.in_ok-machine.ensures.starts in
+    let start = c.requires.start in
     let at : IsReady x matrix m = ready x matrix m start in
     let here : state_at x matrix p ≡ m = sym (stands_here m x matrix p at.component at.matrix_is) ∙ c.in_ok-position.ensures.here in
     let items : c.push.new.self.items ≡ p ∷ [] = c.in_ok-push.ensures.items ∙ ap (λ (y : List Position). y ++ p ∷ []) c.new-positions.ensures.items in
@@ -44,10 +44,10 @@ returns-in-Some-clause-graph g c = λ s is_start.
 
 pub returns-in-None-clause-offence : goal.returns-in-None-clause-offence
 returns-in-None-clause-offence g c =
-    let x : Component = c.args.component.now in
-    let matrix : Matrix = c.args.matrix.now in
-    let m : State = c.in_ok-machine.machine in
-    let at : IsReady x matrix m = ready x matrix m c.in_ok-machine.ensures.starts in
+    let x : Component = c.args.test.component.now in
+    let matrix : Matrix = c.args.test.matrix.now in
+    let m : State = c.args.machine in
+    let at : IsReady x matrix m = ready x matrix m c.requires.start in
     let component = ap (λ (y : State). y.component) c.machine.view_is ∙ at.component in
     let matrix_is = ap (λ (y : State). y.matrix) c.machine.view_is ∙ at.matrix_is in
     let offends : Offends x matrix c.args.bound = rw (c.in-None.is, component, matrix_is) at c.in_ok-explore.ensures in
