@@ -22,11 +22,11 @@ use Rattle.lu_client.proofs.OneCalls.{within_some}
 use Rattle.lu_answers.specs.declared.stage.StoredStage.{StoredStage}
 use Rattle.lu_answers.specs.declared.stop.Stop.{Stop}
 use Rattle.lu_answers.specs.declared.stop.Stop.TheVariants.{Memory, Offends, TooMany}
-use Rattle.lu_answers.specs.Asking.{AddsFrom, BlocksAlways, HasOffence, ComesUp, HasMore, HasOffenceAt, IsNextFrom, IsRightAt, IsRow, LeadsOn, MoreComeUp, ReturnsTo, SomeOffends, Step, StopsSo}
-use Rattle.lu_answers.specs.Stored.{AllStored, Grows, GrowsPast, IsNumbered, IsStop, IsStored, Keeps, StopsAdding, stage_of, stages_of}
+use Rattle.lu_answers.specs.Asking.{AddsFrom, BlocksAlways, HasOffence, HasOffenceAt, IfOffends, IsNextFrom, IsRightAt, IsRow, LeadsOn, ReturnsTo, SomeOffends, Step}
+use Rattle.lu_answers.specs.Stored.{AllStored, Grows, HasStage, IsNumbered, IsStored, Keeps, stage_of, stages_of}
 use Rattle.lu_answers.specs.Tables.{EndsOnlyAs, IsAnswer, IsTableFrom, IsTableOf, Rows, answer_in, table_of}
 use Rattle.lu_answers.proofs.Mapped.{mapped_at, unmapped_at}
-use Rattle.lu_answers.proofs.Reaching.{IsReached, comes_up, first_reached, reached_on, some_offends}
+use Rattle.lu_answers.proofs.Reaching.{IsReached, first_reached, reached_on, some_offends}
 
 -- ---- stages that stay
 
@@ -131,20 +131,6 @@ module _ (c : Component) (matrix : Matrix) (bound : ℕ) (old : List StoredStage
         } in
         subst (λ z. LeadsOn c matrix z (stage_of to)) (sym (here stage there)) leads
 
-    pub step_past : AllStored c matrix old → IsStored c matrix to → (new : List StoredStage) (most : ℕ) → GrowsPast most old to new → HasMore c matrix old x most
-    step_past all made new most past = record {
-      all = new;
-      many = past.many;
-      grows = keeps_grows old new to past.keeps;
-      adds = adds_one c matrix old new to x past.keeps step_leads;
-      distinct = past.distinct c matrix (stored_more c matrix old new to past.keeps all made);
-    }
-
-    pub step_stops : AllStored c matrix old → IsStored c matrix to → (new : List StoredStage) (most : ℕ) (stop : Stop) → StopsAdding most old to new stop → IsStop stop (HasOffenceAt c matrix bound old x) (HasMore c matrix old x most)
-    step_stops all made new most Offends h = absurd h
-    step_stops all made new most TooMany past = step_past all made new most past
-    step_stops all made new most Memory h = tt
-
     pub step_returns : (new : List StoredStage) → Grows old new → (n : ℕ) → IsNumbered new to n → IsRightAt c matrix bound (stages_of new) x t (Some (outcome, n))
     step_returns new grows n number stage place call there next =
         let within = slice_get_within old x stored is in
@@ -200,17 +186,11 @@ row_more c matrix bound old mid new x row n step within few is grows stored adds
     less_of : (t n : ℕ) → t < n + 1 → (t ≡ n → ⊥) → t < n
     less_of t n less apart = elim (cases_lt t n) as (λ _. t < n) [ inl lt ↦ lt | inr past ↦ absurd (apart (omega arith)) ]
 
--- where it stops at a later list of stages, it stops at the first
-pub stop_was : (c : Component) (matrix : Matrix) (bound most : ℕ) (old mid : List StoredStage) (x : ℕ) → x < length old → Grows old mid → AddsFrom c matrix old x mid → (stop : Stop) → IsStop stop (HasOffenceAt c matrix bound mid x) (HasMore c matrix mid x most) → IsStop stop (HasOffenceAt c matrix bound old x) (HasMore c matrix old x most)
-stop_was c matrix bound most old mid x within grows adds Offends (stage, at, offends) = (stage, stage_was old mid grows x within stage at, offends)
-stop_was c matrix bound most old mid x within grows adds TooMany more = record {
-  all = more.all;
-  many = more.many;
-  grows = grows_on old mid more.all grows more.grows;
-  adds = adds_on c matrix old mid more.all x grows adds more.adds;
-  distinct = more.distinct;
-}
-stop_was c matrix bound most old mid x within grows adds Memory h = tt
+-- what stops at a later list of stages stops at the first
+pub offence_was : (c : Component) (matrix : Matrix) (bound : ℕ) (old mid : List StoredStage) (x : ℕ) → x < length old → Grows old mid → (stop : Stop) → IfOffends stop (HasOffenceAt c matrix bound mid x) → IfOffends stop (HasOffenceAt c matrix bound old x)
+offence_was c matrix bound old mid x within grows Offends (stage, at, offends) = (stage, stage_was old mid grows x within stage at, offends)
+offence_was c matrix bound old mid x within grows TooMany h = tt
+offence_was c matrix bound old mid x within grows Memory h = tt
 
 -- no thread is after the last one of the matrix
 pub row_all : (c : Component) (matrix : Matrix) (bound : ℕ) (old : List StoredStage) (x : ℕ) (all : List StoredStage) (row : List Step) (n : ℕ) → thread_count matrix ≤ n → IsRowBefore c matrix bound old x all row n → IsRow c matrix bound all x row
@@ -232,9 +212,9 @@ pub record AreFilled (c : Component) (matrix : Matrix) (bound : ℕ) (s : State)
   pub many : length rows ≡ index
   pub right : (x t : ℕ) → x < index → IsRightAt c matrix bound (stages_of all) x t (answer_in rows x t)
 
-pub filled_none : (c : Component) (matrix : Matrix) (bound : ℕ) (s : State) (all : List StoredStage) (new : StoredStage) (rows : Rows) → IsStart c matrix s → rows ≡ [] → stage_of new ≡ first_stage matrix (rest_of s) → IsStored c matrix new → Keeps [] new all → (n : ℕ) → IsNumbered all new n → AreFilled c matrix bound s 0 all rows
-filled_none c matrix bound s all new rows is none first stored (inl same) n there = absurd (let gone = ap (λ xs. slice_get (stages_of xs) n) (sym same) ∙ there in cc)
-filled_none c matrix bound s all new rows is none first stored (inr one) n there = record {
+pub filled_none : (c : Component) (matrix : Matrix) (bound : ℕ) (s : State) (all : List StoredStage) (new : StoredStage) (rows : Rows) → IsStart c matrix s → rows ≡ [] → stage_of new ≡ first_stage matrix (rest_of s) → IsStored c matrix new → Keeps [] new all → HasStage all new → AreFilled c matrix bound s 0 all rows
+filled_none c matrix bound s all new rows is none first stored (inl same) (n, there) = absurd (let gone = ap (λ xs. slice_get (stages_of xs) n) (sym same) ∙ there in cc)
+filled_none c matrix bound s all new rows is none first stored (inr one) has = record {
   first = ap (λ xs. slice_get (stages_of xs) 0) one ∙ ap Some first;
   stored = λ x at. subst (IsStored c matrix) (sym (alone x new (subst (λ xs. IsIn xs x) one at))) stored;
   reached = λ stage at. subst (IsReached c matrix s) (sym (alone stage (stage_of new) (subst (λ xs. IsIn (stages_of xs) stage) one at) ∙ first)) (first_reached c matrix s is);
@@ -295,41 +275,7 @@ filled_all c matrix bound s index all rows is past are other starts =
 pub filled_offends : (c : Component) (matrix : Matrix) (bound : ℕ) (s : State) (index : ℕ) (all : List StoredStage) (rows : Rows) → IsStart c matrix s → AreFilled c matrix bound s index all rows → HasOffenceAt c matrix bound all index → SomeOffends c matrix bound
 filled_offends c matrix bound s index all rows is are (stage, at, offends) = some_offends c matrix s is bound stage (are.reached stage (index, at)) offends
 
--- more stages than `most`, all of which serial runs reach
-pub filled_more : (c : Component) (matrix : Matrix) (bound most : ℕ) (s : State) (index : ℕ) (all : List StoredStage) (rows : Rows) → IsStart c matrix s → index < length all → AreFilled c matrix bound s index all rows → HasMore c matrix all index most → MoreComeUp c matrix most
-filled_more c matrix bound most s index all rows is within are more =
-    let count = length-map all stage_of in
-    let here = within_some (stages_of all) index (omega (arith, count, within)) in
-    record {
-      stages = stages_of more.all;
-      many = (let m = more.many in let l = length-map more.all stage_of in omega (arith, m, l));
-      distinct = more.distinct;
-      come_up = λ stage at. elim (more.adds here.0 stage here.1 at) as (λ _. ComesUp c matrix stage) [
-        | inl before ↦ comes_up c matrix s is stage (are.reached stage before)
-        | inr leads ↦ comes_up c matrix s is stage (reached_on c matrix s is here.0 stage (are.reached here.0 (index, here.1)) leads)
-      ];
-    }
-
-pub filled_stops : (c : Component) (matrix : Matrix) (bound most : ℕ) (s : State) (index : ℕ) (all : List StoredStage) (rows : Rows) → IsStart c matrix s → index < length all → AreFilled c matrix bound s index all rows → (stop : Stop) → IsStop stop (HasOffenceAt c matrix bound all index) (HasMore c matrix all index most) → StopsSo c matrix bound most stop
-filled_stops c matrix bound most s index all rows is within are Offends h = filled_offends c matrix bound s index all rows is are h
-filled_stops c matrix bound most s index all rows is within are TooMany h = filled_more c matrix bound most s index all rows is within are h
-filled_stops c matrix bound most s index all rows is within are Memory h = tt
-
--- the first stage is one too many
-pub first_stops : (c : Component) (matrix : Matrix) (bound most : ℕ) (s : State) (all : List StoredStage) (new : StoredStage) → IsStart c matrix s → stage_of new ≡ first_stage matrix (rest_of s) → IsStored c matrix new → (stop : Stop) → StopsAdding most [] new all stop → StopsSo c matrix bound most stop
-first_stops c matrix bound most s all new is first stored Offends h = absurd h
-first_stops c matrix bound most s all new is first stored TooMany past = record {
-  stages = stages_of all;
-  many = (let m = past.many in let l = length-map all stage_of in omega (arith, m, l));
-  distinct = past.distinct c matrix (stored_more c matrix [] all new past.keeps (λ x at. absurd (none_in x at)) stored);
-  come_up = λ stage at. comes_up c matrix s is stage (subst (IsReached c matrix s) (sym (only past.keeps stage at)) (first_reached c matrix s is));
-}
-  where
-    none_in : (x : StoredStage) → IsIn [] x → ⊥
-    none_in x (i, e) = cc
-
-    only : Keeps [] new all → (stage : Stage) → IsIn (stages_of all) stage → stage ≡ first_stage matrix (rest_of s)
-    only (inl same) stage (i, e) = absurd (let gone = ap (λ xs. slice_get (stages_of xs) i) (sym same) ∙ e in cc)
-    only (inr one) stage (zero, e) = sym (same_Some (stage_of new) stage (ap (λ xs. slice_get (stages_of xs) 0) (sym one) ∙ e)) ∙ first
-    only (inr one) stage (suc i, e) = absurd (let gone = ap (λ xs. slice_get (stages_of xs) (suc i)) (sym one) ∙ e in cc)
-first_stops c matrix bound most s all new is first stored Memory h = tt
+pub filled_stops : (c : Component) (matrix : Matrix) (bound : ℕ) (s : State) (index : ℕ) (all : List StoredStage) (rows : Rows) → IsStart c matrix s → AreFilled c matrix bound s index all rows → (stop : Stop) → IfOffends stop (HasOffenceAt c matrix bound all index) → IfOffends stop (SomeOffends c matrix bound)
+filled_stops c matrix bound s index all rows is are Offends h = filled_offends c matrix bound s index all rows is are h
+filled_stops c matrix bound s index all rows is are TooMany h = tt
+filled_stops c matrix bound s index all rows is are Memory h = tt

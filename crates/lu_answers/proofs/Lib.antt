@@ -4,7 +4,6 @@ pub mod Mapped
 pub mod Alone
 pub mod Replied
 pub mod Storing
-pub mod Distinct
 pub mod Resting
 pub mod Reaching
 pub mod Filled

@@ -21,7 +21,7 @@ use Rattle.lu_client.proofs.Outcomes.{has_one_outcome}
 use Rattle.lu_client.proofs.Played.{IsReady, goes_back, ready, rest_starts}
 use Rattle.lu_client.proofs.Turning.{repeated_at, repeated_row, turn_more}
 use Rattle.lu_client.proofs.Unrolled.{times_is_unrolled, turn_zero}
-use Rattle.lu_answers.specs.Asking.{ComesUp, HasOffence, IsNextFrom, LeadsOn, SomeOffends}
+use Rattle.lu_answers.specs.Asking.{HasOffence, IsNextFrom, LeadsOn, SomeOffends}
 use Rattle.lu_answers.proofs.ReadSerially.{other_more, own_more}
 
 -- ---- entries
@@ -127,20 +127,6 @@ module _ (c : Component) (matrix : Matrix) (s : State) (is : IsStart c matrix s)
               goes_back c (times n matrix) (start_of c matrix s n) (at n) q op rest goes);
         },
       )
-
-  pub comes_up : (stage : Stage) → IsReached c matrix s stage → ComesUp c matrix stage
-  comes_up stage (q, reached) =
-      let n = length q + 1 in
-      let less : length q < n = omega arith in
-      record {
-        big = times n matrix;
-        unrolled = times_is_unrolled None matrix n tt;
-        start = start_of c matrix s n;
-        is_start = start_is n;
-        q = q;
-        rests = reached.rests n less;
-        places = reached.places;
-      }
 
   -- a stage with a call that offends
   pub some_offends : (bound : ℕ) (stage : Stage) → IsReached c matrix s stage → HasOffence c matrix bound stage → SomeOffends c matrix bound

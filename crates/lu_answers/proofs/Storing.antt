@@ -1,6 +1,7 @@
 -- The first stage, and equal stages.
-use Rattle.std.proofs.Common.{arith, ◌≡◌, ℕ, zero, suc, Bool, true, List, [], ◌∷◌, length, map, replicate, Some, slice_get, refl, sym, ◌∙◌, ap, subst, inl, inr}
+use Rattle.std.proofs.Common.{arith, ◌≡◌, ℕ, zero, suc, ◌<◌, Bool, true, List, [], ◌∷◌, length, map, replicate, Option, Some, None, IfSome, Result, Ok, Err, slice_get, refl, sym, ◌∙◌, ap, subst, inl, inr}
 use Rattle.std.specs.Prelude.{nat_eq}
+use Rattle.std.specs.Result.{OkIff, result_ok}
 use lib.Pointwise.{pointwise}
 use Rattle.std.proofs.lemmas.Bool.{and_parts}
 use Rattle.std.proofs.lemmas.Bool.Decides.{Decides-eqb}
@@ -75,3 +76,11 @@ same_stages a b e =
 
 pub stage_there : (all : List StoredStage) (new : StoredStage) (place : ℕ) (k : StoredStage) → slice_get all place ≡ Some k → stored_eq new k ≡ true → IsNumbered all new place
 stage_there all new place k at same = mapped_at stage_of all place k at ∙ ap Some (sym (same_stages new k same))
+
+pub numbered : (all : List StoredStage) (new : StoredStage) (r : Option ℕ) (place : ℕ) → ((n : ℕ) → r ≡ Some n → n ≡ place) → IsNumbered all new place → IfSome r (IsNumbered all new)
+numbered all new None place is at = tt
+numbered all new (Some n) place is at = subst (IsNumbered all new) (sym (is n refl)) at
+
+pub converted : {E : Type 0} (r : Result ℕ E) (place : ℕ) → OkIff r (place < 4294967296) place → (o : Option ℕ) → o ≡ result_ok r → (n : ℕ) → o ≡ Some n → n ≡ place
+converted (Ok m) place iff o is n some = (let whole : Some m ≡ Some n = sym is ∙ some in let same : m ≡ n = cc in sym same ∙ iff.1)
+converted (Err e) place iff o is n some = absurd (let none = sym is ∙ some in cc)

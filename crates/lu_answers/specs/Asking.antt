@@ -1,25 +1,23 @@
 -- What next calls answer from a stage.
-use Rattle.std.specs.Prelude.{◌≡◌, ◌≢◌, ◌⊎◌, ℕ, ◌<◌, List, length, Option, Some, None, slice_get, get_or}
+use Rattle.std.specs.Prelude.{◌≡◌, ◌≢◌, ◌⊎◌, ℕ, List, Option, Some, None, slice_get, get_or}
 use Rattle.lu_component.specs.Component.{Component}
 use Rattle.lu_test.specs.declared.matrix.Call.{Call}
-use Rattle.lu_test.specs.Matrix.{Matrix, calls_of}
+use Rattle.lu_test.specs.Matrix.{Matrix}
 use Rattle.lu_machine.specs.Starts.{IsStart}
 use Rattle.lu_machine.specs.States.{State}
-use Rattle.lu_history.specs.declared.serial.SerialOp.{SerialOp}
 use Rattle.lu_history.specs.declared.serial.SerialOutcome.{SerialOutcome}
 use Rattle.lu_history.specs.declared.serial.SerialOutcome.TheVariants.{Stuck}
 use Rattle.lu_serial.specs.Offences.{NoOffence}
-use Rattle.lu_witness.specs.Witnesses.{entries}
-use Rattle.lu_client.specs.Clients.{turned}
 use Rattle.lu_client.specs.Rounds.{IsUnrolledFrom}
 use Rattle.lu_client.specs.Rounds.Way.{InOrder}
-use Rattle.lu_client.specs.Alone.{Answers, Overruns, Plays, Rest, RestAfter}
+use Rattle.lu_client.specs.Alone.{Answers, Overruns, Plays, Rest}
 use Rattle.lu_client.specs.Stages.{Follows, IsCallAt, IsIn, Stage}
 use Rattle.lu_answers.specs.declared.stop.Stop.{Stop}
+use Rattle.lu_answers.specs.declared.stop.Stop.TheVariants.{Offends, TooMany, Memory}
 use Rattle.lu_answers.specs.declared.finding.Tabled.{Tabled}
 use Rattle.lu_answers.specs.declared.finding.Tabled.TheVariants.{Table as Made, Offends as SomeOffend, TooMany as TooManyStages}
 use Rattle.lu_answers.specs.declared.stage.StoredStage.{StoredStage}
-use Rattle.lu_answers.specs.Stored.{AreDistinct, Grows, IsStop, IsStored, stage_of, stages_of}
+use Rattle.lu_answers.specs.Stored.{stage_of, stages_of, IsStored}
 use Rattle.lu_answers.specs.Tables.{EndsOnlyAs, IsAnswer, IsTableFrom, Rows}
 
 -- a next call of thread t, where lines are made in order and rounds have no limit
@@ -99,10 +97,16 @@ HasOffence c matrix bound stage =
     (t place : ℕ) × (call : Call) × IsNextFrom matrix stage t place call
     × (OverrunsFrom c bound stage t call ⊎ HasTwoOutcomes c stage t call)
 
--- if it stopped at the stage, a next call of it offends, or memory was refused
+-- the fact holds where it stopped at a call that offends
+abbrev pub IfOffends : Stop → Type 0 → Type 0
+IfOffends Offends fact = fact
+IfOffends TooMany fact = Unit {0}
+IfOffends Memory fact = Unit {0}
+
+-- if it stopped there, a next call of the stage offends
 abbrev pub StopsFrom : State → ℕ → StoredStage → Stop → Type 0
 StopsFrom s bound stored stop =
-    IsStop stop (HasOffence s.component s.matrix bound (stage_of stored)) ⊥
+    IfOffends stop (HasOffence s.component s.matrix bound (stage_of stored))
 
 -- ---- rows
 
@@ -133,14 +137,6 @@ abbrev pub HasOffenceAt : Component → Matrix → ℕ → List StoredStage → 
 HasOffenceAt c matrix bound all x =
     (stage : Stage) × (slice_get (stages_of all) x ≡ Some stage) × HasOffence c matrix bound stage
 
--- With others to which next calls of stage x lead, there are more stages than `most`, no two equal.
-pub record HasMore (c : Component) (matrix : Matrix) (old : List StoredStage) (x most : ℕ) : Type 0 where
-  pub all : List StoredStage
-  pub many : most < length all
-  pub grows : Grows old all
-  pub adds : AddsFrom c matrix old x all
-  pub distinct : AreDistinct (stages_of all)
-
 -- the same for the component and the matrix of s
 abbrev pub IsStepFor : State → ℕ → List StoredStage → ℕ → ℕ → Step → Type 0
 IsStepFor s bound all x t step = IsRightAt s.component s.matrix bound (stages_of all) x t step
@@ -151,11 +147,8 @@ IsRowFor s bound all x row = IsRow s.component s.matrix bound all x row
 abbrev pub AddsFor : State → List StoredStage → ℕ → List StoredStage → Type 0
 AddsFor s old x new = AddsFrom s.component s.matrix old x new
 
--- if it stopped at stage x, a next call of it offends, or there are more stages than `most`
-abbrev pub StopsAt : State → ℕ → ℕ → List StoredStage → ℕ → Stop → Type 0
-StopsAt s bound most all x stop =
-    IsStop stop (HasOffenceAt s.component s.matrix bound all x)
-    (HasMore s.component s.matrix all x most)
+abbrev pub StopsAt : State → ℕ → List StoredStage → ℕ → Stop → Type 0
+StopsAt s bound all x stop = IfOffends stop (HasOffenceAt s.component s.matrix bound all x)
 
 -- ---- the table
 
@@ -167,36 +160,16 @@ pub record SomeOffends (c : Component) (matrix : Matrix) (bound : ℕ) : Type 0 
   pub is_start : IsStart c big start
   pub offends : NoOffence start bound → ⊥
 
--- Serial runs of a matrix unrolled from this one, all with the same entries, lead to each rest of the
--- stage. Its places are those of the threads' next calls.
-pub record ComesUp (c : Component) (matrix : Matrix) (stage : Stage) : Type 0 where
-  pub big : Matrix
-  pub unrolled : IsUnrolledFrom (InOrder None) matrix big
-  pub start : State
-  pub is_start : IsStart c big start
-  pub q : List SerialOp
-  pub rests : (rest : Rest) → IsIn stage.rests rest → RestAfter start q rest
-  pub places : (t place : ℕ) → slice_get stage.places t ≡ Some place
-      → place ≡ turned (InOrder None) (length (calls_of matrix t)) (length (entries t q))
-
--- More stages than `most` come up, no two of them equal.
-pub record MoreComeUp (c : Component) (matrix : Matrix) (most : ℕ) : Type 0 where
-  pub stages : List Stage
-  pub many : most < length stages
-  pub distinct : AreDistinct stages
-  pub come_up : (stage : Stage) → IsIn stages stage → ComesUp c matrix stage
-
--- why there is no table: one of them offends, or more stages come up than `most`
-abbrev pub StopsSo : Component → Matrix → ℕ → ℕ → Stop → Type 0
-StopsSo c matrix bound most stop =
-    IsStop stop (SomeOffends c matrix bound) (MoreComeUp c matrix most)
+-- if it stopped at a call that offends, one of them does so
+abbrev pub StopsSo : Component → Matrix → ℕ → Stop → Type 0
+StopsSo c matrix bound stop = IfOffends stop (SomeOffends c matrix bound)
 
 -- this is the table of the serial histories of all unrolled matrices, with some stages
 abbrev pub IsFoundTable : Component → Matrix → ℕ → Rows → Type 0
 IsFoundTable c matrix bound rows = (stages : List Stage) × IsTableFrom c matrix rows stages bound
 
--- the table; or some unrolled matrix offends; or more stages come up than `most`
-abbrev pub IsTabled : Component → Matrix → ℕ → ℕ → Tabled → Type 0
-IsTabled c matrix bound most (Made table) = IsFoundTable c matrix bound table
-IsTabled c matrix bound most SomeOffend = SomeOffends c matrix bound
-IsTabled c matrix bound most TooManyStages = MoreComeUp c matrix most
+-- the table; or some unrolled matrix offends; or the table has too many stages
+abbrev pub IsTabled : Component → Matrix → ℕ → Tabled → Type 0
+IsTabled c matrix bound (Made table) = IsFoundTable c matrix bound table
+IsTabled c matrix bound SomeOffend = SomeOffends c matrix bound
+IsTabled c matrix bound TooManyStages = Unit {0}

@@ -11,8 +11,6 @@ use Rattle.lu_client.specs.Stages.{IsIn, Stage, first_stage}
 use Rattle.lu_serial_graph.specs.Playing.{IsAmong}
 use Rattle.lu_serial_graph.specs.Answers.{RestsStand}
 use Rattle.lu_answers.specs.declared.stage.StoredStage.{StoredStage}
-use Rattle.lu_answers.specs.declared.stop.Stop.{Stop}
-use Rattle.lu_answers.specs.declared.stop.Stop.TheVariants.{Memory, Offends, TooMany}
 
 -- the cells and locks of the position
 abbrev pub rest_at : Position → Rest
@@ -62,33 +60,13 @@ Keeps old stored new = (new ≡ old) ⊎ (new ≡ old ++ stored ∷ [])
 abbrev pub IsNumbered : List StoredStage → StoredStage → ℕ → Type 0
 IsNumbered all stored n = slice_get (stages_of all) n ≡ Some (stage_of stored)
 
+-- it is one of them
+abbrev pub HasStage : List StoredStage → StoredStage → Type 0
+HasStage all stored = (n : ℕ) × IsNumbered all stored n
+
 -- the stages stay, and others may come after them
 abbrev pub Grows : List StoredStage → List StoredStage → Type 0
 Grows old new = (more : List StoredStage) × (new ≡ old ++ more)
-
--- no two of the stages are equal
-abbrev pub AreDistinct : List Stage → Type 0
-AreDistinct stages =
-    (i j : ℕ) (stage : Stage) → slice_get stages i ≡ Some stage → slice_get stages j ≡ Some stage
-    → i ≡ j
-
--- With this one, which may be new, there are more stages than `most`.
-pub record GrowsPast (most : ℕ) (old : List StoredStage) (stored : StoredStage)
-    (new : List StoredStage) : Type 0 where
-  pub keeps : Keeps old stored new
-  pub many : most < length new
-  pub distinct : (c : Component) (matrix : Matrix) → AllStored c matrix new
-      → AreDistinct (stages_of new)
-
--- why it stopped: at a call that offends, as the one fact says, or at too many stages, as the other
-abbrev pub IsStop : Stop → Type 0 → Type 0 → Type 0
-IsStop Offends offence many = offence
-IsStop TooMany offence many = many
-IsStop Memory offence many = Unit {0}
-
--- why the stage has no number
-abbrev pub StopsAdding : ℕ → List StoredStage → StoredStage → List StoredStage → Stop → Type 0
-StopsAdding most old stored new stop = IsStop stop ⊥ (GrowsPast most old stored new)
 
 -- ---- places
 

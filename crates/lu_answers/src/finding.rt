@@ -27,7 +27,7 @@ pub enum Tabled {
     /// One of them has a serial run that offends.
     Offends,
 
-    /// More stages come up than the limit.
+    /// The table has too many stages.
     TooMany,
 }
 
@@ -43,28 +43,27 @@ fn step_of(
     index: usize,
     thread: u8,
     bound: u16,
-    most: u32,
 ) -> Result<Step, Stop>
     requires stored { AllStoredFor machine.old stages.old.keys }
     requires there { index < length stages.old.keys }
-    requires room { length stages.old.keys ≤ most }
     requires thread { thread < thread_count machine.old.matrix }
     requires few { bound ≤ MOST_MOVES }
     ensures component { OnOk result (machine.new.component ≡ machine.old.component) }
     ensures matrix { OnOk result (machine.new.matrix ≡ machine.old.matrix) }
     ensures grows { OnOk result (Grows stages.old.keys stages.new.keys) }
-    ensures room { OnOk result (length stages.new.keys ≤ most) }
     ensures stored { OnOk result (AllStoredFor machine.old stages.new.keys) }
     ensures adds { OnOk result (AddsFor machine.old stages.old.keys index stages.new.keys) }
     ensures step { IfOk result (IsStepFor machine.old bound stages.new.keys index thread) }
-    ensures stop { IfErr result (StopsAt machine.old bound most stages.old.keys index) }
+    ensures stop { IfErr result (StopsAt machine.old bound stages.old.keys index) }
 {
     let stage = stages.get_index(index).unwrap();
     let Some((outcome, next)) = ask_next(alloc, machine, stage, thread, bound)? else {
         return Ok(None);
     };
-    let number = number_of(stages, next, most)?;
-    Ok(Some((outcome, number)))
+    match number_of(stages, next)? {
+        None => Err(Stop::TooMany),
+        Some(number) => Ok(Some((outcome, number))),
+    }
 }
 
 /// The answers to all threads' next calls from the stage of this number. The stages to which they
@@ -75,24 +74,21 @@ fn row_of(
     stages: &mut Stages,
     index: usize,
     bound: u16,
-    most: u32,
 ) -> Result<[Step; 8], Stop>
     requires stored { AllStoredFor machine.old stages.old.keys }
     requires there { index < length stages.old.keys }
-    requires room { length stages.old.keys ≤ most }
     requires few { bound ≤ MOST_MOVES }
     ensures component { OnOk result (machine.new.component ≡ machine.old.component) }
     ensures matrix { OnOk result (machine.new.matrix ≡ machine.old.matrix) }
     ensures grows { OnOk result (Grows stages.old.keys stages.new.keys) }
-    ensures room { OnOk result (length stages.new.keys ≤ most) }
     ensures stored { OnOk result (AllStoredFor machine.old stages.new.keys) }
     ensures adds { OnOk result (AddsFor machine.old stages.old.keys index stages.new.keys) }
     ensures row { IfOk result (IsRowFor machine.old bound stages.new.keys index) }
-    ensures stop { IfErr result (StopsAt machine.old bound most stages.old.keys index) }
+    ensures stop { IfErr result (StopsAt machine.old bound stages.old.keys index) }
 {
     let mut row = [None; 8];
     for thread in 0..machine.matrix().threads() {
-        let step = step_of(alloc, machine, stages, index, thread, bound, most)?;
+        let step = step_of(alloc, machine, stages, index, thread, bound)?;
         row[usize::from(thread)] = step;
     }
     Ok(row)
@@ -102,27 +98,30 @@ fn row_of(
 ///
 /// # Errors
 ///
-/// `Offends` where an unrolled matrix has a serial run that offends, `TooMany` where more stages
-/// come up, and `Memory` if out of memory.
+/// `Offends` where an unrolled matrix has a serial run that offends, `TooMany` where the table has
+/// more stages, and `Memory` if out of memory.
 fn make_table(
     alloc: Global,
     component: &Component,
     matrix: &Matrix,
     bound: u16,
-    most: u32,
+    most: usize,
 ) -> Result<AnswerTable, Stop>
     requires of { CanRun component.now matrix.now }
     requires few { bound ≤ MOST_MOVES }
     ensures table { IfOk result (IsFoundTable component.now matrix.now bound) }
-    ensures stop { IfErr result (StopsSo component.now matrix.now bound most) }
+    ensures stop { IfErr result (StopsSo component.now matrix.now bound) }
 {
     let mut machine = Machine::start(alloc, component, matrix)?;
     let mut stages = IndexSet::new(alloc);
-    number_of(&mut stages, first_stage(alloc, &machine)?, most)?;
+    number_of(&mut stages, first_stage(alloc, &machine)?)?;
     let mut rows = Vec::new(alloc);
     let mut index = 0;
     while index < stages.len() {
-        let row = row_of(alloc, &mut machine, &mut stages, index, bound, most)?;
+        if index >= most {
+            return Err(Stop::TooMany);
+        }
+        let row = row_of(alloc, &mut machine, &mut stages, index, bound)?;
         rows.push(row)?;
         index += 1;
     }
@@ -144,11 +143,11 @@ pub fn find_table(
     component: &Component,
     matrix: &Matrix,
     bound: u16,
-    most: u32,
+    most: usize,
 ) -> Result<Tabled, AllocError>
     requires of { CanRun component.now matrix.now }
     requires few { bound ≤ MOST_MOVES }
-    ensures { IfOk result (IsTabled component.now matrix.now bound most) }
+    ensures { IfOk result (IsTabled component.now matrix.now bound) }
 {
     match make_table(alloc, component, matrix, bound, most) {
         Ok(table) => Ok(Tabled::Table(table)),

@@ -1,10 +1,9 @@
 //! Stages as they are stored, and numbered.
 
-ghost use Rattle.std.specs.Prelude.{◌≤◌, IfErr, IfOk, OnOk, length};
+ghost use Rattle.std.specs.Prelude.{IfOk, IfSome, OnOk};
 ghost use Rattle.lu_machine.specs.Starts.{IsStart};
-ghost use Rattle.lu_answers.specs.Stored.{IsFirstFor, IsNumbered, IsStored, Keeps, StopsAdding};
+ghost use Rattle.lu_answers.specs.Stored.{HasStage, IsFirstFor, IsNumbered, IsStored, Keeps};
 
-use crate::stop::Stop;
 use indexmap::IndexSet;
 use lu_machine::{Machine, Position};
 use std::alloc::{AllocError, Global};
@@ -32,21 +31,13 @@ pub(crate) fn first_stage(alloc: Global, machine: &Machine<'_>) -> Result<Stored
     Ok(StoredStage { places, rests })
 }
 
-/// The number of the stage, which is added at the end unless it is there already.
-///
-/// # Errors
-///
-/// `TooMany` where that makes more than `most` stages, and `Memory` if out of memory.
-pub(crate) fn number_of(stages: &mut Stages, stage: StoredStage, most: u32) -> Result<u32, Stop>
-    requires { length stages.old.keys ≤ most }
+/// The number of the stage, which is added at the end unless it is there already. None where the
+/// numbers don't suffice.
+pub(crate) fn number_of(stages: &mut Stages, stage: StoredStage) -> Result<Option<u32>, AllocError>
     ensures keeps { OnOk result (Keeps stages.old.keys stage stages.new.keys) }
-    ensures room { OnOk result (length stages.new.keys ≤ most) }
-    ensures number { IfOk result (IsNumbered stages.new.keys stage) }
-    ensures stop { IfErr result (StopsAdding most stages.old.keys stage stages.new.keys) }
+    ensures there { OnOk result (HasStage stages.new.keys stage) }
+    ensures number { IfOk result (λ n. IfSome n (IsNumbered stages.new.keys stage)) }
 {
     let (place, _) = stages.insert_full(stage)?;
-    if stages.len() > most as usize {
-        return Err(Stop::TooMany);
-    }
-    Ok(place as u32)
+    Ok(u32::try_from(place).ok())
 }

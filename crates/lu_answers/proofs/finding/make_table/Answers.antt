@@ -1,12 +1,12 @@
-use Rattle.std.proofs.Common.{rules, ◌≡◌, ◌<◌, ◌≤◌, ◌+◌, List, length, sym, ◌∙◌, subst}
+use Rattle.std.proofs.Common.{arith, rules, ◌≡◌, ◌<◌, ◌≤◌, ◌+◌, List, length, sym, ◌∙◌, subst}
 use Rattle.std.proofs.lemmas.Result.{err_from_is_err_and}
 use Rattle.lu_component.specs.Component.{Component}
 use Rattle.lu_test.specs.Matrix.{Matrix}
 use Rattle.lu_machine.proofs.Starting.{start_component, start_matrix}
 use Rattle.lu_answers.specs.declared.stage.StoredStage.{StoredStage}
-use Rattle.lu_answers.specs.Stored.{Keeps, StopsAdding, stages_of}
+use Rattle.lu_answers.specs.Stored.{Keeps, stages_of}
 use Rattle.lu_answers.specs.Tables.{IsTableFrom, Rows}
-use Rattle.lu_answers.proofs.Filled.{AreFilled, filled_all, filled_next, filled_none, filled_stops, first_stops}
+use Rattle.lu_answers.proofs.Filled.{AreFilled, filled_all, filled_next, filled_none, filled_stops}
 use Rattle.lu_answers.proofs.finding.make_table.Goals as goal
 
 pub loop-index-init : goal.loop-index-init
@@ -21,37 +21,21 @@ loop-index-init c =
     record {
       component = same_component;
       matrix = same_matrix;
-      room = c.in_ok-number_of.ensures.room;
+      few = omega arith;
       filled =
           filled_none x matrix c.args.bound s c.number_of.new.stages.keys new c.new-rows.result.items starts c.new-rows.ensures.items
           (rw same_matrix at c.in_ok-first_stage.ensures.first)
           (rw (same_component, same_matrix) at c.in_ok-first_stage.ensures.stored)
           (subst (λ (xs : List StoredStage). Keeps xs new c.number_of.new.stages.keys) c.new-stages.ensures.empty c.in_ok-number_of.ensures.keeps)
-          c.in_ok-number_of.field-0 c.in_ok-number_of.ensures.number;
+          c.in_ok-number_of.ensures.there;
     }
-
-pub returns-in_err-number_of-clause-stop : goal.returns-in_err-number_of-clause-stop
-returns-in_err-number_of-clause-stop c =
-    let x : Component = c.args.component.now in
-    let matrix : Matrix = c.args.matrix.now in
-    let s = c.in_ok-machine.machine in
-    let new = c.in_ok-first_stage.field-0 in
-    let starts = c.in_ok-machine.ensures.starts in
-    let same_component : s.component ≡ x = start_component x matrix s starts in
-    let same_matrix : s.matrix ≡ matrix = start_matrix x matrix s starts in
-    let first = rw same_matrix at c.in_ok-first_stage.ensures.first in
-    let stored = rw (same_component, same_matrix) at c.in_ok-first_stage.ensures.stored in
-    let p = err_from_is_err_and c.from_residual-in_err-number_of.result c.from_residual-in_err-number_of.ensures.1 in
-    let stop = subst (λ (xs : List StoredStage). StopsAdding c.args.most xs new c.number_of.new.stages.keys c.in_err-number_of.field-0.0) c.new-stages.ensures.empty c.in_err-number_of.ensures.stop in
-    rw (p.1, p.2) (first_stops x matrix c.args.bound c.args.most s c.number_of.new.stages.keys new starts first stored c.in_err-number_of.field-0.0 stop)
 
 pub returns-in_err-row-clause-stop : goal.returns-in_err-row-clause-stop
 returns-in_err-row-clause-stop c =
     let p = err_from_is_err_and c.from_residual-in_err-row.result c.from_residual-in_err-row.ensures.1 in
-    let within : c.loop-index.index < length c.loop-index.stages.keys = search rules in
     let stop = rw (c.loop-index.invariant.component, c.loop-index.invariant.matrix) at c.in_err-row.ensures.stop in
     rw (p.1, p.2)
-    (filled_stops c.args.component.now c.args.matrix.now c.args.bound c.args.most c.in_ok-machine.machine c.loop-index.index c.loop-index.stages.keys c.loop-index.rows.items c.in_ok-machine.ensures.starts within c.loop-index.invariant.filled c.in_err-row.field-0.0 stop)
+    (filled_stops c.args.component.now c.args.matrix.now c.args.bound c.in_ok-machine.machine c.loop-index.index c.loop-index.stages.keys c.loop-index.rows.items c.in_ok-machine.ensures.starts c.loop-index.invariant.filled c.in_err-row.field-0.0 stop)
 
 pub loop-index-preserved : goal.loop-index-preserved
 loop-index-preserved c =
@@ -60,13 +44,14 @@ loop-index-preserved c =
     let s = c.in_ok-machine.machine in
     let made = c.in_ok-row.ensures in
     let within : c.loop-index.index < length c.loop-index.stages.keys = search rules in
+    let less : c.loop-index.index + 1 ≤ c.args.most = search rules in
     let stored = rw (c.loop-index.invariant.component, c.loop-index.invariant.matrix) at made.stored in
     let adds = rw (c.loop-index.invariant.component, c.loop-index.invariant.matrix) at made.adds in
     let row = rw (c.loop-index.invariant.component, c.loop-index.invariant.matrix) at made.row in
     record {
       component = made.component ∙ c.loop-index.invariant.component;
       matrix = made.matrix ∙ c.loop-index.invariant.matrix;
-      room = made.room;
+      few = less;
       filled = subst (AreFilled x matrix c.args.bound s (c.loop-index.index + 1) c.row_of.new.stages.keys) (sym c.in_ok-push.ensures.items)
           (filled_next x matrix c.args.bound s c.loop-index.index c.loop-index.stages.keys c.row_of.new.stages.keys c.loop-index.rows.items c.in_ok-row.row c.in_ok-machine.ensures.starts within c.loop-index.invariant.filled made.grows stored adds row);
     }

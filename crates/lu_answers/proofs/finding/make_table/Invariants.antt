@@ -1,4 +1,4 @@
-use Rattle.std.proofs.Common.{◌≡◌, ◌-◌, ◌≤◌, length}
+use Rattle.std.proofs.Common.{◌≡◌, ◌-◌, ◌≤◌}
 use Rattle.lu_answers.proofs.Filled.{AreFilled}
 use Rattle.lu_answers.proofs.finding.make_table.Given as goal
 
@@ -6,7 +6,7 @@ abbrev pub invariant-loop-index : goal.invariant-loop-index
 invariant-loop-index l = record {
   component : l.machine.component ≡ l.component;
   matrix : l.machine.matrix ≡ l.matrix;
-  room : length l.stages.keys ≤ l.most;
+  few : l.index ≤ l.most;
   filled : AreFilled l.component l.matrix l.bound l.initial.machine l.index l.stages.keys l.rows.items;
 }
 

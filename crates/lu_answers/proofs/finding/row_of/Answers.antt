@@ -1,7 +1,7 @@
 use Rattle.std.proofs.Common.{arith, ◌≡◌, ◌<◌, ◌+◌, slice_set, sym, ◌∙◌, ap, subst}
 use Rattle.std.proofs.lemmas.Result.{err_from_is_err_and}
 use Rattle.lu_test.specs.Matrix.{IsMatrix, thread_count}
-use Rattle.lu_answers.proofs.Filled.{IsRowBefore, row_all, row_more, stop_was}
+use Rattle.lu_answers.proofs.Filled.{IsRowBefore, offence_was, row_all, row_more}
 use Rattle.lu_answers.proofs.finding.row_of.Goals as goal
 
 pub returns-in_err-step-clause-stop : goal.returns-in_err-step-clause-stop
@@ -10,7 +10,7 @@ returns-in_err-step-clause-stop c =
     let p = err_from_is_err_and c.from_residual.result c.from_residual.ensures.1 in
     let stop = rw (c.loop-thread.invariant.component, c.loop-thread.invariant.matrix) at c.in_err-step.ensures.stop in
     rw (p.1, p.2)
-    (stop_was m.component m.matrix c.args.bound c.args.most c.args.stages.now.keys c.loop-thread.stages.keys c.args.index c.requires.there c.loop-thread.invariant.row.grows c.loop-thread.invariant.row.adds c.in_err-step.field-0.0 stop)
+    (offence_was m.component m.matrix c.args.bound c.args.stages.now.keys c.loop-thread.stages.keys c.args.index c.requires.there c.loop-thread.invariant.row.grows c.in_err-step.field-0.0 stop)
 
 pub loop-thread-preserved : goal.loop-thread-preserved
 loop-thread-preserved c =
@@ -31,7 +31,6 @@ loop-thread-preserved c =
     record {
       component = made.component ∙ c.loop-thread.invariant.component;
       matrix = made.matrix ∙ c.loop-thread.invariant.matrix;
-      room = made.room;
       row = subst (λ n. IsRowBefore m.component m.matrix c.args.bound c.args.stages.now.keys c.args.index new (slice_set c.loop-thread.row n c.in_ok-step.step) (c.loop-thread.thread + 1)) (sym c.from.ensures) grown;
     }
 
