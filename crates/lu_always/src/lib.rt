@@ -13,7 +13,6 @@ mod searching;
 mod standing;
 mod stepping;
 mod stored;
-mod table;
 mod verdicts;
 mod ways;
 
@@ -23,5 +22,4 @@ pub use laws::{always_laws, node_laws, one_round_laws};
 pub use searching::find_verdict;
 pub use stepping::client_step;
 pub use stored::{Arrival, StoredNode};
-pub use table::AnswerTable;
 pub use verdicts::Verdict;

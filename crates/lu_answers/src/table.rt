@@ -1,7 +1,7 @@
 //! Tables of the serial histories.
 
 ghost use Rattle.std.specs.Prelude.{◌≡◌};
-ghost use Rattle.lu_always.specs.Tables.{answer_in};
+ghost use Rattle.lu_answers.specs.Tables.{answer_in};
 
 use lu_history::SerialOutcome;
 use lu_linearization::{Automaton, SerialReader};
@@ -47,7 +47,7 @@ impl AnswerTable {
 
 impl Automaton for AnswerTable {
     ghost use Rattle.std.specs.Prelude.{[]};
-    ghost use Rattle.lu_always.specs.Tables.{Goes, table_of};
+    ghost use Rattle.lu_answers.specs.Tables.{Goes, table_of};
 
     type Call = u8;
 
@@ -60,8 +60,8 @@ impl Automaton for AnswerTable {
 
 impl SerialReader for AnswerTable {
     ghost use Rattle.std.specs.Prelude.{[]};
-    ghost use Rattle.lu_always.specs.Reading.{is_automaton as is_one, thread_in};
-    ghost use Rattle.lu_always.specs.Tables.{LeadsTo, table_of};
+    ghost use Rattle.lu_answers.specs.Reading.{is_automaton as is_one, thread_in};
+    ghost use Rattle.lu_answers.specs.Tables.{LeadsTo, table_of};
 
     ghost leads_to = { λ rows. LeadsTo (table_of [] rows) };
 

@@ -3,11 +3,13 @@ use Rattle.std.specs.Prelude.{◌≡◌, ◌≢◌, ℕ, List, [], ◌∷◌, Op
 use Rattle.lu_component.specs.Component.{Component}
 use Rattle.lu_test.specs.declared.matrix.Call.{Call}
 use Rattle.lu_test.specs.Matrix.{Matrix}
+use Rattle.lu_machine.specs.Starts.{FromEachStart}
 use Rattle.lu_history.specs.declared.serial.SerialOutcome.{SerialOutcome}
 use Rattle.lu_history.specs.declared.serial.SerialOutcome.TheVariants.{Stuck}
 use Rattle.lu_history.specs.declared.serial.SerialOp.{SerialOp}
 use Rattle.lu_client.specs.Rounds.{Way}
-use Rattle.lu_client.specs.Alone.{Answers, Overruns, Rest}
+use Rattle.lu_client.specs.Rounds.Way.{InOrder}
+use Rattle.lu_client.specs.Alone.{Answers, Overruns, Rest, rest_of}
 use Rattle.lu_client.specs.Stages.{Follows, IsCallAt, IsIn, Stage, first_stage}
 
 -- The stages. For each stage and thread, the outcome of the thread's next call, and the stage to
@@ -16,13 +18,16 @@ pub record Table : Type 0 where
   pub stages : List Stage
   pub answer : ℕ → ℕ → Option (SerialOutcome × ℕ)
 
--- the answer in rows, one for each stage, with one answer for each thread
-abbrev pub answer_in : List (List (Option (SerialOutcome × ℕ))) → ℕ → ℕ
-    → Option (SerialOutcome × ℕ)
+-- the rows of a table: for each stage, the answer to each thread's next call
+abbrev pub Rows : Type 0
+Rows = List (List (Option (SerialOutcome × ℕ)))
+
+-- the answer in these rows
+abbrev pub answer_in : Rows → ℕ → ℕ → Option (SerialOutcome × ℕ)
 answer_in rows x t = option_and_then (λ row. get_or row t None) (slice_get rows x)
 
 -- the table of these stages and rows
-abbrev pub table_of : List Stage → List (List (Option (SerialOutcome × ℕ))) → Table
+abbrev pub table_of : List Stage → Rows → Table
 table_of stages rows = record { stages = stages; answer = answer_in rows }
 
 -- from stage x thread t's next call returns with this outcome, and leads to stage y
@@ -64,3 +69,9 @@ pub record IsTableOf (c : Component) (way : Way) (matrix : Matrix) (bound : ℕ)
   pub answers : (x : ℕ) (stage : Stage) (t place : ℕ) (call : Call)
       → slice_get table.stages x ≡ Some stage → IsCallAt way matrix stage t place call
       → IsAnswer c way matrix bound table.stages stage t place call (table.answer x t)
+
+-- these rows, with some stages, are the table of the serial histories
+abbrev pub IsTableFrom : Component → Matrix → Rows → List Stage → ℕ → Type 0
+IsTableFrom c matrix rows stages bound =
+    FromEachStart c matrix
+    (λ s. IsTableOf c (InOrder None) matrix bound (rest_of s) (table_of stages rows))

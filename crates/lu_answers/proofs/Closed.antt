@@ -3,8 +3,8 @@ use Rattle.std.proofs.Common.{◌≡◌, ℕ, List, Option}
 use Rattle.lu_linearization.specs.declared.configuration.Configuration.{Configuration as Shown}
 use Rattle.lu_linearization.specs.Monitors.{AreClosed}
 use Rattle.lu_linearization.proofs.Configured.{puts_waits}
-use Rattle.lu_always.specs.Reading.{thread_in}
-use Rattle.lu_always.specs.Tables.{Goes, LeadsTo, Table}
+use Rattle.lu_answers.specs.Reading.{thread_in}
+use Rattle.lu_answers.specs.Tables.{Goes, LeadsTo, Table}
 
 pub closed_same : (table : Table) (waits others : ℕ → Option ℕ) → ((t : ℕ) → others t ≡ waits t) → ((t : ℕ) → waits t ≡ others t) → (t : ℕ) (old new : List Shown) → AreClosed (Goes table) waits t old new → AreClosed (Goes table) others t old new
 closed_same table waits others back same t old new closed c = (
