@@ -3,6 +3,10 @@ pub mod OneRound
 pub mod Tables
 pub mod Reading
 pub mod Nodes
+pub mod Sinks
+pub mod Marking
+pub mod Exits
+pub mod Livelocks
 pub mod Searching
 pub mod Ways
 pub mod Certified
