@@ -38,6 +38,7 @@ use Rattle.lu_serial.proofs.Ops.{NoCut}
 use Rattle.lu_certify.proofs.Begun.{Starts, begun}
 use Rattle.lu_certify.proofs.Fitted.{reaches_more}
 use Rattle.lu_certify.proofs.Linear.{begun_deterministic, clear_at, clear_cut, never_bad}
+use Rattle.lu_certify.proofs.Livelocks.{clear_never_lost}
 use Rattle.lu_certify.proofs.Over.{cut_has}
 use Rattle.lu_client.specs.Rounds.Way.{InOrder}
 use Rattle.lu_client.specs.Rounds.{IsUnrolledFrom, Way}
@@ -47,7 +48,7 @@ use Rattle.lu_client.proofs.Cutting.{client_has_ended, ended_is_blocked}
 use Rattle.lu_client.proofs.Played.{ready}
 use Rattle.lu_client.proofs.Unrolled.{client_setup, client_starts, cut_is_unrolled}
 use Rattle.lu_always.specs.Always.{AlwaysLinearizes, AlwaysServes, FailsNever, IsSerialPrefix, IsWell, PrefixesAgree}
-use Rattle.lu_always.specs.Certified.{CertifiedInOneRound, RefutedInOneRound}
+use Rattle.lu_always.specs.Certified.{CertifiedInOneRound, LivelockInOneRound, NoLivelockInOneRound, RefutedInOneRound}
 use Rattle.lu_always.specs.OneRound.{OneRoundIsAllCuts}
 use Rattle.lu_answers.specs.Tables.{IsTableOf, Table}
 use Rattle.lu_always.specs.Nodes.{BadNodeFails, MovesLead, Node, NodesServeAll, NodesTellAll, NoneDead, Represents}
@@ -86,14 +87,14 @@ nodes_tell_all c way matrix bound start dead table list from sound are nodes big
     )
 
 -- a path of nodes, as one of the client
-record ClientPath (dead : DeadTable) (way : Way) (c : Component) (a : State) (u : List Move) (last : Node) : Type 0 where
-  b : State
-  history : List Event
-  leads : ClientLeads way a u b history
-  state : Represents dead last b
-  component : b.component ≡ c
+pub record ClientPath (dead : DeadTable) (way : Way) (c : Component) (a : State) (u : List Move) (last : Node) : Type 0 where
+  pub b : State
+  pub history : List Event
+  pub leads : ClientLeads way a u b history
+  pub state : Represents dead last b
+  pub component : b.component ≡ c
 
-client_path : (c : Component) (dead : DeadTable) → IsDeadTable c dead → (table : Table) (way : Way) (u : List Move) (node last : Node) (a : State) → a.component ≡ c → Represents dead node a → MovesLead dead table way node u last → ClientPath dead way c a u last
+pub client_path : (c : Component) (dead : DeadTable) → IsDeadTable c dead → (table : Table) (way : Way) (u : List Move) (node last : Node) (a : State) → a.component ≡ c → Represents dead node a → MovesLead dead table way node u last → ClientPath dead way c a u last
 client_path c dead sound table way [] node last a component state path = record {
   b = a;
   history = [];
@@ -260,6 +261,24 @@ refuted_in_one_round c matrix limits smaller r settles is always =
           (let bad = later.1.2 there.0 there.1 in
           never_bad (IsSerialHistory there.0) there.0 well.1 bad.2.schedule bad.2.bad)
     ]
+
+pub livelock_in_one_round : LivelockInOneRound
+livelock_in_one_round c matrix limits smaller u settles is =
+    let first = is.1 in
+    let there = start_there c smaller (settles_too c matrix smaller settles (ap (λ (x : Matrix). x.setup) first.is)) in
+    record {
+      big = smaller;
+      unrolled = (one_round_is_cut matrix smaller).1 (first.lengths, first.are, first.is);
+      start = there.0;
+      is_start = there.1;
+      lost = (first.livelock there.0 there.1).2.lost;
+    }
+
+pub no_livelock_in_one_round : NoLivelockInOneRound
+no_livelock_in_one_round c matrix limits members u settles is livelock =
+    let big = livelock.big in
+    let clear = clear_cut c matrix limits is.0 big ((one_round_is_cut matrix big).0 livelock.unrolled) in
+    clear_never_lost c big limits (settles_too c matrix big settles livelock.unrolled.setup) clear livelock.start livelock.is_start u livelock.lost
 
 -- ---- specifications
 

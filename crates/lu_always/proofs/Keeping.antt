@@ -1,7 +1,7 @@
 -- Nodes that are kept.
-use Rattle.std.proofs.Common.{arith, ◌≡◌, ◌⊎◌, map, reverse, ℕ, zero, suc, ◌+◌, ◌<◌, ◌≤◌, true, List, [], ◌∷◌, ◌++◌, length, Option, Some, None, get_or, slice_get, refl, sym, ◌∙◌, ap, subst, inl, inr, append_assoc}
+use Rattle.std.proofs.Common.{arith, ◌≡◌, ◌⊎◌, map, reverse, ℕ, zero, suc, ◌+◌, ◌<◌, ◌≤◌, true, List, [], ◌∷◌, ◌++◌, length, Option, Some, None, get_or, slice_get, refl, sym, ◌∙◌, ap, subst, inl, inr, append_assoc, length-append}
 use Rattle.std.proofs.lemmas.Bool.{cases_lt}
-use Rattle.std.proofs.lemmas.List.{append-nil, reverse-append}
+use Rattle.std.proofs.lemmas.List.{append-nil, reverse-append, reverse-reverse}
 use Rattle.std.proofs.lemmas.Option.{get_or_from_slice_get, same_Some, slice_get-map, slice_get_past, slice_get_within}
 use Rattle.std.specs.Global.{Vec}
 use Rattle.std.specs.Option.{option_and_then, option_map}
@@ -30,9 +30,9 @@ use Rattle.lu_client.specs.Stages.{IsIn, Stage}
 use Rattle.lu_client.proofs.OneCalls.{within_some}
 use Rattle.lu_always.specs.declared.stored.Arrival.{Arrival}
 use Rattle.lu_always.specs.declared.stored.StoredNode.{StoredNode}
-use Rattle.lu_always.specs.Searching.{AddsAt, AddsFrom, AddsOnly, AllCanStand, AreArrivals, AreSearched, ComesFrom, Grows, HasAllNext, HasNext, HasNodeFor, IsArrival, IsBad, IsGoodIfBlocked, IsStoredFor, IsVerdict, arrived, node_at, node_of}
-use Rattle.lu_always.specs.Ways.{HasParentsBefore, IsWayBack, arrival_at}
-use Rattle.lu_always.specs.declared.verdicts.Verdict.TheVariants.{AlwaysLinearizable, Fails}
+use Rattle.lu_always.specs.Searching.{AddsAt, AddsFrom, AddsOnly, AllCanStand, AreArrivals, AreSearched, ComesFrom, Grows, HasAllNext, HasNext, IsArrival, IsBad, IsGoodIfBlocked, IsLinearizableBy, IsNodeAt, IsStoredFor, IsVerdict, arrived, node_at, node_of}
+use Rattle.lu_always.specs.Ways.{HasParentsBefore, IsWayBack, IsWayTo, arrival_at}
+use Rattle.lu_always.specs.declared.verdicts.Verdict.TheVariants.{Fails}
 use Rattle.lu_always.specs.Nodes.{AreNodes, IsAfterMove, IsFirst, IsGoodNode, IsMove, MovesLead, Node, Represents}
 use Rattle.lu_answers.specs.Tables.{Rows, Table, table_of}
 use Rattle.lu_always.proofs.Likeness.{in_order_once}
@@ -70,6 +70,11 @@ grows_one s all kept can = record {
 
 pub in_more : (s : State) (old new : List StoredNode) → Grows s old new → (kept : StoredNode) → IsIn old kept → IsIn new kept
 in_more s old new grows kept is = (is.0, ap (λ (x : List StoredNode). slice_get x is.0) grows.parts ∙ kept_at old grows.more kept is.0 is.1)
+
+pub longer : (s : State) (old new : List StoredNode) → Grows s old new → (index : ℕ) → index < length old → index + 1 ≤ length new
+longer s old new grows index within =
+    let parts : length new ≡ length old + length grows.more = ap (λ (x : List StoredNode). length x) grows.parts ∙ length-append old grows.more in
+    omega (arith, parts, within)
 
 pub next_more : (rows : Rows) (s : State) (old new : List StoredNode) → Grows s old new → (node : Node) (m : Move) → HasNext rows old node m → HasNext rows new node m
 next_more rows s old new grows node m next b event step = let x = next b event step in (x.0, in_more s old new grows x.0 x.1, x.2, x.3)
@@ -110,13 +115,13 @@ base_grows a b old new same grows = record {
 pub home_again : (a b new : State) (home : Position) → SameBase a b → at_position a home ≡ a → new ≡ at_position b home → new ≡ a
 home_again a b new home same here is = is ∙ (base_at a b home same ∙ here)
 
-pub next_made : (rows : Rows) (a : State) (m : Move) (b : State) (event : Option Event) (all : List StoredNode) (monitor after : List Shown) → ClientStep (InOrder None) a m b event → HasNodeFor all (node_at b after) → IsAfterMove (table_of [] rows) b event monitor after → HasNext rows all (node_at a monitor) m
-next_made rows a m b event all monitor after made keeps is other others step =
+pub next_made : (rows : Rows) (a : State) (m : Move) (b : State) (event : Option Event) (all : List StoredNode) (j : ℕ) (monitor after : List Shown) → ClientStep (InOrder None) a m b event → IsNodeAt all j (node_at b after) → IsAfterMove (table_of [] rows) b event monitor after → HasNext rows all (node_at a monitor) m
+next_made rows a m b event all j monitor after made keeps is other others step =
     let same = in_order_once None a m b other event others made step in
     let one : b ≡ other = same.0 in
     let now : IsAfterMove (table_of [] rows) b event monitor keeps.0.monitor = subst (λ x. IsAfterMove (table_of [] rows) b event monitor x) (sym keeps.2.1) is in (
       keeps.0,
-      keeps.1,
+      (j, keeps.1),
       sym (base_at a b keeps.0.position (moved_base a m b event made)) ∙ (keeps.2.0 ∙ one),
       subst (λ e. IsAfterMove (table_of [] rows) other e monitor keeps.0.monitor) same.1 (subst (λ x. IsAfterMove (table_of [] rows) x event monitor keeps.0.monitor) one now),
     )
@@ -246,7 +251,7 @@ adds_here rows machine new index node here old all same is adds kept at =
     ]
 
 -- what is kept before some more
-old_at : (all more : List StoredNode) (i : ℕ) (kept : StoredNode) → i < length all → slice_get (all ++ more) i ≡ Some kept → slice_get all i ≡ Some kept
+pub old_at : (all more : List StoredNode) (i : ℕ) (kept : StoredNode) → i < length all → slice_get (all ++ more) i ≡ Some kept → slice_get all i ≡ Some kept
 old_at all more i kept lt at =
     let old = within_some all i lt in
     let same : old.0 ≡ kept = same_Some old.0 kept (sym (kept_at all more old.0 i old.1) ∙ at) in
@@ -305,7 +310,7 @@ pub record WayFrom (rows : Rows) (s : State) (u : List Move) (node : Node) : Typ
   pub is_first : IsFirst [] s first
   pub lead : MovesLead [] (table_of [] rows) (InOrder None) first u node
 
-pub way_leads : (rows : Rows) (s : State) (all : List StoredNode) → AreArrivals rows s all → (back : List Move) (i : ℕ) → IsWayBack all i back → (kept : StoredNode) → slice_get all i ≡ Some kept → WayFrom rows s (reverse back) (node_of s kept)
+way_leads : (rows : Rows) (s : State) (all : List StoredNode) → AreArrivals rows s all → (back : List Move) (i : ℕ) → IsWayBack all i back → (kept : StoredNode) → slice_get all i ≡ Some kept → WayFrom rows s (reverse back) (node_of s kept)
 way_leads rows s all are [] i way kept at = record {
   first = node_of s kept;
   is_first = subst (IsArrival rows s all i kept) (sym (arrival_is all i kept at) ∙ way.1) (are i kept at);
@@ -320,6 +325,10 @@ way_leads rows s all are (m ∷ back) i way kept at =
       is_first = before.is_first;
       lead = subst (λ u. MovesLead [] (table_of [] rows) (InOrder None) before.first u (node_of s kept)) (sym (reverse-append (m ∷ []) back)) (moves_on (table_of [] rows) (reverse back) before.first (node_of s is.1) (node_of s kept) m is.3 before.lead is.4);
     }
+
+pub way_there : (rows : Rows) (s : State) (all : List StoredNode) → AreArrivals rows s all → (i : ℕ) (u : List Move) → IsWayTo all i u → (kept : StoredNode) → slice_get all i ≡ Some kept → WayFrom rows s u (node_of s kept)
+way_there rows s all are i u way kept at =
+    subst (λ v. WayFrom rows s v (node_of s kept)) (reverse-reverse u) (way_leads rows s all are (reverse u) i way kept at)
 
 pub searched_next : (rows : Rows) (s : State) (n : ℕ) (all new : List StoredNode) → n < length all → AreSearched rows s n all → Grows s all new → IsVisited rows s all n new → AddsAt rows s n all new → AreSearched rows s (n + 1) new
 searched_next rows s n all new within are grows visited adds = record {
@@ -340,12 +349,12 @@ searched_next rows s n all new within are grows visited adds = record {
       ];
 }
 
-pub searched_none : (rows : Rows) (s : State) (all : List StoredNode) (monitor : List Shown) → HasNodeFor all (node_at s monitor) → AllCanStand s all → AreInitial 0 monitor → ((kept : StoredNode) → IsIn all kept → IsStoredFor (node_at s monitor) kept × (kept.arrival ≡ None)) → AreSearched rows s 0 all
-searched_none rows s all monitor keeps can first only = record {
+pub searched_none : (rows : Rows) (s : State) (all : List StoredNode) (j : ℕ) (monitor : List Shown) → IsNodeAt all j (node_at s monitor) → AllCanStand s all → AreInitial 0 monitor → ((kept : StoredNode) → IsIn all kept → IsStoredFor (node_at s monitor) kept × (kept.arrival ≡ None)) → AreSearched rows s 0 all
+searched_none rows s all j monitor keeps can first only = record {
   arrivals = λ i kept at.
       let mine = only kept (i, at) in
       subst (IsArrival rows s all i kept) (sym mine.1) (subst (AreAlike [] s) (sym mine.0.0) (alike_itself [] s), subst (AreInitial 0) (sym mine.0.1) first);
-  first = (keeps.0, keeps.1, keeps.2.0, subst (AreInitial 0) (sym keeps.2.1) first);
+  first = (keeps.0, (j, keeps.1), keeps.2.0, subst (AreInitial 0) (sym keeps.2.1) first);
   stand = can;
   closed = λ i lt kept at. absurd (omega (arith, lt));
   good = λ i lt kept at. absurd (omega (arith, lt));
@@ -399,13 +408,13 @@ module _ (c : Component) (matrix : Matrix) (rows : Rows) (s : State) (is : IsSta
   there : (kept : StoredNode) → IsIn all kept → IsIn (map (node_of s) all) (node_of s kept)
   there kept at = (at.0, slice_get-map (node_of s) all at.0 ∙ ap (option_map (node_of s)) at.1)
 
-  record From (node : Node) : Type 0 where
-    i : ℕ
-    kept : StoredNode
-    at : slice_get all i ≡ Some kept
-    is_node : node_of s kept ≡ node
+  pub record From (node : Node) : Type 0 where
+    pub i : ℕ
+    pub kept : StoredNode
+    pub at : slice_get all i ≡ Some kept
+    pub is_node : node_of s kept ≡ node
 
-  from : (node : Node) → IsIn (map (node_of s) all) node → From node
+  pub from : (node : Node) → IsIn (map (node_of s) all) node → From node
   from node (i, at) = by (slice_get all i) refl
     where
       by : (o : Option StoredNode) → slice_get all i ≡ o → From node
@@ -427,7 +436,7 @@ module _ (c : Component) (matrix : Matrix) (rows : Rows) (s : State) (is : IsSta
         let on = are.closed i (omega (arith, within, past)) kept at m b event step in
         (node_of s on.0, there on.0 on.1, subst (AreAlike [] b) (sym on.2) (alike_itself [] b), after_any stages [] rows b event kept.monitor on.0.monitor on.3)
 
-    nodes : AreNodes [] table (InOrder None) s (map (node_of s) all)
+    pub nodes : AreNodes [] table (InOrder None) s (map (node_of s) all)
     nodes = record {
       starts = (node_of s are.first.0, there are.first.0 are.first.1, (subst (AreAlike [] s) (sym are.first.2) (alike_itself [] s), are.first.3));
       closed = λ node m b event at step.
@@ -441,7 +450,7 @@ module _ (c : Component) (matrix : Matrix) (rows : Rows) (s : State) (is : IsSta
           (good_any stages [] rows (node_of s f.kept) (are.good f.i (omega (arith, within, past)) f.kept f.at (subst (λ (x : Node). AllBlocked x.state) (sym f.is_node) blocked)));
     }
 
-  pub shows_all : IsVerdict c matrix rows AlwaysLinearizable
+  pub shows_all : IsLinearizableBy c matrix rows
   shows_all stages bound tables = nodes_tell_all c (InOrder None) matrix bound s [] (table_of stages rows) (map (node_of s) all) is (none_dead c) (tables s is) (nodes stages)
 
 moves_any : (stages others : List Stage) (rows : Rows) (u : List Move) (first node : Node) → MovesLead [] (table_of others rows) (InOrder None) first u node → MovesLead [] (table_of stages rows) (InOrder None) first u node

@@ -1,6 +1,10 @@
 pub mod Always
 pub mod OneRound
 pub mod Nodes
+pub mod Sinks
+pub mod Marking
+pub mod Exits
+pub mod Livelocks
 pub mod Searching
 pub mod Ways
 pub mod Certified

@@ -1,5 +1,6 @@
 -- Nodes as they are stored, and a search of all nodes.
-use Rattle.std.specs.Prelude.{◌≡◌, ◌⊎◌, ℕ, ◌<◌, Bool, true, false, List, [], ◌++◌, Option, Some, None, slice_get}
+use Rattle.std.specs.Prelude.{◌≡◌, ◌⊎◌, ℕ, ◌<◌, List, [], ◌++◌, Option, Some, None, slice_get}
+use Rattle.std.specs.Global.{Vec}
 use Rattle.lu_component.specs.Component.{Component}
 use Rattle.lu_test.specs.declared.schedule.Move.{Move}
 use Rattle.lu_test.specs.Matrix.{Matrix}
@@ -17,7 +18,10 @@ use Rattle.lu_client.specs.Stages.{IsIn, Stage}
 use Rattle.lu_always.specs.declared.stored.Arrival.{Arrival}
 use Rattle.lu_always.specs.declared.stored.StoredNode.{StoredNode}
 use Rattle.lu_always.specs.declared.verdicts.Verdict.{Verdict}
-use Rattle.lu_always.specs.declared.verdicts.Verdict.TheVariants.{AlwaysLinearizable, Fails, Undecided}
+use Rattle.lu_always.specs.declared.verdicts.Verdict.TheVariants.{AlwaysLinearizable, Fails, Livelock, Undecided}
+use Rattle.lu_always.specs.Exits.{AreExits}
+use Rattle.lu_always.specs.Livelocks.{HasLivelockBy, NeverLivelocks}
+use Rattle.lu_always.specs.Sinks.{Graph}
 use Rattle.lu_always.specs.Nodes.{IsAfterMove, IsFirst, IsGoodNode, IsMove, Node}
 use Rattle.lu_always.specs.Always.{FailsBy, IsAlwaysLinearizable}
 use Rattle.lu_answers.specs.Tables.{Goes, IsTableFrom, Rows, table_of}
@@ -49,10 +53,11 @@ IsStored stored position monitor =
     ((s : State) → at_position s stored.position ≡ at_position s position)
     × (stored.monitor ≡ monitor)
 
--- the list has a node with this position and this monitor
-abbrev pub HasStored : List StoredNode → Position → List Shown → Type 0
-HasStored all position monitor =
-    (stored : StoredNode) × IsIn all stored × IsStored stored position monitor
+-- the node that is stored at this index has this position and this monitor
+abbrev pub IsStoredAt : List StoredNode → ℕ → Position → List Shown → Type 0
+IsStoredAt all index position monitor =
+    (stored : StoredNode) × (slice_get all index ≡ Some stored)
+    × IsStored stored position monitor
 
 -- the node that is stored, where the component and the matrix are those of s
 abbrev pub node_of : State → StoredNode → Node
@@ -67,9 +72,10 @@ abbrev pub IsStoredFor : Node → StoredNode → Type 0
 IsStoredFor node stored =
     (at_position node.state stored.position ≡ node.state) × (stored.monitor ≡ node.monitor)
 
--- the list has this node
-abbrev pub HasNodeFor : List StoredNode → Node → Type 0
-HasNodeFor all node = (stored : StoredNode) × IsIn all stored × IsStoredFor node stored
+-- it is stored at this index
+abbrev pub IsNodeAt : List StoredNode → ℕ → Node → Type 0
+IsNodeAt all index node =
+    (stored : StoredNode) × (slice_get all index ≡ Some stored) × IsStoredFor node stored
 
 -- a machine with the component and the matrix of s can stand at each stored node
 abbrev pub AllCanStand : State → List StoredNode → Type 0
@@ -99,6 +105,10 @@ HasNextOf rows s monitor m all = HasNext rows all (node_at s monitor) m
 
 abbrev pub HasAllNextOf : Rows → State → List Shown → List StoredNode → Type 0
 HasAllNextOf rows s monitor all = HasAllNext rows all (node_at s monitor)
+
+-- these are the exits of the node of this state and this monitor
+abbrev pub AreExitsOf : State → List Shown → List StoredNode → Vec ℕ → Type 0
+AreExitsOf s monitor all exits = AreExits all exits.items s
 
 -- by the move m, from the node stored at this index
 abbrev pub arrived : ℕ → Move → Option Arrival
@@ -140,11 +150,13 @@ abbrev pub HoldsOf : State → List StoredNode → ℕ → (Node → Type 0) →
 HoldsOf s all i P = (stored : StoredNode) → slice_get all i ≡ Some stored → P (node_of s stored)
 
 -- What the search of the node at this index finds. Either the node is good if it is blocked, and the
--- new list has all nodes to which moves lead from it; or the node is bad.
-abbrev pub IsVisit : Rows → State → List StoredNode → ℕ → List StoredNode → Bool → Type 0
-IsVisit rows s old index new true =
+-- new list has all nodes to which moves lead from it, and these are its exits; or the node is bad.
+abbrev pub IsVisit : Rows → State → List StoredNode → ℕ → List StoredNode → Option (Vec ℕ)
+    → Type 0
+IsVisit rows s old index new (Some exits) =
     HoldsOf s old index (IsGoodIfBlocked rows) × HoldsOf s old index (HasAllNext rows new)
-IsVisit rows s old index new false = HoldsOf s old index (IsBad rows)
+    × HoldsOf s old index (λ node. AreExits new exits.items node.state)
+IsVisit rows s old index new None = HoldsOf s old index (IsBad rows)
 
 -- some move leads to each new node from the one stored at this index
 abbrev pub AddsAt : Rows → State → ℕ → List StoredNode → List StoredNode → Type 0
@@ -179,13 +191,27 @@ pub record AreSearched (rows : Rows) (s : State) (index : ℕ) (all : List Store
   pub closed : (i : ℕ) → i < index → HoldsOf s all i (HasAllNext rows all)
   pub good : (i : ℕ) → i < index → HoldsOf s all i (IsGoodIfBlocked rows)
 
--- whether all unrolled matrices are linearizable, or a schedule of one that fails, if the rows are the
--- table of the serial histories
-abbrev pub IsVerdict : Component → Matrix → Rows → Verdict → Type 0
-IsVerdict c matrix rows AlwaysLinearizable =
+-- these are the exits of the first nodes, one list for each
+abbrev pub AreExitsOfFirst : State → List StoredNode → Graph → Type 0
+AreExitsOfFirst s all exits =
+    (i : ℕ) (its : Vec ℕ) → slice_get exits i ≡ Some its
+    → HoldsOf s all i (λ node. AreExits all its.items node.state)
+
+-- all unrolled matrices are linearizable, if the rows are the table of the serial histories
+abbrev pub IsLinearizableBy : Component → Matrix → Rows → Type 0
+IsLinearizableBy c matrix rows =
     (stages : List Stage) (bound : ℕ) →
     IsTableFrom c matrix rows stages bound → IsAlwaysLinearizable c matrix (InOrder None) bound
+
+-- Whether all unrolled matrices are linearizable, or a schedule of one that fails, if the rows are
+-- the table of the serial histories. Where all are, whether none has a livelock, or a schedule that
+-- is one: that does not depend on the rows.
+abbrev pub IsVerdict : Component → Matrix → Rows → Verdict → Type 0
+IsVerdict c matrix rows AlwaysLinearizable =
+    IsLinearizableBy c matrix rows × NeverLivelocks c matrix (InOrder None)
 IsVerdict c matrix rows (Fails moves) =
     (stages : List Stage) (bound : ℕ) →
     IsTableFrom c matrix rows stages bound → FailsBy c matrix (InOrder None) moves.items
+IsVerdict c matrix rows (Livelock moves) =
+    IsLinearizableBy c matrix rows × HasLivelockBy c matrix (InOrder None) moves.items
 IsVerdict c matrix rows Undecided = Unit {0}

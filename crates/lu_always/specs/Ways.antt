@@ -1,9 +1,11 @@
 -- The moves that lead to stored nodes.
 use Rattle.std.specs.Prelude.{◌≡◌, ℕ, ◌<◌, List, [], ◌∷◌, length, reverse, Option, Some, None, slice_get}
+use Rattle.std.specs.Global.{Vec}
 use Rattle.std.specs.Option.{option_and_then}
 use Rattle.lu_test.specs.declared.schedule.Move.{Move}
 use Rattle.lu_always.specs.declared.stored.Arrival.{Arrival}
 use Rattle.lu_always.specs.declared.stored.StoredNode.{StoredNode}
+use Rattle.lu_always.specs.Sinks.{Graph, IsFirstWithoutSink}
 use Rattle.lu_always.specs.Searching.{arrived}
 
 -- the arrival of the node at this index; none for the first node
@@ -24,3 +26,10 @@ IsWayBack list index (m ∷ before) =
 -- these moves, from the first to the last
 abbrev pub IsWayTo : List StoredNode → ℕ → List Move → Type 0
 IsWayTo list index u = IsWayBack list index (reverse u)
+
+-- From each node a path of exits leads to one without exits; or these moves lead to the first node from
+-- which none does.
+abbrev pub IsWayToLivelock : List StoredNode → Graph → Option (Vec Move) → Type 0
+IsWayToLivelock all exits None = IsFirstWithoutSink exits None
+IsWayToLivelock all exits (Some moves) =
+    (index : ℕ) × IsFirstWithoutSink exits (Some index) × IsWayTo all index moves.items

@@ -1,7 +1,8 @@
 //! Laws of unrolled matrices and of nodes. Their functions do nothing.
 
 ghost use Rattle.lu_always.specs.Always.{AlwaysLinearizes, AlwaysServes, BadServesNone, FailsNever, PrefixesAgree};
-ghost use Rattle.lu_always.specs.Certified.{CertifiedInOneRound, RefutedInOneRound};
+ghost use Rattle.lu_always.specs.Certified.{CertifiedInOneRound, LivelockInOneRound, NoLivelockInOneRound, RefutedInOneRound};
+ghost use Rattle.lu_always.specs.Livelocks.{LivelocksNever, LostNodeLivelocks, NodesNeverLivelock};
 ghost use Rattle.lu_always.specs.Nodes.{BadNodeFails, NodesServeAll, NodesTellAll, NoneDead};
 ghost use Rattle.lu_always.specs.OneRound.{OneRoundIsAllCuts, OneRoundIsCut};
 
@@ -22,6 +23,8 @@ pub fn one_round_laws()
     ensures all_cuts { OneRoundIsAllCuts }
     ensures certified { CertifiedInOneRound }
     ensures refuted { RefutedInOneRound }
+    ensures livelock { LivelockInOneRound }
+    ensures no_livelock { NoLivelockInOneRound }
 {}
 
 /// A closed list of nodes in which each blocked node is good shows that all unrolled matrices are
@@ -33,4 +36,13 @@ pub fn node_laws()
     ensures serve { NodesServeAll }
     ensures bad { BadNodeFails }
     ensures none_dead { NoneDead }
+{}
+
+/// A closed list of nodes, from each of which moves of open operations alone may lead to where all of
+/// them are blocked, shows that no unrolled matrix has a livelock. A path to a node from which they
+/// may not shows that one of them has a livelock. Where none has, there is no such schedule.
+pub fn livelock_laws()
+    ensures none { NodesNeverLivelock }
+    ensures some { LostNodeLivelocks }
+    ensures never { LivelocksNever }
 {}

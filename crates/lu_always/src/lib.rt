@@ -1,5 +1,5 @@
-//! Linearizability of all matrices that are unrolled from one: each thread repeats its line of
-//! calls any number of times, and may stop anywhere.
+//! Linearizability and livelocks of all matrices that are unrolled from one: each thread repeats its
+//! line of calls any number of times, and may stop anywhere.
 //!
 //! A node is a state of the client with a monitor. [`find_verdict`] searches all nodes, given a
 //! table of the serial histories.
@@ -8,8 +8,10 @@
 mod following;
 mod judging;
 mod laws;
+mod livelock;
 mod nodes;
 mod searching;
+mod sinks;
 mod standing;
 mod stepping;
 mod stored;
@@ -18,7 +20,7 @@ mod ways;
 
 pub use following::after_move;
 pub use judging::is_good;
-pub use laws::{always_laws, node_laws, one_round_laws};
+pub use laws::{always_laws, livelock_laws, node_laws, one_round_laws};
 pub use searching::find_verdict;
 pub use stepping::client_step;
 pub use stored::{Arrival, StoredNode};

@@ -1,7 +1,7 @@
 //! The list of nodes, with an index.
 
-ghost use Rattle.std.specs.Prelude.{◌≡◌, [], ◌∷◌, ◌++◌, IsTrue, OnOk, length};
-ghost use Rattle.lu_always.specs.Searching.{HasStored};
+ghost use Rattle.std.specs.Prelude.{◌≡◌, [], ◌∷◌, ◌++◌, IfSome, IsTrue, OnOk, length};
+ghost use Rattle.lu_always.specs.Searching.{IsStoredAt};
 
 use crate::stored::{StoredNode, is_stored};
 use indexmap::IndexMap;
@@ -84,19 +84,20 @@ impl Nodes {
         self.list.as_slice()
     }
 
-    /// Whether one of the nodes has this position and this monitor.
-    pub(crate) fn has(&self, position: &Position, monitor: &Monitor) -> bool
-        ensures { IsTrue result → HasStored self.now position.now monitor.now }
+    /// The index of a node with this position and this monitor, if one is found.
+    pub(crate) fn find(&self, position: &Position, monitor: &Monitor) -> Option<usize>
+        ensures { IfSome result
+            (λ index. IsStoredAt self.now index position.now monitor.now) }
     {
         let Some(same) = self.numbers.get(&hash_of(position, monitor)) else {
-            return false;
+            return None;
         };
         for number in same {
             if is_stored_at(self.list.as_slice(), *number, position, monitor) {
-                return true;
+                return Some(*number);
             }
         }
-        false
+        None
     }
 
     /// Adds a node at the end.
@@ -112,7 +113,7 @@ impl Nodes {
 
 /// Whether the node at this index has this position and this monitor.
 fn is_stored_at(all: &[StoredNode], index: usize, position: &Position, monitor: &Monitor) -> bool
-    ensures { IsTrue result → HasStored all.now position.now monitor.now }
+    ensures { IsTrue result → IsStoredAt all.now index position.now monitor.now }
 {
     match all.get(index) {
         None => false,

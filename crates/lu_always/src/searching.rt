@@ -5,12 +5,14 @@ ghost use Rattle.lu_component.specs.Component.{IsComponent};
 ghost use Rattle.lu_machine.specs.Positions.{CanStandAt, at_position};
 ghost use Rattle.lu_machine.specs.Starts.{CanRun};
 ghost use Rattle.lu_machine.specs.Steps.{IsFeasible};
-ghost use Rattle.lu_always.specs.Searching.{AddsAt, Adds, AddsOnly, AllCanStand, Grows, HasAllNextOf, HasNextOf, HasNodeFor, IsBad, IsGoodIfBlocked, IsVerdict, IsVisit, node_at};
+ghost use Rattle.lu_always.specs.Exits.{MovesTo};
+ghost use Rattle.lu_always.specs.Searching.{AddsAt, Adds, AddsOnly, AllCanStand, AreExitsOf, Grows, HasAllNextOf, HasNextOf, IsBad, IsGoodIfBlocked, IsNodeAt, IsVerdict, IsVisit, node_at};
 
 use crate::following::after_move;
 use crate::judging::is_good;
+use crate::livelock::way_to_livelock;
 use crate::nodes::Nodes;
-use crate::standing::is_blocked;
+use crate::standing::{is_blocked, is_waiting};
 use crate::stepping::client_step;
 use crate::stored::{Arrival, StoredNode};
 use crate::verdicts::Verdict;
@@ -23,32 +25,37 @@ use lu_test::{Matrix, Move};
 use std::alloc::{AllocError, Global};
 
 /// Stores the node of this state and this monitor, with this arrival, unless it is stored already.
+/// Returns its index.
 pub(crate) fn store(
     alloc: Global,
     machine: &Machine<'_>,
     monitor: Monitor,
     arrival: Option<Arrival>,
     all: &mut Nodes,
-) -> Result<(), AllocError>
+) -> Result<usize, AllocError>
     ensures grows { OnOk result (Grows machine.now all.old all.new) }
-    ensures there { OnOk result (HasNodeFor all.new (node_at machine.now monitor)) }
+    ensures there { IfOk result
+        (λ index. IsNodeAt all.new index (node_at machine.now monitor)) }
     ensures only { OnOk result (AddsOnly machine.now monitor arrival all.old all.new) }
 {
     let position = machine.position(alloc)?;
-    if all.has(&position, &monitor) {
-        return Ok(());
+    match all.find(&position, &monitor) {
+        Some(index) => Ok(index),
+        None => {
+            let index = all.len();
+            let node = StoredNode {
+                position,
+                monitor,
+                arrival,
+            };
+            all.push(alloc, node)?;
+            Ok(index)
+        }
     }
-    let node = StoredNode {
-        position,
-        monitor,
-        arrival,
-    };
-    all.push(alloc, node)?;
-    Ok(())
 }
 
 /// Stores the node to which the move leads from this state and this monitor, which are stored at
-/// the index `at`. The machine returns to the state.
+/// the index `at`. The machine returns to the state. Returns the index of the node.
 fn store_next(
     alloc: Global,
     machine: &mut Machine<'_>,
@@ -58,13 +65,14 @@ fn store_next(
     next: Move,
     at: usize,
     all: &mut Nodes,
-) -> Result<(), AllocError>
+) -> Result<usize, AllocError>
     requires feasible { IsFeasible machine.old next }
     requires stands { CanStandAt machine.old.component machine.old.matrix home.now }
     requires here { at_position machine.old home.now ≡ machine.old }
     ensures home { OnOk result (machine.new ≡ machine.old) }
     ensures grows { OnOk result (Grows machine.old all.old all.new) }
     ensures next { OnOk result (HasNextOf table.now machine.old monitor.now next all.new) }
+    ensures leads { IfOk result (MovesTo all.new machine.old next) }
     ensures new { OnOk result
         (Adds table.now machine.old monitor.now at all.old all.new) }
 {
@@ -74,13 +82,14 @@ fn store_next(
         parent: at,
         by: next,
     };
-    store(alloc, machine, after, Some(arrival), all)?;
+    let to = store(alloc, machine, after, Some(arrival), all)?;
     machine.stand_at(home);
-    Ok(())
+    Ok(to)
 }
 
 /// Stores all nodes to which moves lead from this state and this monitor, which are stored at the
-/// index `at`. The machine returns to the state.
+/// index `at`. The machine returns to the state. Returns the indexes of those to which moves of open
+/// operations lead.
 pub(crate) fn store_all_next(
     alloc: Global,
     machine: &mut Machine<'_>,
@@ -89,23 +98,28 @@ pub(crate) fn store_all_next(
     table: &AnswerTable,
     at: usize,
     all: &mut Nodes,
-) -> Result<(), AllocError>
+) -> Result<Vec<usize>, AllocError>
     requires component { IsComponent machine.old.component }
     requires stands { CanStandAt machine.old.component machine.old.matrix home.now }
     requires here { at_position machine.old home.now ≡ machine.old }
     ensures home { OnOk result (machine.new ≡ machine.old) }
     ensures grows { OnOk result (Grows machine.old all.old all.new) }
     ensures next { OnOk result (HasAllNextOf table.now machine.old monitor.now all.new) }
+    ensures exits { IfOk result (AreExitsOf machine.old monitor.now all.new) }
     ensures new { OnOk result
         (Adds table.now machine.old monitor.now at all.old all.new) }
 {
+    let mut exits = Vec::new(alloc);
     for thread in 0..machine.threads() {
         for pick in 0..machine.picks(thread) {
             let next = Move { thread, pick };
-            store_next(alloc, machine, home, monitor, table, next, at, all)?;
+            let to = store_next(alloc, machine, home, monitor, table, next, at, all)?;
+            if is_waiting(machine, thread) {
+                exits.push(to)?;
+            }
         }
     }
-    Ok(())
+    Ok(exits)
 }
 
 /// Whether the node of this state and this monitor is good, if its open operations are blocked.
@@ -119,15 +133,16 @@ fn is_well(machine: &Machine<'_>, monitor: &Monitor, table: &AnswerTable) -> boo
     true
 }
 
-/// Searches the node at this index. False where its open operations are blocked and it is not good;
-/// otherwise stores all nodes to which moves lead from it.
+/// Searches the node at this index. None where its open operations are blocked and it is not good;
+/// otherwise stores all nodes to which moves lead from it, and returns the indexes of those to which
+/// moves of open operations lead.
 fn visit(
     alloc: Global,
     machine: &mut Machine<'_>,
     table: &AnswerTable,
     index: usize,
     all: &mut Nodes,
-) -> Result<bool, AllocError>
+) -> Result<Option<Vec<usize>>, AllocError>
     requires sound { IsComponent machine.old.component }
     requires there { index < length all.old }
     requires stand { AllCanStand machine.old all.old }
@@ -142,16 +157,16 @@ fn visit(
     let monitor = all.list()[index].monitor.try_clone(alloc)?;
     machine.stand_at(&all.list()[index].position);
     if !is_well(machine, &monitor, table) {
-        return Ok(false);
+        return Ok(None);
     }
     let home = machine.position(alloc)?;
-    store_all_next(alloc, machine, &home, &monitor, table, index, all)?;
-    Ok(true)
+    let exits = store_all_next(alloc, machine, &home, &monitor, table, index, all)?;
+    Ok(Some(exits))
 }
 
-/// Whether all matrices that are unrolled from this one without a limit of rounds are linearizable.
-/// `table` is the table of its serial histories; if it is not, the verdict means nothing. No more
-/// than `most` nodes are searched.
+/// Whether all matrices that are unrolled from this one without a limit of rounds are linearizable,
+/// and none has a livelock. `table` is the table of its serial histories; if it is not, only what the
+/// verdict says of livelocks is right. No more than `most` nodes are searched.
 ///
 /// # Errors
 ///
@@ -168,14 +183,21 @@ pub fn find_verdict(
 {
     let mut machine = Machine::start(alloc, component, matrix)?;
     let mut all = Nodes::new(alloc);
+    let mut exits = Vec::new(alloc);
     store(alloc, &machine, Monitor::new(alloc, 0)?, None, &mut all)?;
     for index in 0..most {
         if index >= all.len() {
-            return Ok(Verdict::AlwaysLinearizable);
+            let Some(moves) = way_to_livelock(alloc, all.list(), exits.as_slice())? else {
+                return Ok(Verdict::AlwaysLinearizable);
+            };
+            return Ok(Verdict::Livelock(moves));
         }
-        if !visit(alloc, &mut machine, table, index, &mut all)? {
-            let moves = way_to(alloc, all.list(), index)?;
-            return Ok(Verdict::Fails(moves));
+        match visit(alloc, &mut machine, table, index, &mut all)? {
+            Some(found) => exits.push(found)?,
+            None => {
+                let moves = way_to(alloc, all.list(), index)?;
+                return Ok(Verdict::Fails(moves));
+            }
         }
     }
     Ok(Verdict::Undecided)

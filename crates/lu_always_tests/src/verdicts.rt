@@ -32,6 +32,28 @@ return r0
 end
 ";
 
+/// Operations that set their own flag and wait until the other's is clear. Where both are set, they
+/// wait for ever.
+const FLAGS: &[u8] = b"component c
+word f 2 0
+op left 0
+store f 0 1
+L1: load r0 f 1
+jz r0 L4
+jump L1
+L4: store f 0 0
+return 0
+end
+op right 0
+store f 1 1
+L1: load r0 f 0
+jz r0 L4
+jump L1
+L4: store f 1 0
+return 0
+end
+";
+
 /// The verdict on two threads that invert the bit, with this limit of nodes.
 fn verdict_on(
     rt: &(impl AllocGlobal + Abort),
@@ -48,11 +70,32 @@ fn verdict_on(
     Ok(find_verdict(rt.alloc(), &case.component, &case.matrix, &table, most)?)
 }
 
+/// The verdict on two threads that set flags. All their calls return 0.
+fn verdict_on_flags(rt: &(impl AllocGlobal + Abort), matrix: &[u8]) -> Result<Verdict, Fail> {
+    let case = fixture_of(rt, FLAGS, matrix)?;
+    let zero = Some((SerialOutcome::Ret(0), 0));
+    let mut rows = Vec::new(rt.alloc());
+    rows.push([zero, zero, None, None, None, None, None, None])?;
+    let table = AnswerTable::new(rows);
+    Ok(find_verdict(rt.alloc(), &case.component, &case.matrix, &table, 1000)?)
+}
+
 /// The number of moves of the schedule that fails, if the verdict is that one does.
 fn moves_in(verdict: Verdict) -> Option<usize> {
     match verdict {
         Verdict::AlwaysLinearizable => None,
         Verdict::Fails(moves) => Some(moves.len()),
+        Verdict::Livelock(_) => None,
+        Verdict::Undecided => None,
+    }
+}
+
+/// The number of moves of the livelock, if the verdict is that there is one.
+fn livelock_in(verdict: Verdict) -> Option<usize> {
+    match verdict {
+        Verdict::AlwaysLinearizable => None,
+        Verdict::Fails(_) => None,
+        Verdict::Livelock(moves) => Some(moves.len()),
         Verdict::Undecided => None,
     }
 }
@@ -62,6 +105,7 @@ fn is_always_linearizable(verdict: Verdict) -> bool {
     match verdict {
         Verdict::AlwaysLinearizable => true,
         Verdict::Fails(_) => false,
+        Verdict::Livelock(_) => false,
         Verdict::Undecided => false,
     }
 }
@@ -71,6 +115,7 @@ fn is_undecided(verdict: Verdict) -> bool {
     match verdict {
         Verdict::AlwaysLinearizable => false,
         Verdict::Fails(_) => false,
+        Verdict::Livelock(_) => false,
         Verdict::Undecided => true,
     }
 }
@@ -93,5 +138,19 @@ fn a_bit_without_a_lock_fails(rt: HostRuntime) -> Result<(), Fail> {
 fn more_nodes_than_the_limit_are_undecided(rt: HostRuntime) -> Result<(), Fail> {
     let verdict = verdict_on(&rt, b"thread safe\nthread safe\n", 5)?;
     assert!(rt; is_undecided(verdict));
+    Ok(())
+}
+
+#[test]
+fn flags_that_wait_for_one_another_have_a_livelock(rt: HostRuntime) -> Result<(), Fail> {
+    let verdict = verdict_on_flags(&rt, b"thread left\nthread right\n")?;
+    assert!(rt; livelock_in(verdict) == Some(4));
+    Ok(())
+}
+
+#[test]
+fn a_flag_that_is_never_set_has_no_livelock(rt: HostRuntime) -> Result<(), Fail> {
+    let verdict = verdict_on_flags(&rt, b"thread left\nthread left\n")?;
+    assert!(rt; is_always_linearizable(verdict));
     Ok(())
 }

@@ -6,4 +6,4 @@ pub returns-in-Some : goal.returns-in-Some
 returns-in-Some c = λ same.
     let one = c.in-Some.stored.now in
     let found = c.in-Some.ensures.lookup in
-    (one, (c.args.index, slice_get-get_or c.args.all.now c.args.index one found.3.0 ∙ ap Some (sym found.1)), c.is_stored.ensures same)
+    (one, slice_get-get_or c.args.all.now c.args.index one found.3.0 ∙ ap Some (sym found.1), c.is_stored.ensures same)

@@ -1,3 +1,4 @@
+use Rattle.lu_always.proofs.Exiting.{moves_made}
 use Rattle.lu_always.proofs.Keeping.{adds_made, base_grows, base_stand, home_again, moved_base, next_made}
 use Rattle.lu_always.proofs.searching.store_next.Goals as goal
 
@@ -17,14 +18,18 @@ pub returns-clause-grows : goal.returns-clause-grows
 returns-clause-grows c =
     let a = c.args.machine.now in
     let b = c.client_step.new.machine in
-    base_grows a b c.args.all.now c.store.new.all (moved_base a c.args.next b c.in_ok-event.event c.in_ok-event.ensures.step) c.in_ok-store.ensures.grows
+    base_grows a b c.args.all.now c.store.new.all (moved_base a c.args.next b c.in_ok-event.event c.in_ok-event.ensures.step) c.in_ok-to.ensures.grows
 
 pub returns-clause-next : goal.returns-clause-next
 returns-clause-next c =
-    next_made c.args.table.now c.args.machine.now c.args.next c.client_step.new.machine c.in_ok-event.event c.store.new.all c.args.monitor.now c.in_ok-after.after
-    c.in_ok-event.ensures.step c.in_ok-store.ensures.there c.in_ok-after.ensures
+    next_made c.args.table.now c.args.machine.now c.args.next c.client_step.new.machine c.in_ok-event.event c.store.new.all c.in_ok-to.to c.args.monitor.now c.in_ok-after.after
+    c.in_ok-event.ensures.step c.in_ok-to.ensures.there c.in_ok-after.ensures
 
 pub returns-clause-new : goal.returns-clause-new
 returns-clause-new c =
     adds_made c.args.table.now c.args.machine.now c.args.next c.client_step.new.machine c.in_ok-event.event c.args.at c.args.all.now c.store.new.all c.args.monitor.now c.in_ok-after.after
-    c.in_ok-event.ensures.step c.in_ok-after.ensures c.in_ok-store.ensures.only
+    c.in_ok-event.ensures.step c.in_ok-after.ensures c.in_ok-to.ensures.only
+
+pub returns-clause-leads : goal.returns-clause-leads
+returns-clause-leads c =
+    moves_made c.args.machine.now c.args.next c.client_step.new.machine c.in_ok-event.event c.store.new.all c.in_ok-to.to c.in_ok-after.after c.in_ok-event.ensures.step c.in_ok-to.ensures.there
