@@ -35,10 +35,10 @@ pub enum Forever {
 }
 
 /// Whether all matrices that are unrolled from this one without a limit of rounds are linearizable,
-/// and none has a livelock. Each thread repeats its line of calls any number of times, and may stop anywhere. `serial_bound`,
-/// at most 256, is the number of moves that a call of a serial run may take after its first. The
-/// table of the serial histories has no more than `most` stages, and no more than `most` nodes are
-/// searched.
+/// and none has a livelock. Each thread repeats its line of calls any number of times, and may stop
+/// anywhere. `serial_bound`, at most 256, is the number of moves that a call of a serial run may take
+/// after its first. The table of the serial histories has no more than `most` stages, and no more
+/// than `most` nodes are searched.
 ///
 /// # Errors
 ///
