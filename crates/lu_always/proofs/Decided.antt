@@ -50,14 +50,14 @@ use Rattle.lu_client.proofs.Unrolled.{client_setup, client_starts, cut_is_unroll
 use Rattle.lu_always.specs.Always.{AlwaysLinearizes, AlwaysServes, FailsNever, IsSerialPrefix, IsWell, PrefixesAgree}
 use Rattle.lu_always.specs.Certified.{CertifiedInOneRound, LivelockInOneRound, NoLivelockInOneRound, RefutedInOneRound}
 use Rattle.lu_always.specs.OneRound.{OneRoundIsAllCuts}
-use Rattle.lu_always.specs.Tables.{IsTableOf, Table}
+use Rattle.lu_answers.specs.Tables.{IsTableOf, Table}
 use Rattle.lu_always.specs.Nodes.{BadNodeFails, MovesLead, Node, NodesServeAll, NodesTellAll, NoneDead, Represents}
 use Rattle.lu_always.proofs.Likeness.{alike_on, blocked_alike, client_alike, in_order_once}
 use Rattle.lu_always.proofs.Followed.{good_end, good_node, node_there, path_for}
 use Rattle.lu_always.proofs.OneRound.{one_round_is_cut}
 use Rattle.lu_always.proofs.Refuting.{bad_serves_none}
 use Rattle.lu_always.proofs.Spelled.{begun_spelled, spelled, spelled_determines}
-use Rattle.lu_always.proofs.Tabled.{none_offends}
+use Rattle.lu_answers.proofs.ReadSerially.{none_offends}
 
 -- ---- nodes
 

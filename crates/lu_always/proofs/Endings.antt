@@ -16,7 +16,7 @@ use Rattle.lu_client.proofs.MayEnd.{no_livelock, some_livelock}
 use Rattle.lu_client.proofs.Played.{ready}
 use Rattle.lu_always.specs.Livelocks.{LivelocksNever, LostNodeLivelocks, NodesNeverLivelock}
 use Rattle.lu_always.specs.Nodes.{AreNodes, Node, Represents}
-use Rattle.lu_always.specs.Tables.{Table}
+use Rattle.lu_answers.specs.Tables.{Table}
 use Rattle.lu_always.proofs.Decided.{client_path}
 use Rattle.lu_always.proofs.Likeness.{alike_on, alike_open, blocked_alike, client_alike}
 use Rattle.lu_always.proofs.Stood.{open_same}

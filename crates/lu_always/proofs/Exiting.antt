@@ -26,7 +26,7 @@ use Rattle.lu_always.specs.Searching.{AreExitsOfFirst, AreSearched, Grows, Holds
 use Rattle.lu_always.specs.Livelocks.{HasLivelockBy, NeverLivelocks}
 use Rattle.lu_always.specs.Nodes.{Node}
 use Rattle.lu_always.specs.Sinks.{Graph, IsFirstWithoutSink, IsSink, PathLeads, ReachesSink}
-use Rattle.lu_always.specs.Tables.{table_of}
+use Rattle.lu_answers.specs.Tables.{table_of}
 use Rattle.lu_always.specs.Ways.{IsWayToLivelock}
 use Rattle.lu_always.proofs.Decided.{none_dead}
 use Rattle.lu_always.proofs.Endings.{lost_node_livelocks, nodes_never_livelock}

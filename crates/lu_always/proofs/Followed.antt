@@ -51,12 +51,12 @@ use Rattle.lu_client.proofs.Clients.{move_to_client}
 use Rattle.lu_client.proofs.OneCalls.{within_some}
 use Rattle.lu_client.proofs.Outcomes.{begin_rests, stuck_is_played}
 use Rattle.lu_client.proofs.Played.{IsReady, ready, serial_is_played}
-use Rattle.lu_always.specs.Tables.{Goes, IsTableOf, LeadsTo, Table}
+use Rattle.lu_answers.specs.Tables.{Goes, IsTableOf, LeadsTo, Table}
 use Rattle.lu_always.specs.Nodes.{AreNodes, IsAfterMove, IsFirst, IsGoodNode, MovesLead, Node, Represents, waits_in}
 use Rattle.lu_always.proofs.Likeness.{MovesOnce, alike_on, alike_open, client_alike}
 use Rattle.lu_always.proofs.Stood.{HaveSameOpen, client_standing, none_sequential, open_same, push_sequential, step_comes, waits_same}
-use Rattle.lu_always.proofs.Tabled.{HasRoomFor, is_played, is_read, none_offends, stuck_from, stuck_to}
-use Rattle.lu_always.specs.Reading.{is_automaton, thread_in}
+use Rattle.lu_answers.proofs.ReadSerially.{HasRoomFor, is_played, is_read, none_offends, stuck_from, stuck_to}
+use Rattle.lu_answers.specs.Reading.{is_automaton, thread_in}
 
 -- the history with this event after it, if there is one
 abbrev longer : List Event → Option Event → List Event

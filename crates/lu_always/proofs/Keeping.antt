@@ -30,11 +30,11 @@ use Rattle.lu_client.specs.Stages.{IsIn, Stage}
 use Rattle.lu_client.proofs.OneCalls.{within_some}
 use Rattle.lu_always.specs.declared.stored.Arrival.{Arrival}
 use Rattle.lu_always.specs.declared.stored.StoredNode.{StoredNode}
-use Rattle.lu_always.specs.Searching.{AddsAt, AddsFrom, AddsOnly, AllCanStand, AreArrivals, AreSearched, ComesFrom, Grows, HasAllNext, HasNext, IsArrival, IsBad, IsGoodIfBlocked, IsLinearizableBy, IsNodeAt, IsStoredFor, IsVerdict, Rows, arrived, node_at, node_of}
+use Rattle.lu_always.specs.Searching.{AddsAt, AddsFrom, AddsOnly, AllCanStand, AreArrivals, AreSearched, ComesFrom, Grows, HasAllNext, HasNext, IsArrival, IsBad, IsGoodIfBlocked, IsLinearizableBy, IsNodeAt, IsStoredFor, IsVerdict, arrived, node_at, node_of}
 use Rattle.lu_always.specs.Ways.{HasParentsBefore, IsWayBack, IsWayTo, arrival_at}
 use Rattle.lu_always.specs.declared.verdicts.Verdict.TheVariants.{Fails}
 use Rattle.lu_always.specs.Nodes.{AreNodes, IsAfterMove, IsFirst, IsGoodNode, IsMove, MovesLead, Node, Represents}
-use Rattle.lu_always.specs.Tables.{Table, table_of}
+use Rattle.lu_answers.specs.Tables.{Rows, Table, table_of}
 use Rattle.lu_always.proofs.Likeness.{in_order_once}
 use Rattle.lu_always.proofs.Decided.{bad_node_fails, nodes_tell_all, none_dead}
 

@@ -26,8 +26,8 @@ use Rattle.lu_client.specs.Stages.{line_of}
 use Rattle.lu_client.proofs.Outcomes.{begun_answers}
 use Rattle.lu_client.proofs.Played.{IsReady, ready}
 use Rattle.lu_always.specs.Always.{IsSerialPrefix}
-use Rattle.lu_always.specs.Tables.{IsAnswer, IsTableOf, Table}
-use Rattle.lu_always.proofs.Tabled.{HasRoomFor, IsAfter, after_first, after_more, other_more, own_more, told}
+use Rattle.lu_answers.specs.Tables.{IsAnswer, IsTableOf, Table}
+use Rattle.lu_answers.proofs.ReadSerially.{HasRoomFor, IsAfter, after_first, after_more, other_more, own_more, told}
 
 -- ---- tests
 

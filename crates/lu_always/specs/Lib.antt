@@ -1,7 +1,5 @@
 pub mod Always
 pub mod OneRound
-pub mod Tables
-pub mod Reading
 pub mod Nodes
 pub mod Sinks
 pub mod Marking

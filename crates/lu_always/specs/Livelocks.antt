@@ -14,7 +14,7 @@ use Rattle.lu_client.specs.Livelock.{MayEnd, SomeEnds}
 use Rattle.lu_client.specs.Rounds.{IsUnrolledFrom, Way}
 use Rattle.lu_client.specs.Stages.{IsIn}
 use Rattle.lu_always.specs.Nodes.{AreNodes, IsFirst, MovesLead, Node}
-use Rattle.lu_always.specs.Tables.{Table}
+use Rattle.lu_answers.specs.Tables.{Table}
 
 -- wherever a schedule leads from s, some schedule ends
 abbrev pub CanAlwaysEnd : State → Type 0

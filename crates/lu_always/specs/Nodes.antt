@@ -21,7 +21,7 @@ use Rattle.lu_client.specs.Clients.{AllBlocked, ClientStep, client_matrix}
 use Rattle.lu_client.specs.Rounds.{IsUnrolledFrom, Way}
 use Rattle.lu_client.specs.Stages.{IsIn}
 use Rattle.lu_always.specs.Always.{FailsBy, HasSpec, IsAlwaysLinearizable}
-use Rattle.lu_always.specs.Tables.{Goes, IsTableOf, Table}
+use Rattle.lu_answers.specs.Tables.{Goes, IsTableOf, Table}
 
 -- a state of the client, and the configurations of the history so far
 pub record Node : Type 0 where

@@ -8,15 +8,12 @@ use Rattle.lu_machine.specs.declared.event.Event.{Event}
 use Rattle.lu_machine.specs.declared.thread.Thread.{Thread}
 use Rattle.lu_machine.specs.declared.position.Position.{Position}
 use Rattle.lu_machine.specs.Positions.{CanStandAt, at_position}
-use Rattle.lu_machine.specs.Starts.{FromEachStart}
 use Rattle.lu_machine.specs.States.{State}
-use Rattle.lu_history.specs.declared.serial.SerialOutcome.{SerialOutcome}
 use Rattle.lu_serial.specs.Serial.{HasOpen}
 use Rattle.lu_linearization.specs.declared.configuration.Configuration.{Configuration as Shown}
 use Rattle.lu_linearization.specs.Monitors.{AreInitial, CanBeStuck}
 use Rattle.lu_client.specs.Rounds.Way.{InOrder}
 use Rattle.lu_client.specs.Clients.{AllBlocked, ClientStep, around}
-use Rattle.lu_client.specs.Alone.{rest_of}
 use Rattle.lu_client.specs.Stages.{IsIn, Stage}
 use Rattle.lu_always.specs.declared.stored.Arrival.{Arrival}
 use Rattle.lu_always.specs.declared.stored.StoredNode.{StoredNode}
@@ -27,11 +24,7 @@ use Rattle.lu_always.specs.Livelocks.{HasLivelockBy, NeverLivelocks}
 use Rattle.lu_always.specs.Sinks.{Graph}
 use Rattle.lu_always.specs.Nodes.{IsAfterMove, IsFirst, IsGoodNode, IsMove, Node}
 use Rattle.lu_always.specs.Always.{FailsBy, IsAlwaysLinearizable}
-use Rattle.lu_always.specs.Tables.{Goes, IsTableOf, table_of}
-
--- the rows of a table: for each stage, the answer to each thread's next call
-abbrev pub Rows : Type 0
-Rows = List (List (Option (SerialOutcome × ℕ)))
+use Rattle.lu_answers.specs.Tables.{Goes, IsTableFrom, Rows, table_of}
 
 -- a move of the client without a limit of rounds
 abbrev pub RoundStep : State → Move → State → Option Event → Type 0
@@ -203,12 +196,6 @@ abbrev pub AreExitsOfFirst : State → List StoredNode → Graph → Type 0
 AreExitsOfFirst s all exits =
     (i : ℕ) (its : Vec ℕ) → slice_get exits i ≡ Some its
     → HoldsOf s all i (λ node. AreExits all its.items node.state)
-
--- these rows, with some stages, are the table of the serial histories
-abbrev pub IsTableFrom : Component → Matrix → Rows → List Stage → ℕ → Type 0
-IsTableFrom c matrix rows stages bound =
-    FromEachStart c matrix
-    (λ s. IsTableOf c (InOrder None) matrix bound (rest_of s) (table_of stages rows))
 
 -- all unrolled matrices are linearizable, if the rows are the table of the serial histories
 abbrev pub IsLinearizableBy : Component → Matrix → Rows → Type 0

@@ -5,7 +5,7 @@ ghost use Rattle.lu_machine.specs.Events.{IsEventInRange};
 ghost use Rattle.lu_always.specs.Searching.{MonitorAfter};
 
 use crate::standing::pending;
-use crate::table::AnswerTable;
+use lu_answers::AnswerTable;
 use lu_linearization::Monitor;
 use lu_machine::{Event, Machine};
 use std::alloc::{AllocError, Global};

@@ -3,10 +3,10 @@
 ghost use Rattle.std.specs.Prelude.{◌↔◌, IsTrue, []};
 ghost use Rattle.lu_always.specs.Nodes.{IsGoodNode};
 ghost use Rattle.lu_always.specs.Searching.{AllCanBeStuck, CanBeStuckIfOpen, node_at};
-ghost use Rattle.lu_always.specs.Tables.{table_of};
+ghost use Rattle.lu_answers.specs.Tables.{table_of};
 
 use crate::standing::{is_quiet, is_waiting};
-use crate::table::AnswerTable;
+use lu_answers::AnswerTable;
 use lu_linearization::Monitor;
 use lu_machine::Machine;
 

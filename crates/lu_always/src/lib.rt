@@ -15,7 +15,6 @@ mod sinks;
 mod standing;
 mod stepping;
 mod stored;
-mod table;
 mod verdicts;
 mod ways;
 
@@ -25,5 +24,4 @@ pub use laws::{always_laws, livelock_laws, node_laws, one_round_laws};
 pub use searching::find_verdict;
 pub use stepping::client_step;
 pub use stored::{Arrival, StoredNode};
-pub use table::AnswerTable;
 pub use verdicts::Verdict;

@@ -1,6 +1,7 @@
 //! That a verdict is found: no clause says so.
 
-use lu_always::{AnswerTable, Verdict, find_verdict};
+use lu_always::{Verdict, find_verdict};
+use lu_answers::AnswerTable;
 use lu_fixtures::fixture_of;
 use lu_history::SerialOutcome;
 use std::process::Abort;

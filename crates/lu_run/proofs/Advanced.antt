@@ -1,9 +1,8 @@
 -- The next event of a run.
 use Rattle.std.proofs.Common.{arith, ◌≡◌, ◌≢◌, ℕ, suc, ◌<◌, ◌==◌, List, [], ◌∷◌, ◌++◌, length, set, Option, Some, None, slice_get, refl, sym, ◌∙◌, ap, subst, inl, inr, append_assoc}
 use Rattle.std.specs.Prelude.{IsSome, if◌then◌else◌}
-use Rattle.std.proofs.lemmas.Bool.{cases_lt}
 use Rattle.std.proofs.lemmas.Bool.Decides.{eqb_tells}
-use Rattle.std.proofs.lemmas.List.{get_or_past, get_or-set_other, get_or-set_same, length-set}
+use Rattle.std.proofs.lemmas.List.{get_or-set_other, get_or-set_same}
 use Rattle.std.proofs.lemmas.Option.{same_Some}
 use Rattle.lu_component.specs.Component.{Component}
 use Rattle.lu_test.specs.declared.matrix.Call.{Call as ACall}
@@ -12,6 +11,7 @@ use Rattle.lu_machine.specs.declared.event.Outcome.{Outcome}
 use Rattle.lu_machine.specs.Starts.{IsStart}
 use Rattle.lu_machine.specs.States.{State}
 use Rattle.lu_history.specs.declared.operation.OpId.{OpId}
+use Rattle.lu_history.specs.declared.serial.SerialOutcome.{SerialOutcome}
 use Rattle.lu_history.specs.Histories.{calls as calls_count, outcomes}
 use Rattle.lu_history.specs.Parts.{as_serial}
 use Rattle.lu_linearization.specs.declared.configuration.Configuration.{Configuration as Kept}
@@ -24,8 +24,8 @@ use Rattle.lu_run.specs.declared.run.RunEvent.{RunEvent}
 use Rattle.lu_run.specs.declared.run.RunEvent.TheVariants.{Call as Calls, Return as Back}
 use Rattle.lu_run.specs.declared.table.Table.{Table}
 use Rattle.lu_run.specs.Tables.{Grows, IsTable, recorded}
-use Rattle.lu_run.specs.Following.{AllKnown, AreSeated, HasAnswer, NextState, asked, question_of}
-use Rattle.lu_run.specs.Judging.{AreAnswered, IsFollowed, call_of}
+use Rattle.lu_run.specs.Following.{AllKnown, AreAnswered, AreSeated, HasAnswer, HasStates, NextState, asked, question_of}
+use Rattle.lu_run.specs.Judging.{IsFollowed, call_of}
 use Rattle.lu_run.specs.Runs.{IsRun, history_of, matrix_of, next_event}
 use Rattle.lu_run.proofs.Automated.{automaton}
 use Rattle.lu_run.proofs.Followed.{followed_call, followed_return}
@@ -38,17 +38,14 @@ holds_kept [] d holds = absurd holds
 holds_kept (one ∷ list) d (inl same) = (0, one, refl, same)
 holds_kept (one ∷ list) d (inr holds) = (let r = holds_kept list d holds in (suc r.0, r.1, r.2, r.3))
 
-pub all_answered : (table : Table) (pending : List (Option ThreadCall)) (list : List Kept) → length pending ≡ 8 → AllKnown table pending list → AreAnswered table (by_thread pending) list
-all_answered table pending list long known d t call holds is none = elim (cases_lt t 8) as (λ _. IsSome (recorded table (question_of d.state call))) [
-  | inl lt ↦
-      (let kept = holds_kept list d holds in
-      let answer : HasAnswer table (asked kept.1.state (by_thread pending t) (by_thread kept.1.effects t)) = known kept.0 kept.1 kept.2 t lt in
-      let free : by_thread kept.1.effects t ≡ None = kept.3.effects t ∙ none in
-      let first : HasAnswer table (asked kept.1.state (Some call) (by_thread kept.1.effects t)) = subst (λ x. HasAnswer table (asked kept.1.state x (by_thread kept.1.effects t))) is answer in
-      let second : HasAnswer table (asked kept.1.state (Some call) None) = subst (λ x. HasAnswer table (asked kept.1.state (Some call) x)) free first in
-      subst (λ x. IsSome (recorded table (question_of x call))) kept.3.state second)
-  | inr past ↦ absurd (let gone : by_thread pending t ≡ None = get_or_past pending t None (omega (arith, long, past)) in cc)
-]
+pub all_answered : (calls : List ACall) (table : Table) (pending : List (Option ThreadCall)) (list : List Kept) → AreSeated calls pending → AllKnown table pending list → AreAnswered table (by_thread pending) list
+all_answered calls table pending list seated known d t call holds is none =
+    let kept = holds_kept list d holds in
+    let answer : HasAnswer table (asked kept.1.state (by_thread pending t) (by_thread kept.1.effects t)) = known kept.0 kept.1 kept.2 t (seated t call is).0 in
+    let free : by_thread kept.1.effects t ≡ None = kept.3.effects t ∙ none in
+    let first : HasAnswer table (asked kept.1.state (Some call) (by_thread kept.1.effects t)) = subst (λ x. HasAnswer table (asked kept.1.state x (by_thread kept.1.effects t))) is answer in
+    let second : HasAnswer table (asked kept.1.state (Some call) None) = subst (λ x. HasAnswer table (asked kept.1.state (Some call) x)) free first in
+    subst (λ x. IsSome (recorded table (question_of x call))) kept.3.state second
 
 -- ---- the pending calls
 
@@ -65,15 +62,20 @@ module _ (before : List (Option ThreadCall)) (t : ℕ) (long : length before ≡
     | inr apart ↦ (let ne : u ≢ t = (λ e. apart.1 (sym e)) in (ne, sym (other None u ne) ∙ is))
   ]
 
-  pub seats : (n : ℕ) → AreSeated before → AreSeated (set before t (Some (record { thread = t; call = n })))
-  seats n was u call is = elim (eqb_tells t u) as (λ _. call.thread < 8) [
+  pub seats : (calls : List ACall) (n : ℕ) → n < length calls → AreSeated calls before → AreSeated calls (set before t (Some (record { thread = t; call = n })))
+  seats calls n within was u call is = elim (eqb_tells t u) as (λ _. (u < 8) × (call.thread < 8) × (call.call < length calls)) [
     | inl same ↦
         (let new : ThreadCall = record { thread = t; call = n } in
         let here : by_thread (set before t (Some new)) u ≡ Some new = subst (λ x. by_thread (set before t (Some new)) x ≡ Some new) same.1 (own (Some new)) in
         let which : new ≡ call = same_Some new call (sym here ∙ is) in
-        subst (λ (x : ThreadCall). x.thread < 8) which seat)
+        (let own : (new.thread < 8) × (new.call < length calls) = (seat, within) in
+        let there = subst (λ (x : ThreadCall). (x.thread < 8) × (x.call < length calls)) which own in
+        (subst (λ x. x < 8) same.1 seat, there.0, there.1)))
     | inr apart ↦ was u call (sym (other (Some (record { thread = t; call = n })) u (λ e. apart.1 (sym e))) ∙ is)
   ]
+
+  pub seats_fewer : (calls : List ACall) → AreSeated calls before → AreSeated calls (set before t None)
+  seats_fewer calls was u call is = was u call (fewer u call is).1
 
   pub changed : (v : Option ThreadCall) (after : ℕ → Option ThreadCall) (old : ℕ → Option ThreadCall) → ((u : ℕ) → by_thread before u ≡ old u) → ((u : ℕ) → after u ≡ (if t == u then v else old u)) → (u : ℕ) → by_thread (set before t v) u ≡ after u
   changed v after old was law u = elim (eqb_tells t u) as (λ _. by_thread (set before t v) u ≡ after u) [
@@ -88,8 +90,8 @@ module _ (c : Component) (setup calls : List ACall) (events done more : List Run
   one_more e is = subst HasSequentialThreads (history_push [] done e) (sequential_front (done ++ e ∷ []) more (subst (λ x. HasSequentialThreads (history_of x)) (is ∙ sym (append_assoc done (e ∷ []) more)) run.sequential))
 
   pub advanced_call : (t n : ℕ) (old new : Table) (before pending : List (Option ThreadCall)) (list closure : List Kept) → events ≡ done ++ Calls t n ∷ more → IsFollowed c s calls events old before list (history_of done) → IsTable c calls new → Grows old new
-      → pending ≡ set before t (Some (record { thread = t; call = n })) → length before ≡ 8 → t < 8 → AreClosed (NextState new) (by_thread pending) t list closure → AllKnown new pending closure → IsFollowed c s calls events new pending closure (history_of (done ++ Calls t n ∷ []))
-  advanced_call t n old new before pending list closure is was table grows makes long seat closed known =
+      → pending ≡ set before t (Some (record { thread = t; call = n })) → length before ≡ 8 → t < 8 → n < length calls → AreClosed (NextState new) (by_thread pending) t list closure → AreAnswered new (by_thread pending) closure → IsFollowed c s calls events new pending closure (history_of (done ++ Calls t n ∷ []))
+  advanced_call t n old new before pending list closure is was table grows makes long seat within closed known =
       let h = history_of done in
       let a : OpId = record { t = t; k = calls_count t h } in
       let sequential : HasSequentialThreads (h ++ Call a.t a.k ∷ []) = one_more (Calls t n) is in
@@ -99,10 +101,9 @@ module _ (c : Component) (setup calls : List ACall) (events done more : List Run
       (λ u. (pending_goes_on (call_of calls events) h a u).0 sequential ∙ ap (λ x. if t == u then Some x else pending_call (call_of calls events) h u) which) in
       let pends : (u : ℕ) → by_thread pending u ≡ pending_call (call_of calls events) (h ++ Call a.t a.k ∷ []) u =
       (λ u. ap (λ x. by_thread x u) makes ∙ changed before t long seat (Some call) (pending_call (call_of calls events) (h ++ Call a.t a.k ∷ [])) (pending_call (call_of calls events) h) was.pends law u) in
-      let seated : AreSeated pending = subst AreSeated (sym makes) (seats before t long seat n was.seated) in
-      let many : length pending ≡ 8 = ap length makes ∙ (length-set before t (Some call) ∙ long) in
+      let seated : AreSeated calls pending = subst (AreSeated calls) (sym makes) (seats before t long seat calls n within was.seated) in
       subst (IsFollowed c s calls events new pending closure) (sym (history_push [] done (Calls t n)))
-      (followed_call c s calls events (automaton c setup calls events run s start) h a old new before pending list closure was sequential table grows seated pends closed (all_answered new pending closure many known))
+      (followed_call c s calls events (automaton c setup calls events run s start) h a old new before pending list closure was sequential table grows seated pends closed known)
 
   pub advanced_return : (t : ℕ) (outcome : Outcome) (table : Table) (before pending : List (Option ThreadCall)) (list back : List Kept) → events ≡ done ++ Back t outcome ∷ more → IsFollowed c s calls events table before list (history_of done)
       → pending ≡ set before t None → length before ≡ 8 → t < 8 → AreNext (Returns t (as_serial outcome)) list back → IsFollowed c s calls events table pending back (history_of (done ++ Back t outcome ∷ []))
@@ -110,9 +111,16 @@ module _ (c : Component) (setup calls : List ACall) (events done more : List Run
       let h = history_of done in
       let a : OpId = record { t = t; k = length (outcomes t h) } in
       let sequential : HasSequentialThreads (h ++ Return a.t a.k outcome ∷ []) = one_more (Back t outcome) is in
-      let seated : AreSeated pending = subst AreSeated (sym makes) (λ u call there. was.seated u call (fewer before t long seat u call there).1) in
+      let seated : AreSeated calls pending = subst (AreSeated calls) (sym makes) (seats_fewer before t long seat calls was.seated) in
       let pends : (u : ℕ) → by_thread pending u ≡ pending_call (call_of calls events) (h ++ Return a.t a.k outcome ∷ []) u =
       (λ u. ap (λ x. by_thread x u) makes ∙ changed before t long seat None (pending_call (call_of calls events) (h ++ Return a.t a.k outcome ∷ [])) (pending_call (call_of calls events) h) was.pends (λ v. (pending_goes_on (call_of calls events) h a v).1 outcome sequential) u) in
       subst (IsFollowed c s calls events table pending back) (sym (history_push [] done (Back t outcome)))
       (followed_return c s calls events (automaton c setup calls events run s start) h a outcome table before pending list back was sequential seated pends
       (λ u call there. fewer before t long seat u call (ap (λ x. by_thread x u) (sym makes) ∙ there)) next)
+
+-- the configurations after a return have states of those before it
+pub states_back : (table : Table) (t : ℕ) (outcome : SerialOutcome) (list back : List Kept) → HasStates table list → AreNext (Returns t outcome) list back → HasStates table back
+states_back table t outcome list back was next d holds =
+    let from = (next d).0 holds in
+    let state = was from.0 from.1 in
+    (state.0, ap (slice_get table.states.keys) (sym from.2.state) ∙ state.1)

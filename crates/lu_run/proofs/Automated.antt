@@ -16,7 +16,8 @@ use Rattle.lu_client.proofs.Played.{goes_back, goes_on, ready}
 use Rattle.lu_linearization.specs.Configurations.{IsAutomaton}
 use Rattle.lu_run.specs.declared.run.RunEvent.{RunEvent}
 use Rattle.lu_run.specs.declared.run.RunEvent.TheVariants.{Call as Calls, Return as Returns}
-use Rattle.lu_run.specs.Judging.{NextRest, call_of}
+use Rattle.lu_run.specs.Judging.{call_of}
+use Rattle.lu_run.specs.Offending.{NextRest}
 use Rattle.lu_run.specs.Runs.{IsEventOf, IsRun, calls_by, listed, matrix_of, numbers_of, with_numbers}
 
 -- ---- lines

@@ -26,6 +26,8 @@ use Rattle.lu_run.specs.declared.table.Rests.{Rests}
 use Rattle.lu_run.specs.declared.table.Table.{Table}
 use Rattle.lu_run.specs.Asking.{AreRests, IsAtRest, at_start, menu_of, rest_at}
 use Rattle.lu_run.specs.Judging.{InState, IsFirstTable, IsFollowed, IsStartPosition}
+use Rattle.lu_run.specs.Following.{HasStates}
+use Rattle.lu_run.specs.Offending.{AreReached}
 use Rattle.lu_run.specs.Tables.{IsTable}
 
 -- the position of a machine at the start, with eight threads that make no calls
@@ -97,6 +99,13 @@ module _ (c : Component) (calls : List ACall) (p : Position) (table : Table) (fi
     states = λ d holds. (first.state, ap (slice_get table.states.keys) ((initial d).0 holds).0 ∙ state_zero);
     answered = λ d t call holds is free. absurd (let e = none t in cc);
   }
+
+  pub first_states : (list : List Kept) → AreInitial 0 list → HasStates table list
+  first_states list initial d holds = (first.state, ap (slice_get table.states.keys) ((initial d).0 holds).0 ∙ state_zero)
+
+  -- no call leads to the first state
+  pub first_reached : (start : Rest) → rest_at p ≡ start → AreReached c calls start table
+  first_reached start same n state at = ([], (λ rest has. sym (in_first n rest (state, at, has) ∙ same)))
 
 pub first_keys : (keys : List Rests) (test : Rests → Bool) (new : Rests) → keys ≡ [] → (if list_any test keys then keys else keys ++ new ∷ []) ≡ new ∷ []
 first_keys keys test new none = ap (λ xs. if list_any test xs then xs else xs ++ new ∷ []) none

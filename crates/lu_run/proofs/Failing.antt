@@ -10,7 +10,7 @@ use Rattle.lu_history.specs.Histories.{calls as calls_count, outcomes}
 use Rattle.lu_history.specs.Parts.{keep_pending}
 use Rattle.lu_serial.specs.Serial.{IsSerialHistory}
 use Rattle.lu_witness.specs.Witnesses.{HasWitness}
-use Rattle.lu_client.specs.Alone.{RestAfter}
+use Rattle.lu_client.specs.Alone.{RestAfter, rest_of}
 use Rattle.lu_linearization.specs.declared.configuration.Configuration.{Configuration as Kept}
 use Rattle.lu_linearization.specs.Configurations.{Reads}
 use Rattle.lu_linearization.specs.Linearizations.{IsLinearization, IsPrefixClosed}
@@ -19,12 +19,16 @@ use Rattle.lu_linearization.proofs.Configured.{reads_beginnings}
 use Rattle.lu_linearization.proofs.Goes.{call_goes_on, return_goes_on}
 use Rattle.lu_run.specs.declared.automaton.ThreadCall.{ThreadCall}
 use Rattle.lu_run.specs.declared.judging.RunVerdict.{RunVerdict}
-use Rattle.lu_run.specs.declared.judging.RunVerdict.TheVariants.{Passes, FailsAt, CannotBeStuck as NotStuck, Undecided}
+use Rattle.lu_run.specs.declared.judging.RunVerdict.TheVariants.{Passes, FailsAt, CannotBeStuck as NotStuck, Offends}
+use Rattle.lu_run.specs.declared.run.Run.{Run}
 use Rattle.lu_run.specs.declared.run.RunEvent.{RunEvent}
 use Rattle.lu_run.specs.declared.run.RunEvent.TheVariants.{Call as Calls, Return as Returns}
 use Rattle.lu_run.specs.declared.table.Table.{Table}
 use Rattle.lu_run.specs.Following.{NextState}
-use Rattle.lu_run.specs.Judging.{FindsLost, HasLinearization, IsEndVerdict, IsFirstWithout, IsFollowed, IsGoodNow, IsPassing, IsVerdict, NextRest, StuckIfPending, TellsLost, call_of}
+use Rattle.lu_run.specs.Judging.{FindsLost, HasLinearization, IsEndVerdict, IsFirstWithout, IsFollowed, IsGoodNow, IsNeverStuck, IsPassing, IsVerdict, NamesOffence, StuckIfPending, TellsLost, call_of}
+use Rattle.lu_run.specs.Offending.{AreReached, IsFollowFault, NextRest}
+use Rattle.lu_run.specs.declared.following.FollowFault.{FollowFault}
+use Rattle.lu_run.specs.declared.following.FollowFault.TheVariants as fault
 use Rattle.lu_run.specs.Runs.{IsRun, history_of, matrix_of}
 use Rattle.lu_run.proofs.Advanced.{one_more}
 use Rattle.lu_run.proofs.Automated.{automaton}
@@ -96,18 +100,29 @@ module _ (c : Component) (setup calls : List ACall) (events : List RunEvent) (s 
           | inr none ↦ now.complete (λ t lt. none t) refl
         ]
 
-    pub at_end : (stuck : Bool) (verdict : RunVerdict) → HasLinearization s events → IsEndVerdict stuck table list pending verdict → IsVerdict s events stuck verdict
-    at_end true Passes line is = tells_good c setup calls events s start run table pending list was (record { complete = λ none empty. none_left c s calls events events table pending list empty was line; stuck = is })
-    at_end false Passes line is = passing c setup calls events s start run table pending list was false (λ empty. none_left c s calls events events table pending list empty was line)
-    at_end stuck (FailsAt n) line is = absurd is
-    at_end stuck Undecided line is = absurd is
-    at_end false (NotStuck t) line is = absurd (let no = is.0 in cc)
-    at_end true (NotStuck t) line is = by (by_thread pending t) refl
-      where
-        by : (o : Option ThreadCall) → by_thread pending t ≡ o → IsVerdict s events true (NotStuck t)
-        by None e = absurd (is.1 (subst (StuckIfPending table list) (sym e) tt))
-        by (Some call) e =
-            let a = who_waits c setup calls events s start run table pending list was t call e in
-            let law = stuck_witness c setup calls events s start run table pending list was a.0 a.1 (waits c setup calls events s start run table pending list was a.0 a.1) in
-            let never : HasWitness (IsSerialHistory s) (keep_pending a.0.t (history_of events)) → ⊥ = λ witness. is.1 (subst (StuckIfPending table list) (sym e) (subst (λ x. CanBeStuck (NextState table) x list) a.3 (law.0 witness))) in
-            (refl, record { call = a.0; of = a.2; pending = a.1; never = never }, λ good. never (good.stuck a.0 a.1))
+-- the verdict at the end
+module _ (c : Component) (setup : List ACall) (bound : ℕ) (r : Run) (s : State) (start : IsStart c (matrix_of setup r.calls.items r.events.items) s) (run : IsRun r.calls.items r.events.items) (table : Table) (pending : List (Option ThreadCall)) (list : List Kept) (was : IsFollowed c s r.calls.items r.events.items table pending list (history_of r.events.items)) (line : HasLinearization s r.events.items) where
+  passes_now : (stuck : Bool) → r.is_stuck ≡ stuck → IsEndVerdict stuck table list pending Passes → IsPassing s r.events.items stuck
+  passes_now true at is = tells_good c setup r.calls.items r.events.items s start run table pending list was (record { complete = λ none empty. none_left c s r.calls.items r.events.items r.events.items table pending list empty was line; stuck = is })
+  passes_now false at is = passing c setup r.calls.items r.events.items s start run table pending list was false (λ empty. none_left c s r.calls.items r.events.items r.events.items table pending list empty was line)
+
+  stuck_now : (t : ℕ) (o : Option ThreadCall) → by_thread pending t ≡ o → (StuckIfPending table list (by_thread pending t) → ⊥) → IsNeverStuck s r.events.items t × (IsPassing s r.events.items true → ⊥)
+  stuck_now t None e isnt = absurd (isnt (subst (StuckIfPending table list) (sym e) tt))
+  stuck_now t (Some call) e isnt =
+      let a = who_waits c setup r.calls.items r.events.items s start run table pending list was t call e in
+      let law = stuck_witness c setup r.calls.items r.events.items s start run table pending list was a.0 a.1 (waits c setup r.calls.items r.events.items s start run table pending list was a.0 a.1) in
+      let never : HasWitness (IsSerialHistory s) (keep_pending a.0.t (history_of r.events.items)) → ⊥ = λ witness. isnt (subst (StuckIfPending table list) (sym e) (subst (λ x. CanBeStuck (NextState table) x list) a.3 (law.0 witness))) in
+      (record { call = a.0; of = a.2; pending = a.1; never = never }, λ good. never (good.stuck a.0 a.1))
+
+  pub at_end : (verdict : RunVerdict) → IsEndVerdict r.is_stuck table list pending verdict → IsVerdict c bound s r verdict
+  at_end Passes is = passes_now r.is_stuck refl is
+  at_end (FailsAt n) is = absurd is
+  at_end (Offends t n) is = absurd is
+  at_end (NotStuck t) is =
+      let now = stuck_now t (by_thread pending t) refl is.1 in
+      (is.0, now.0, subst (λ x. IsPassing s r.events.items x → ⊥) (sym is.0) now.1)
+
+-- the call that offends is the verdict
+pub offence_found : (c : Component) (bound : ℕ) (s : State) (r : Run) (table : Table) (stop : FollowFault) → IsFollowFault c r.calls.items bound table stop → AreReached c r.calls.items (rest_of s) table → (verdict : RunVerdict) → NamesOffence stop verdict → IsVerdict c bound s r verdict
+offence_found c bound s r table (fault.Offends call) is reached verdict names = subst (IsVerdict c bound s r) (sym names) (is (rest_of s) reached)
+offence_found c bound s r table fault.Memory is reached verdict names = absurd names

@@ -24,8 +24,9 @@ use Rattle.lu_run.specs.declared.table.Rests.{Rests}
 use Rattle.lu_run.specs.declared.table.Table.{Table}
 use Rattle.lu_run.specs.Tables.{Grows, IsTable, recorded}
 use Rattle.lu_run.specs.Asking.{HasRest}
-use Rattle.lu_run.specs.Following.{AreSeated, NextState, question_of}
-use Rattle.lu_run.specs.Judging.{AreAnswered, InState, IsFollowed, NextRest, Represents, call_of}
+use Rattle.lu_run.specs.Following.{AreAnswered, AreSeated, NextState, question_of}
+use Rattle.lu_run.specs.Judging.{InState, IsFollowed, Represents, call_of}
+use Rattle.lu_run.specs.Offending.{NextRest}
 use Rattle.lu_run.proofs.Simulated.{backward, forward, pending_same, states_valid}
 
 -- effects count thread by thread
@@ -51,7 +52,7 @@ module _ (old new : Table) (grows : Grows old new) where
 module _ (c : Component) (s : State) (calls : List ACall) (events : List RunEvent) (automaton : IsAutomaton (RestAfter s) (NextRest c calls) (call_of calls events)) where
   -- after a call
   module _ (h : List Event) (a : OpId) (old new : Table) (before pending : List (Option ThreadCall)) (list closure : List Kept) (was : IsFollowed c s calls events old before list h) (sequential : HasSequentialThreads (h ++ Call a.t a.k ∷ [])) (is : IsTable c calls new) (grows : Grows old new)
-      (seated : AreSeated pending) (pends : (t : ℕ) → by_thread pending t ≡ pending_call (call_of calls events) (h ++ Call a.t a.k ∷ []) t) (closed : AreClosed (NextState new) (by_thread pending) a.t list closure) (answered : AreAnswered new (by_thread pending) closure) where
+      (seated : AreSeated calls pending) (pends : (t : ℕ) → by_thread pending t ≡ pending_call (call_of calls events) (h ++ Call a.t a.k ∷ []) t) (closed : AreClosed (NextState new) (by_thread pending) a.t list closure) (answered : AreAnswered new (by_thread pending) closure) where
     earlier : (d : Configuration Rest) → IsConfiguration (RestAfter s) h d ↔ Represents new list d
     earlier d =
         let grown = represents_grown old new grows list was.states d in (
@@ -91,7 +92,7 @@ module _ (c : Component) (s : State) (calls : List ACall) (events : List RunEven
 
   -- after a return
   module _ (h : List Event) (a : OpId) (outcome : Outcome) (table : Table) (before pending : List (Option ThreadCall)) (list back : List Kept) (was : IsFollowed c s calls events table before list h) (sequential : HasSequentialThreads (h ++ Return a.t a.k outcome ∷ []))
-      (seated : AreSeated pending) (pends : (t : ℕ) → by_thread pending t ≡ pending_call (call_of calls events) (h ++ Return a.t a.k outcome ∷ []) t) (fewer : (t : ℕ) (call : ThreadCall) → by_thread pending t ≡ Some call → (t ≢ a.t) × (by_thread before t ≡ Some call)) (next : AreNext (Returns a.t (as_serial outcome)) list back) where
+      (seated : AreSeated calls pending) (pends : (t : ℕ) → by_thread pending t ≡ pending_call (call_of calls events) (h ++ Return a.t a.k outcome ∷ []) t) (fewer : (t : ℕ) (call : ThreadCall) → by_thread pending t ≡ Some call → (t ≢ a.t) × (by_thread before t ≡ Some call)) (next : AreNext (Returns a.t (as_serial outcome)) list back) where
     returned : (d : Configuration Rest) → IsConfiguration (RestAfter s) (h ++ Return a.t a.k outcome ∷ []) d ↔ Represents table back d
     returned d =
         let law = return_is_configured (RestAfter s) h a outcome d sequential in (

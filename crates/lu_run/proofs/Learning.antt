@@ -1,5 +1,5 @@
 -- What the automaton's table knows, and how it grows.
-use Rattle.std.proofs.Common.{◌≡◌, ℕ, zero, suc, ◌<◌, Bool, true, false, List, [], ◌∷◌, ◌++◌, Option, Some, None, IfSome, Result, Ok, Err, slice_get, refl, sym, ◌∙◌, ap, subst, inl, inr, ◌⊎◌}
+use Rattle.std.proofs.Common.{◌≡◌, ℕ, zero, suc, ◌<◌, Bool, true, false, List, [], ◌∷◌, ◌++◌, Option, Some, None, Result, Ok, Err, slice_get, refl, sym, ◌∙◌, ap, subst, inl, inr, ◌⊎◌}
 use Rattle.std.specs.Prelude.{◌&&◌, is_some, nat_eq, cond}
 use Rattle.std.specs.HashMap.{HashMap}
 use Rattle.indexmap.specs.IndexMap.{get}
@@ -18,8 +18,12 @@ use Rattle.lu_serial_graph.specs.Playing.{IsAmong}
 use Rattle.lu_run.specs.declared.table.Question.{Question}
 use Rattle.lu_run.specs.declared.table.Rests.{Rests}
 use Rattle.lu_run.specs.declared.table.Table.{Table}
-use Rattle.lu_run.specs.Asking.{AreRests, EndsSo, HasRest, HasSameRests, rest_at}
-use Rattle.lu_run.specs.Tables.{Answer, Grows, IsRight, IsRightFor, IsTable, Keeps, Records, recorded, same_question}
+use Rattle.lu_run.specs.Asking.{AreRests, EndsSo, HasRest, HasSameRests, HasTwoOutcomes, OverrunsFromSome, rest_at}
+use Rattle.lu_run.specs.Offending.{AreReached, HasTwoOutcomesAfter, IsFollowFault, IsReached, LeadsAlong, Learns, NextRest, OffendsFrom, OverrunsAfter}
+use Rattle.lu_run.specs.declared.automaton.ThreadCall.{ThreadCall}
+use Rattle.lu_run.specs.declared.following.FollowFault.{FollowFault}
+use Rattle.lu_run.specs.declared.following.FollowFault.TheVariants.{Offends, Memory}
+use Rattle.lu_run.specs.Tables.{Answer, Grows, IsNumbered, IsRight, IsRightFor, IsTable, Keeps, Records, recorded, same_question}
 
 -- ---- equal states have the same rests
 
@@ -136,11 +140,9 @@ ends_stored c from t call o new to is same good = record {
   rests = good;
 }
 
--- the number of a state, in the numbers of the code
-pub numbered : (states : List Rests) (rests : Rests) (r : Option ℕ) (place : ℕ) → ((n : ℕ) → r ≡ Some n → n ≡ place) → (k : Rests) → slice_get states place ≡ Some k → pointwise position_eq rests.positions.items k.positions.items ≡ true
-    → IfSome r (λ n. (state : Rests) × (slice_get states n ≡ Some state) × HasSameRests rests.positions.items state.positions.items)
-numbered states rests None place is k at same = tt
-numbered states rests (Some n) place is k at same = (k, ap (slice_get states) (is n refl) ∙ at, equal_same rests.positions.items k.positions.items same)
+-- the state of a number has the rests that were to be stored
+pub numbered : (states : List Rests) (rests : Rests) (place n : ℕ) (k : Rests) → n ≡ place → slice_get states place ≡ Some k → pointwise position_eq rests.positions.items k.positions.items ≡ true → IsNumbered states rests n
+numbered states rests place n k is at same = (k, ap (slice_get states) is ∙ at, equal_same rests.positions.items k.positions.items same)
 
 pub converted : {E : Type 0} (r : Result ℕ E) (place : ℕ) → OkIff r (place < 4294967296) place → (o : Option ℕ) → o ≡ result_ok r → (n : ℕ) → o ≡ Some n → n ≡ place
 converted (Ok m) place iff o is n some = (let whole : Some m ≡ Some n = sym is ∙ some in let same : m ≡ n = cc in sym same ∙ iff.1)
@@ -149,6 +151,49 @@ converted (Err e) place iff o is n some = absurd (let none = sym is ∙ some in 
 pub none_known : {A : Type 0} (r o : Option A) → r ≡ o → is_some r ≡ false → o ≡ None
 none_known r None same none = refl
 none_known r (Some x) same none = absurd (let is : is_some (Some x) ≡ false = ap is_some (sym same) ∙ none in cc)
+
+-- ---- paths
+
+along_push : (c : Component) (calls : List ACall) (path : List (ThreadCall × SerialOutcome)) (start rest after : Rest) (call : ThreadCall) (o : SerialOutcome) → LeadsAlong c calls start path rest → NextRest c calls rest call o after → LeadsAlong c calls start (path ++ (call, o) ∷ []) after
+along_push c calls [] start rest after call o is next = (after, subst (λ x. NextRest c calls x call o after) (sym is) next, refl)
+along_push c calls ((call2, o2) ∷ path) start rest after call o (mid, first, more) next = (mid, first, along_push c calls path mid rest after call o more next)
+
+-- the rests to which a call leads are reached
+pub reached_next : (c : Component) (calls : List ACall) (start : Rest) (from new : List Position) (call : ThreadCall) (made : ACall) (o : SerialOutcome) → slice_get calls call.call ≡ Some made → EndsSo c from call.thread made o new → IsReached c calls start from → IsReached c calls start new
+reached_next c calls start from new call made o called ends (path, all) = (
+  path ++ (call, o) ∷ [],
+  (λ after has.
+      let plays = (ends.exact o after).1 (refl, has) in
+      along_push c calls path start plays.0 after call o (all plays.0 plays.1) (made, called, plays.2)),
+)
+
+pub reached_more : (c : Component) (calls : List ACall) (start : Rest) (old new : Table) (rests : Rests) → Keeps old.states.keys rests new.states.keys → IsReached c calls start rests.positions.items → AreReached c calls start old → AreReached c calls start new
+reached_more c calls start old new rests keeps is all n x at = elim (states_new old.states.keys new.states.keys rests keeps n x at) as (λ _. IsReached c calls start x.positions.items) [
+  | inl before ↦ all n x before
+  | inr here ↦ subst (λ (y : Rests). IsReached c calls start y.positions.items) (sym here) is
+]
+
+-- a call that takes more moves than the bound, or has two outcomes, offends
+pub offends : (c : Component) (calls : List ACall) (bound : ℕ) (table : Table) (call : ThreadCall) (state : Rests) (n : ℕ) (made : ACall) → slice_get table.states.keys n ≡ Some state → slice_get calls call.call ≡ Some made → OverrunsFromSome c state.positions.items call.thread made bound ⊎ HasTwoOutcomes c state.positions.items call.thread made → OffendsFrom c calls bound table call
+offends c calls bound table call state n made at called is start all =
+    let from = all n state at in
+    record { path = from.0; call = made; called = called; offends = by from.0 from.1 is }
+  where
+    by : (path : List (ThreadCall × SerialOutcome)) → ((rest : Rest) → HasRest state.positions.items rest → LeadsAlong c calls start path rest) → OverrunsFromSome c state.positions.items call.thread made bound ⊎ HasTwoOutcomes c state.positions.items call.thread made → OverrunsAfter c calls start path call.thread made bound ⊎ HasTwoOutcomesAfter c calls start path call.thread made
+    by path leads (inl over) = inl (over.0, leads over.0 over.1, over.2)
+    by path leads (inr two) = inr (record { rest = two.rest; other = two.other; a = two.a; b = two.b; first = leads two.rest two.first; second = leads two.other two.second; answers = two.answers; also = two.also; apart = two.apart })
+
+-- ---- what is learnt, step by step
+
+pub learns_none : (c : Component) (calls : List ACall) (table : Table) → IsTable c calls table → Learns c calls table table
+learns_none c calls table is = record { right = is; grows = record { states = λ n x at. at; answers = λ q a known. known }; reached = λ start all. all }
+
+pub learns_on : (c : Component) (calls : List ACall) (a b d : Table) → Learns c calls a b → Learns c calls b d → Learns c calls a d
+learns_on c calls a b d x y = record { right = y.right; grows = grows_on a b d x.grows y.grows; reached = λ start all. y.reached start (x.reached start all) }
+
+pub fault_earlier : (c : Component) (calls : List ACall) (bound : ℕ) (old mid : Table) (fault : FollowFault) → Learns c calls old mid → IsFollowFault c calls bound mid fault → IsFollowFault c calls bound old fault
+fault_earlier c calls bound old mid (Offends call) learns is = (λ start all. is start (learns.reached start all))
+fault_earlier c calls bound old mid Memory learns is = tt
 
 -- ---- questions
 

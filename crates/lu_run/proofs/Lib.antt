@@ -3,6 +3,8 @@ pub mod Asked
 pub mod Resting
 pub mod Learning
 pub mod Simulated
+pub mod Known
+pub mod Rounds
 pub mod Followed
 pub mod Automated
 pub mod Histories
@@ -15,3 +17,6 @@ pub mod Completed
 pub mod Stuck
 pub mod Saying
 pub mod Failing
+pub mod BeginningLines
+pub mod ReadRuns
+pub mod SetupLines

@@ -16,8 +16,9 @@ use Rattle.lu_run.specs.declared.table.Rests.{Rests}
 use Rattle.lu_run.specs.declared.table.Table.{Table}
 use Rattle.lu_run.specs.Asking.{HasRest, PlaysFromSome}
 use Rattle.lu_run.specs.Tables.{Answer, IsRight, IsTable, recorded}
-use Rattle.lu_run.specs.Following.{NextState, question_of}
-use Rattle.lu_run.specs.Judging.{AreAnswered, InState, NextRest}
+use Rattle.lu_run.specs.Following.{AreAnswered, NextState, question_of}
+use Rattle.lu_run.specs.Judging.{InState}
+use Rattle.lu_run.specs.Offending.{NextRest}
 
 -- ---- lists of operations that take effect
 

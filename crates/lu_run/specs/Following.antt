@@ -1,10 +1,13 @@
 -- The monitor over the automaton, as far as it has been asked.
-use Rattle.std.specs.Prelude.{◌≡◌, ℕ, ◌<◌, List, Option, Some, None, IfOk, IfSome, IsSome, Result, slice_get}
+use Rattle.std.specs.Prelude.{◌≡◌, ℕ, ◌<◌, List, length, Option, Some, None, IfOk, IsSome, Result, slice_get}
+use Rattle.lu_test.specs.declared.matrix.Call.{Call as ACall}
 use Rattle.lu_history.specs.declared.serial.SerialOutcome.{SerialOutcome}
 use Rattle.lu_linearization.specs.declared.configuration.Configuration.{Configuration as Kept}
-use Rattle.lu_linearization.specs.Monitors.{AreClosed, by_thread}
+use Rattle.lu_linearization.specs.Configurations.{Configuration}
+use Rattle.lu_linearization.specs.Monitors.{AreClosed, Holds, by_thread}
 use Rattle.lu_run.specs.declared.automaton.ThreadCall.{ThreadCall}
 use Rattle.lu_run.specs.declared.table.Question.{Question}
+use Rattle.lu_run.specs.declared.table.Rests.{Rests}
 use Rattle.lu_run.specs.declared.table.Table.{Table}
 use Rattle.lu_run.specs.Tables.{recorded}
 
@@ -41,14 +44,29 @@ abbrev pub AllKnown : Table → List (Option ThreadCall) → List Kept → Type 
 AllKnown table pending list =
     (i : ℕ) (one : Kept) → slice_get list i ≡ Some one → IsKnownAt table pending one
 
--- each pending call is one of its thread, a number below 8
-abbrev pub AreSeated : List (Option ThreadCall) → Type 0
-AreSeated pending =
-    (t : ℕ) (call : ThreadCall) → by_thread pending t ≡ Some call → call.thread < 8
+-- each pending call is one of these calls, of one of eight threads
+abbrev pub AreSeated : List ACall → List (Option ThreadCall) → Type 0
+AreSeated calls pending =
+    (t : ℕ) (call : ThreadCall) → by_thread pending t ≡ Some call
+    → (t < 8) × (call.thread < 8) × (call.call < length calls)
+
+-- the table has a state of this number
+abbrev pub HasState : Table → ℕ → Type 0
+HasState table n = (state : Rests) × (slice_get table.states.keys n ≡ Some state)
+
+-- the table has the states of the configurations
+abbrev pub HasStates : Table → List Kept → Type 0
+HasStates table list = (d : Configuration ℕ) → Holds list d → HasState table d.state
+
+-- the answers to all questions in the configurations are known
+abbrev pub AreAnswered : Table → (ℕ → Option ThreadCall) → List Kept → Type 0
+AreAnswered table pending list =
+    (d : Configuration ℕ) (t : ℕ) (call : ThreadCall) → Holds list d → pending t ≡ Some call
+    → d.effects t ≡ None → IsSome (recorded table (question_of d.state call))
 
 -- what is returned, if anything is, has the configurations of this list after a call of thread t, and
 -- those that come of them
 abbrev pub IfCloses : {E : Type 0} → Table → List (Option ThreadCall) → ℕ → List Kept
-    → Result (Option (List Kept)) E → Type 0
+    → Result (List Kept) E → Type 0
 IfCloses table pending t list result =
-    IfOk result (λ next. IfSome next (AreClosed (NextState table) (by_thread pending) t list))
+    IfOk result (AreClosed (NextState table) (by_thread pending) t list)

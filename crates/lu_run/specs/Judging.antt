@@ -1,5 +1,5 @@
 -- The runs that pass.
-use Rattle.std.specs.Prelude.{◌≢◌, ◌<◌, ◌+◌, Bool, true, MatchBool, ◌≡◌, ◌↔◌, ℕ, List, [], ◌∷◌, ◌++◌, length, take, Option, Some, None, IfOk, IfSome, IsSome, Result, replicate, slice_get, unwrap_or}
+use Rattle.std.specs.Prelude.{◌≢◌, ◌<◌, ◌+◌, Bool, true, MatchBool, ◌≡◌, ◌↔◌, ℕ, List, [], ◌∷◌, ◌++◌, length, take, Option, Some, None, IfOk, Result, replicate, slice_get, unwrap_or}
 use Rattle.lu_component.specs.Component.{Component}
 use Rattle.lu_test.specs.declared.matrix.Call.{Call as ACall}
 use Rattle.lu_test.specs.Matrix.{Matrix, matrix_with}
@@ -11,10 +11,9 @@ use Rattle.lu_history.specs.declared.operation.OpId.{OpId}
 use Rattle.lu_history.specs.Histories.{IsPending}
 use Rattle.lu_history.specs.Parts.{keep_pending}
 use Rattle.lu_history.specs.declared.serial.SerialOp.{SerialOp}
-use Rattle.lu_history.specs.declared.serial.SerialOutcome.{SerialOutcome}
 use Rattle.lu_serial.specs.Serial.{IsSerialHistory}
 use Rattle.lu_witness.specs.Witnesses.{HasWitness, IsGood}
-use Rattle.lu_client.specs.Alone.{Plays, Rest, RestAfter, rest_of}
+use Rattle.lu_client.specs.Alone.{Rest, RestAfter, rest_of}
 use Rattle.lu_linearization.specs.declared.configuration.Configuration.{Configuration as Kept}
 use Rattle.lu_linearization.specs.Linearizations.{IsLinearization}
 use Rattle.lu_linearization.specs.Configurations.{Configuration, IsConfiguration, Reads, pending_call}
@@ -24,13 +23,16 @@ use Rattle.lu_run.specs.declared.run.Run.{Run}
 use Rattle.lu_run.specs.declared.run.RunEvent.{RunEvent}
 use Rattle.lu_run.specs.declared.table.Rests.{Rests}
 use Rattle.lu_run.specs.declared.table.Table.{Table}
+use Rattle.lu_run.specs.declared.following.FollowFault.{FollowFault}
+use Rattle.lu_run.specs.declared.following.FollowFault.TheVariants as fault
 use Rattle.lu_run.specs.declared.judging.Follower.{Follower}
 use Rattle.lu_run.specs.declared.judging.RunVerdict.{RunVerdict}
-use Rattle.lu_run.specs.declared.judging.RunVerdict.TheVariants.{Passes, FailsAt, CannotBeStuck as NotStuck, Undecided}
+use Rattle.lu_run.specs.declared.judging.RunVerdict.TheVariants.{Passes, FailsAt, CannotBeStuck as NotStuck, Offends}
 use Rattle.lu_run.specs.declared.table.Question.{Question}
 use Rattle.lu_run.specs.Asking.{HasRest, IsAtRest, rest_at}
 use Rattle.lu_run.specs.Completions.{HasCompletion}
-use Rattle.lu_run.specs.Following.{AreSeated, NextState, question_of}
+use Rattle.lu_run.specs.Following.{AreAnswered, AreSeated, HasStates, NextState}
+use Rattle.lu_run.specs.Offending.{IsOffence, Learns}
 use Rattle.lu_run.specs.Runs.{IsRun, history_of, matrix_of, numbers_of}
 use Rattle.lu_run.specs.Tables.{IsTable, recorded}
 
@@ -59,12 +61,6 @@ abbrev pub call_of : List ACall → List RunEvent → OpId → ThreadCall
 call_of calls events a =
     record { thread = a.t; call = unwrap_or (slice_get (numbers_of a.t events) a.k) (length calls) }
 
--- the call, made alone, leads from this rest with this outcome to the rest `after`
-abbrev pub NextRest : Component → List ACall → Rest → ThreadCall → SerialOutcome → Rest → Type 0
-NextRest c calls rest call outcome after =
-    (a : ACall) × (slice_get calls call.call ≡ Some a)
-    × Plays c rest call.thread a outcome after
-
 -- the rest is one of the state with this number
 abbrev pub InState : Table → ℕ → Rest → Type 0
 InState table n rest =
@@ -77,30 +73,25 @@ Represents table list c =
     (d : Configuration ℕ) × Holds list d × InState table d.state c.state
     × ((t : ℕ) → d.effects t ≡ c.effects t)
 
--- the answers to all questions in the configurations are known
-abbrev pub AreAnswered : Table → (ℕ → Option ThreadCall) → List Kept → Type 0
-AreAnswered table pending list =
-    (d : Configuration ℕ) (t : ℕ) (call : ThreadCall) → Holds list d → pending t ≡ Some call
-    → d.effects t ≡ None → IsSome (recorded table (question_of d.state call))
-
 -- After the history h, a beginning of that of the run: the calls in `pending` are the pending ones,
 -- the list has the configurations of all linearizations, and the answers to all questions are known.
 pub record IsFollowed (c : Component) (s : State) (calls : List ACall) (events : List RunEvent)
     (table : Table) (pending : List (Option ThreadCall)) (list : List Kept) (h : List Event)
     : Type 0 where
   pub automaton : IsTable c calls table
-  pub seated : AreSeated pending
+  pub seated : AreSeated calls pending
   pub pends : (t : ℕ) → by_thread pending t ≡ pending_call (call_of calls events) h t
   pub configurations : (d : Configuration Rest) → IsConfiguration (RestAfter s) h d
       ↔ Represents table list d
-  pub states : (d : Configuration ℕ) → Holds list d
-      → (state : Rests) × (slice_get table.states.keys d.state ≡ Some state)
+  pub states : HasStates table list
   pub answered : AreAnswered table (by_thread pending) list
 
--- The table's answers are right, and each pending call is one of its thread, of eight.
+-- The table's answers are right, it has the states of the configurations, and each pending call is
+-- one of these calls, of one of eight threads.
 pub record IsReady (c : Component) (calls : List ACall) (f : Follower) : Type 0 where
   pub table : IsTable c calls f.table
-  pub seated : AreSeated f.pending
+  pub states : HasStates f.table f.monitor
+  pub seated : AreSeated calls f.pending
   pub eight : length f.pending ≡ 8
 
 -- the follower has followed the run up to this history
@@ -116,11 +107,14 @@ Advances c calls event old new =
     → events ≡ done ++ event ∷ more → HasFollowed c s calls events old (history_of done)
     → HasFollowed c s calls events new (history_of (done ++ event ∷ []))
 
--- the same, of what a step returns, unless it is undecided or memory ran out
+-- the same, of what a step returns, unless a serial run offends or memory ran out
 abbrev pub IfAdvances : {E : Type 0} → Component → List ACall → RunEvent → Follower
-    → Result (Option Follower) E → Type 0
-IfAdvances c calls event old result =
-    IfOk result (λ next. IfSome next (Advances c calls event old))
+    → Result Follower E → Type 0
+IfAdvances c calls event old result = IfOk result (Advances c calls event old)
+
+-- the new follower's table has learnt from the old one's
+abbrev pub IfLearns : {E : Type 0} → Component → List ACall → Follower → Result Follower E → Type 0
+IfLearns c calls old result = IfOk result (λ next. Learns c calls old.table next.table)
 
 -- the matrix with this setup, in which eight threads make no calls
 abbrev pub idle_matrix : List ACall → Matrix
@@ -177,20 +171,30 @@ pub record IsNeverStuck (s : State) (events : List RunEvent) (t : ℕ) : Type 0 
   pub pending : IsPending (history_of events) call
   pub never : HasWitness (IsSerialHistory s) (keep_pending call.t (history_of events)) → ⊥
 
--- The verdict on the run is right, and a run that does not pass has its reason.
-abbrev pub IsVerdict : State → List RunEvent → Bool → RunVerdict → Type 0
-IsVerdict s events stuck Passes = IsPassing s events stuck
-IsVerdict s events stuck (FailsAt n) =
-    IsFirstWithout s events n × (IsPassing s events stuck → ⊥)
-IsVerdict s events stuck (NotStuck t) =
-    (stuck ≡ true) × IsNeverStuck s events t × (IsPassing s events stuck → ⊥)
-IsVerdict s events stuck Undecided = Unit {0}
+-- the run passes
+abbrev pub RunPasses : State → Run → Type 0
+RunPasses s run = IsPassing s run.events.items run.is_stuck
+
+-- The verdict on the run is right, and a run that does not pass has its reason. Where a serial run of
+-- its calls offends, the verdict is that call.
+abbrev pub IsVerdict : Component → ℕ → State → Run → RunVerdict → Type 0
+IsVerdict c bound s run Passes = RunPasses s run
+IsVerdict c bound s run (FailsAt n) =
+    IsFirstWithout s run.events.items n × (RunPasses s run → ⊥)
+IsVerdict c bound s run (NotStuck t) =
+    (run.is_stuck ≡ true) × IsNeverStuck s run.events.items t × (RunPasses s run → ⊥)
+IsVerdict c bound s run (Offends t n) = IsOffence c run.calls.items (rest_of s) bound t n
 
 -- from each start with the setup of the matrix, the verdict on the run is right
-abbrev pub JudgesRun : {E : Type 0} → Component → Matrix → Run → Result RunVerdict E → Type 0
-JudgesRun c matrix run result =
+abbrev pub JudgesRun : {E : Type 0} → Component → Matrix → ℕ → Run → Result RunVerdict E → Type 0
+JudgesRun c matrix bound run result =
     FromEachStart c (matrix_of matrix.setup run.calls.items run.events.items)
-    (λ s. IfOk result (IsVerdict s run.events.items run.is_stuck))
+    (λ s. IfOk result (IsVerdict c bound s run))
+
+-- the verdict names the call that offends
+abbrev pub NamesOffence : FollowFault → RunVerdict → Type 0
+NamesOffence (fault.Offends call) verdict = verdict ≡ Offends call.thread call.call
+NamesOffence fault.Memory verdict = ⊥
 
 -- ---- the reason
 

@@ -6,6 +6,11 @@ pub mod Checking
 pub mod Asking
 pub mod Tables
 pub mod Following
+pub mod Offending
 pub mod Completions
 pub mod Judging
 pub mod Reading
+pub mod Beginnings
+pub mod Setups
+pub mod Bundled
+pub mod Verdicts

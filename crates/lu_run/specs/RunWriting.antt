@@ -25,12 +25,16 @@ abbrev pub outcome_words : Outcome → List ℕ
 outcome_words (Ret n) = codes "ret " ++ decimal n
 outcome_words Trap = codes "trap"
 
--- the line of an event of a run with these calls
+-- an event of a run with these calls
+abbrev pub event_words : List Op → List ACall → RunEvent → List ℕ
+event_words operations calls (Call t n) =
+    codes "call " ++ decimal t ++ codes " " ++ numbered_call operations calls n
+event_words operations calls (Return t outcome) =
+    codes "return " ++ decimal t ++ codes " " ++ outcome_words outcome
+
+-- its line
 abbrev pub event_text : List Op → List ACall → RunEvent → List ℕ
-event_text operations calls (Call t n) =
-    codes "call " ++ decimal t ++ codes " " ++ numbered_call operations calls n ++ 10 ∷ []
-event_text operations calls (Return t outcome) =
-    codes "return " ++ decimal t ++ codes " " ++ outcome_words outcome ++ 10 ∷ []
+event_text operations calls e = event_words operations calls e ++ 10 ∷ []
 
 abbrev pub events_text : List Op → List ACall → List RunEvent → List ℕ
 events_text operations calls events = flat_map (event_text operations calls) events

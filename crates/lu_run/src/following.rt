@@ -1,19 +1,41 @@
 //! The monitor after a call, over the automaton as far as it is needed.
 
-ghost use Rattle.std.specs.Prelude.{◌≡◌, ◌<◌, ◌≤◌, IfOk, IfSome, IsTrue, OnOk, length, slice_get};
+ghost use Rattle.std.specs.Prelude.{◌≡◌, ◌<◌, ◌≤◌, IfErr, IfOk, OnOk, false, slice_get};
 ghost use Rattle.lu_machine.specs.declared.TheConstants.{MOST_MOVES};
-ghost use Rattle.lu_run.specs.Following.{AllKnown, AreSeated, IfCloses, IsKnownAt, question_at};
-ghost use Rattle.lu_run.specs.Tables.{AreCallsOf, Grows, IsTable};
+ghost use Rattle.lu_linearization.specs.Monitors.{by_thread};
+ghost use Rattle.lu_run.specs.Following.{AllKnown, AreAnswered, AreSeated, HasState, HasStates, IfCloses, IsKnownAt, question_at};
+ghost use Rattle.lu_run.specs.Offending.{IsFollowFault, Learns};
+ghost use Rattle.lu_run.specs.Tables.{AreCallsOf, IsTable};
+ghost use Rattle.lu_run.specs.declared.following.FollowFault.TheVariants.{Memory};
 
 use crate::automaton::{ThreadCall, question_of};
-use crate::table::{Question, Table, learn, recall};
+use crate::table::{Question, Table, learn};
 use lu_component::Component;
 use lu_linearization::{Configuration, Monitor};
 use lu_test::Call;
 use std::alloc::{AllocError, Global};
 
-/// The most rounds in which questions come up: after each round, one more operation may take effect.
-const MOST_ROUNDS: u8 = 16;
+/// Why a run is not followed.
+#[derive(Clone, Copy, Debug, Drop)]
+pub(crate) enum FollowFault {
+    /// After some serial calls, this call takes more moves than the bound, or has two outcomes.
+    Offends(ThreadCall),
+
+    /// Out of memory.
+    Memory,
+}
+
+impl From<AllocError> for FollowFault {
+    ghost from_gives = { λ _ e. e ≡ Memory };
+
+    fn from(_refused: AllocError) -> FollowFault {
+        FollowFault::Memory
+    }
+}
+
+/// Rounds in which all questions come up: after each round, one more operation may take effect, and
+/// at most eight do.
+const ROUNDS: u8 = 9;
 
 /// What the thread's pending call answers in the configuration: the question, if the thread has a
 /// pending call that has not taken effect.
@@ -34,40 +56,7 @@ fn question_at(
     }
 }
 
-/// Whether the answers to all questions in the configuration are known.
-fn is_known(table: &Table, pending: &[Option<ThreadCall>; 8], one: &Configuration) -> bool
-    ensures { IsTrue result → IsKnownAt table.now pending.now one.now }
-{
-    for thread in 0..8 {
-        match question_at(pending, one, thread) {
-            None => {}
-            Some(question) => {
-                if recall(table, question).is_none() {
-                    return false;
-                }
-            }
-        }
-    }
-    true
-}
-
-/// Whether the answers to all questions in these configurations are known.
-fn all_known(
-    table: &Table,
-    pending: &[Option<ThreadCall>; 8],
-    configurations: &[Configuration],
-) -> bool
-    ensures { IsTrue result → AllKnown table.now pending.now configurations.now }
-{
-    for one in configurations {
-        if !is_known(table, pending, one) {
-            return false;
-        }
-    }
-    true
-}
-
-/// Learns the answers to all questions in the configuration. False where one has none.
+/// Learns the answers to all questions in the configuration. Returns whether one was not known.
 fn learn_at(
     alloc: Global,
     component: &Component,
@@ -76,28 +65,30 @@ fn learn_at(
     table: &mut Table,
     pending: &[Option<ThreadCall>; 8],
     one: &Configuration,
-) -> Result<bool, AllocError>
+) -> Result<bool, FollowFault>
     requires table { IsTable component.now calls.now table.old }
     requires calls { AreCallsOf component.now calls.now }
-    requires seated { AreSeated pending.now }
+    requires seated { AreSeated calls.now pending.now }
+    requires state { HasState table.old one.now.state }
     requires few { bound ≤ MOST_MOVES }
-    ensures table { OnOk result (IsTable component.now calls.now table.new) }
-    ensures grows { OnOk result (Grows table.old table.new) }
+    ensures learns { OnOk result (Learns component.now calls.now table.old table.new) }
+    ensures known { OnOk result (IsKnownAt table.new pending.now one.now) }
+    ensures same { IfOk result (λ new. new ≡ false → table.new ≡ table.old) }
+    ensures offends { IfErr result (IsFollowFault component.now calls.now bound table.old) }
 {
+    let mut new = false;
     for thread in 0..8 {
         match question_at(pending, one, thread) {
             None => {}
             Some(question) => {
-                if !learn(alloc, component, calls, bound, table, question)? {
-                    return Ok(false);
-                }
+                new |= learn(alloc, component, calls, bound, table, question)?;
             }
         }
     }
-    Ok(true)
+    Ok(new)
 }
 
-/// Learns the answers to all questions in these configurations. False where one has none.
+/// Learns the answers to all questions in these configurations. Returns whether one was not known.
 fn learn_all(
     alloc: Global,
     component: &Component,
@@ -106,24 +97,30 @@ fn learn_all(
     table: &mut Table,
     pending: &[Option<ThreadCall>; 8],
     configurations: &[Configuration],
-) -> Result<bool, AllocError>
+) -> Result<bool, FollowFault>
     requires table { IsTable component.now calls.now table.old }
     requires calls { AreCallsOf component.now calls.now }
-    requires seated { AreSeated pending.now }
+    requires seated { AreSeated calls.now pending.now }
+    requires states { HasStates table.old configurations.now }
     requires few { bound ≤ MOST_MOVES }
-    ensures table { OnOk result (IsTable component.now calls.now table.new) }
-    ensures grows { OnOk result (Grows table.old table.new) }
+    ensures learns { OnOk result (Learns component.now calls.now table.old table.new) }
+    ensures known { OnOk result (AllKnown table.new pending.now configurations.now) }
+    ensures same { IfOk result (λ new. new ≡ false → table.new ≡ table.old) }
+    ensures offends { IfErr result (IsFollowFault component.now calls.now bound table.old) }
 {
+    let mut new = false;
     for one in configurations {
-        if !learn_at(alloc, component, calls, bound, table, pending, one)? {
-            return Ok(false);
-        }
+        new |= learn_at(alloc, component, calls, bound, table, pending, one)?;
     }
-    Ok(true)
+    Ok(new)
 }
 
-/// The monitor after a call of the thread, where all its questions are known. None where a call
-/// takes more moves than the bound, or has two outcomes.
+/// The monitor after a call of the thread, where all its questions are known.
+///
+/// # Errors
+///
+/// After some serial calls, a call takes more moves than the bound, or has two outcomes; or out of
+/// memory.
 pub(crate) fn follow(
     alloc: Global,
     component: &Component,
@@ -133,33 +130,24 @@ pub(crate) fn follow(
     monitor: &Monitor,
     pending: &[Option<ThreadCall>; 8],
     thread: u8,
-) -> Result<Option<Monitor>, AllocError>
+) -> Result<Monitor, FollowFault>
     requires table { IsTable component.now calls.now table.old }
     requires calls { AreCallsOf component.now calls.now }
-    requires seated { AreSeated pending.now }
+    requires states { HasStates table.old monitor.now }
+    requires seated { AreSeated calls.now pending.now }
     requires thread { thread < 8 }
     requires few { bound ≤ MOST_MOVES }
-    ensures table { OnOk result (IsTable component.now calls.now table.new) }
-    ensures grows { OnOk result (Grows table.old table.new) }
+    ensures learns { OnOk result (Learns component.now calls.now table.old table.new) }
     ensures closed { IfCloses table.new pending.now thread monitor.now result }
-    ensures known { IfOk result (λ m. IfSome m (AllKnown table.new pending.now)) }
+    ensures known { IfOk result (AreAnswered table.new (by_thread pending.now)) }
+    ensures offends { IfErr result (IsFollowFault component.now calls.now bound table.old) }
 {
-    for _round in 0..MOST_ROUNDS {
+    for _round in 0..ROUNDS {
         let next = monitor.call(alloc, &*table, pending, thread)?;
-        if all_known(table, pending, next.configurations()) {
-            return Ok(Some(next));
-        }
-        if !learn_all(
-            alloc,
-            component,
-            calls,
-            bound,
-            table,
-            pending,
-            next.configurations(),
-        )? {
-            return Ok(None);
+        let all = next.configurations();
+        if !learn_all(alloc, component, calls, bound, table, pending, all)? {
+            return Ok(next);
         }
     }
-    Ok(None)
+    Ok(monitor.call(alloc, &*table, pending, thread)?)
 }

@@ -1,14 +1,15 @@
 //! The verdict on a run.
 
-ghost use Rattle.std.specs.Prelude.{◌≡◌, ◌<◌, ◌≤◌, ◌↔◌, IfOk, IfSome, IsTrue};
+ghost use Rattle.std.specs.Prelude.{◌≡◌, ◌<◌, ◌≤◌, ◌↔◌, IfErr, IfOk, IsTrue};
 ghost use Rattle.lu_machine.specs.declared.TheConstants.{MOST_MOVES};
 ghost use Rattle.lu_machine.specs.Starts.{CanRun};
-ghost use Rattle.lu_run.specs.Judging.{FindsLost, IfAdvances, IsEndVerdict, IsReady, JudgesRun, StuckIfPending, TellsNotStuck};
+ghost use Rattle.lu_run.specs.Judging.{FindsLost, IfAdvances, IfLearns, IsEndVerdict, IsReady, JudgesRun, NamesOffence, StuckIfPending, TellsNotStuck};
+ghost use Rattle.lu_run.specs.Offending.{IsFollowFault};
 ghost use Rattle.lu_run.specs.Runs.{IsEventOf, IsRun};
 ghost use Rattle.lu_run.specs.Tables.{AreCallsOf};
 
 use crate::automaton::ThreadCall;
-use crate::following::follow;
+use crate::following::{FollowFault, follow};
 use crate::run::{Run, RunEvent};
 use crate::starting::{first_table, start_of};
 use crate::table::Table;
@@ -31,8 +32,9 @@ pub enum RunVerdict {
     /// thread.
     CannotBeStuck(u8),
 
-    /// A call that the run might have made takes more moves than the bound, or has two outcomes.
-    Undecided,
+    /// The specification is none: after a serial run of some of the run's calls, this call, made by
+    /// this thread, takes more moves than the bound, or has two outcomes.
+    Offends { thread: u8, call: u32 },
 }
 
 /// A run as far as it is followed.
@@ -45,8 +47,12 @@ pub(crate) struct Follower {
     pub(crate) monitor: Monitor,
 }
 
-/// The follower after one more event. None where a call takes more moves than the bound, or has two
-/// outcomes.
+/// The follower after one more event.
+///
+/// # Errors
+///
+/// After some serial calls, a call takes more moves than the bound, or has two outcomes; or out of
+/// memory.
 fn advance(
     alloc: Global,
     component: &Component,
@@ -54,13 +60,15 @@ fn advance(
     bound: u16,
     follower: Follower,
     event: RunEvent,
-) -> Result<Option<Follower>, AllocError>
+) -> Result<Follower, FollowFault>
     requires ready { IsReady component.now calls.now follower }
     requires calls { AreCallsOf component.now calls.now }
     requires event { IsEventOf calls.now event }
     requires few { bound ≤ MOST_MOVES }
-    ensures ready { IfOk result (λ next. IfSome next (IsReady component.now calls.now)) }
+    ensures ready { IfOk result (IsReady component.now calls.now) }
+    ensures learns { IfLearns component.now calls.now follower result }
     ensures advances { IfAdvances component.now calls.now event follower result }
+    ensures offends { IfErr result (IsFollowFault component.now calls.now bound follower.table) }
 {
     let Follower {
         mut table,
@@ -70,26 +78,23 @@ fn advance(
     match event {
         RunEvent::Call { thread, call } => {
             pending[usize::from(thread)] = Some(ThreadCall { thread, call });
-            let followed = follow(
+            let next = follow(
                 alloc, component, calls, bound, &mut table, &monitor, &pending, thread,
             )?;
-            match followed {
-                None => Ok(None),
-                Some(next) => Ok(Some(Follower {
-                    table,
-                    pending,
-                    monitor: next,
-                })),
-            }
+            Ok(Follower {
+                table,
+                pending,
+                monitor: next,
+            })
         }
         RunEvent::Return { thread, outcome } => {
             pending[usize::from(thread)] = None;
             let next = monitor.ret(alloc, thread, outcome)?;
-            Ok(Some(Follower {
+            Ok(Follower {
                 table,
                 pending,
                 monitor: next,
-            }))
+            })
         }
     }
 }
@@ -152,6 +157,19 @@ fn first_lost(lost: Option<usize>, number: usize, monitor: &Monitor) -> Option<u
     None
 }
 
+/// The verdict on a run that is not followed.
+fn offence(fault: FollowFault) -> Result<RunVerdict, AllocError>
+    ensures { IfOk result (NamesOffence fault) }
+{
+    match fault {
+        FollowFault::Offends(call) => Ok(RunVerdict::Offends {
+            thread: call.thread,
+            call: call.call,
+        }),
+        FollowFault::Memory => Err(AllocError),
+    }
+}
+
 /// Whether the run passes, with the component's serial runs as the specification, after the setup of
 /// the matrix. The matrix's threads don't matter.
 ///
@@ -159,6 +177,9 @@ fn first_lost(lost: Option<usize>, number: usize, monitor: &Monitor) -> Option<u
 /// each pending call, a serial run with the same operations gets stuck in this call (Burckhardt,
 /// Dern, Musuvathi and Tan, 2010). A run that does not pass has the number of the first event after
 /// which it has no linearization, or else a thread whose pending call can't be stuck.
+///
+/// The serial runs are a specification only if each call has one outcome after the same serial calls,
+/// within the bound. Where a call that comes up does not, the verdict names it.
 ///
 /// `bound`, up to 256, is the number of moves that an operation may take after its call. The memory
 /// that is needed depends on the states and the pending calls, and not on the length of the run.
@@ -177,7 +198,7 @@ pub fn judge_run(
     requires calls { AreCallsOf component.now run.now.calls.items }
     requires run { IsRun run.now.calls.items run.now.events.items }
     requires few { bound ≤ MOST_MOVES }
-    ensures { JudgesRun component.now matrix.now run.now result }
+    ensures { JudgesRun component.now matrix.now bound run.now result }
 {
     let start = start_of(alloc, component, matrix)?;
     let mut follower = Follower {
@@ -187,8 +208,9 @@ pub fn judge_run(
     };
     let mut lost = None;
     for (number, event) in run.events.iter().enumerate() {
-        let Some(next) = advance(alloc, component, &run.calls, bound, follower, *event)? else {
-            return Ok(RunVerdict::Undecided);
+        let next = match advance(alloc, component, &run.calls, bound, follower, *event) {
+            Ok(next) => next,
+            Err(fault) => return offence(fault),
         };
         lost = first_lost(lost, number, &next.monitor);
         follower = next;

@@ -1,11 +1,15 @@
 //! The automaton of the component's serial runs, as far as it has been asked.
 
-ghost use Rattle.std.specs.Prelude.{◌≡◌, ◌<◌, ◌≤◌, IfOk, IfSome, IsSome, IsTrue, None, OnOk, Some};
+ghost use Rattle.std.specs.Prelude.{◌≡◌, ◌<◌, ◌≤◌, IfErr, IfOk, IsSome, None, OnOk, Some, false, length};
 ghost use Rattle.lu_machine.specs.declared.TheConstants.{MOST_MOVES};
 ghost use Rattle.lu_run.specs.Asking.{AreRests};
-ghost use Rattle.lu_run.specs.Tables.{AreCallsOf, Grows, IsNumbered, IsTable, Keeps, Records, recorded};
+ghost use Rattle.lu_run.specs.Following.{HasState};
+ghost use Rattle.lu_run.specs.Offending.{IsFollowFault, Learns};
+ghost use Rattle.lu_run.specs.Tables.{AreCallsOf, IsNumbered, IsTable, Keeps, Records, recorded};
 
 use crate::asking::{Reply, ask_call};
+use crate::automaton::ThreadCall;
+use crate::following::FollowFault;
 use indexmap::{IndexMap, IndexSet};
 use lu_component::Component;
 use lu_history::SerialOutcome;
@@ -49,13 +53,19 @@ pub(crate) fn recall(table: &Table, question: Question) -> Option<Step>
 }
 
 /// The number of the state with these rests, which becomes a new state unless it is one already.
-/// None where the numbers don't suffice.
-fn number_of(states: &mut IndexSet<Rests>, rests: Rests) -> Result<Option<u32>, AllocError>
+///
+/// # Errors
+///
+/// Out of memory; so are more states than there are numbers.
+fn number_of(states: &mut IndexSet<Rests>, rests: Rests) -> Result<u32, AllocError>
     ensures grows { OnOk result (Keeps states.old.keys rests states.new.keys) }
-    ensures number { IfOk result (λ n. IfSome n (IsNumbered states.new.keys rests)) }
+    ensures number { IfOk result (IsNumbered states.new.keys rests) }
 {
     let (place, _) = states.insert_full(rests)?;
-    Ok(u32::try_from(place).ok())
+    match u32::try_from(place) {
+        Ok(number) => Ok(number),
+        Err(_) => Err(AllocError),
+    }
 }
 
 /// Records an answer.
@@ -70,8 +80,12 @@ fn record(
     Ok(())
 }
 
-/// Asks what the call answers in the state, and records it, unless that is known already. False
-/// where the call takes more moves than the bound, or has two outcomes.
+/// Asks what the call answers in the state, and records it, unless that is known already. Returns
+/// whether it was not known.
+///
+/// # Errors
+///
+/// The call takes more moves than the bound, or has two outcomes; or out of memory.
 pub(crate) fn learn(
     alloc: Global,
     component: &Component,
@@ -79,34 +93,31 @@ pub(crate) fn learn(
     bound: u16,
     table: &mut Table,
     question: Question,
-) -> Result<bool, AllocError>
+) -> Result<bool, FollowFault>
     requires table { IsTable component.now calls.now table.old }
     requires calls { AreCallsOf component.now calls.now }
+    requires state { HasState table.old question.state }
     requires thread { question.thread < 8 }
+    requires call { question.call < length calls.now }
     requires few { bound ≤ MOST_MOVES }
-    ensures table { OnOk result (IsTable component.now calls.now table.new) }
-    ensures grows { OnOk result (Grows table.old table.new) }
-    ensures known { IfOk result (λ known. IsTrue known → IsSome (recorded table.new question)) }
+    ensures learns { OnOk result (Learns component.now calls.now table.old table.new) }
+    ensures known { OnOk result (IsSome (recorded table.new question)) }
+    ensures same { IfOk result (λ new. new ≡ false → table.new ≡ table.old) }
+    ensures offends { IfErr result (IsFollowFault component.now calls.now bound table.old) }
 {
     if recall(table, question).is_some() {
-        return Ok(true);
+        return Ok(false);
     }
     let Some(state) = table.states.get_index(question.state as usize) else {
-        return Ok(false);
+        unreachable!();
     };
-    let Some(call) = calls.get(question.call as usize) else {
-        return Ok(false);
-    };
-    let Some(reply) = ask_call(
-        alloc,
-        component,
-        call,
-        question.thread,
-        &state.positions,
-        bound,
-    )?
-    else {
-        return Ok(false);
+    let call = &calls[question.call as usize];
+    let thread = question.thread;
+    let Some(reply) = ask_call(alloc, component, call, thread, &state.positions, bound)? else {
+        return Err(FollowFault::Offends(ThreadCall {
+            thread,
+            call: question.call,
+        }));
     };
     match reply {
         Reply::Blocked => {
@@ -114,9 +125,7 @@ pub(crate) fn learn(
             Ok(true)
         }
         Reply::Ends(outcome, positions) => {
-            let Some(number) = number_of(&mut table.states, Rests { positions })? else {
-                return Ok(false);
-            };
+            let number = number_of(&mut table.states, Rests { positions })?;
             record(&mut table.answers, question, Some((outcome, number)))?;
             Ok(true)
         }

@@ -3,7 +3,7 @@
 ghost use Rattle.std.specs.Prelude.{◌≡◌, IfOk, string_bytes};
 ghost use Rattle.lu_text.specs.Writing.{Writes};
 ghost use Rattle.lu_run.specs.RunWriting as spec;
-ghost use Rattle.lu_run.specs.RunWriting.{event_text, events_text, numbered_call, run_text, stuck_text};
+ghost use Rattle.lu_run.specs.RunWriting.{event_text, event_words, events_text, numbered_call, run_text, stuck_text};
 
 use crate::run::{Run, RunEvent};
 use lu_component::{Component, Op};
@@ -12,7 +12,7 @@ use lu_test::{Call, write_call};
 use std::alloc::{AllocError, Global};
 
 /// Adds the call with this number, if there is one.
-fn put_call(
+pub(crate) fn put_call(
     text: &mut String,
     operations: &[Op],
     calls: &[Call],
@@ -35,6 +35,27 @@ fn put_outcome(text: &mut String, outcome: Outcome) -> Result<(), AllocError>
     }
 }
 
+/// Adds the words of an event.
+pub(crate) fn put_event_words(
+    text: &mut String,
+    operations: &[Op],
+    calls: &[Call],
+    event: RunEvent,
+) -> Result<(), AllocError>
+    ensures { Writes result text.old text.new (event_words operations.now calls.now event) }
+{
+    match event {
+        RunEvent::Call { thread, call } => {
+            write!(text, "call {thread} ")?;
+            put_call(text, operations, calls, call)
+        }
+        RunEvent::Return { thread, outcome } => {
+            write!(text, "return {thread} ")?;
+            put_outcome(text, outcome)
+        }
+    }
+}
+
 /// Adds the line of an event.
 fn put_event(
     text: &mut String,
@@ -44,18 +65,8 @@ fn put_event(
 ) -> Result<(), AllocError>
     ensures { Writes result text.old text.new (event_text operations.now calls.now event) }
 {
-    match event {
-        RunEvent::Call { thread, call } => {
-            write!(text, "call {thread} ")?;
-            put_call(text, operations, calls, call)?;
-            text.push('\n')
-        }
-        RunEvent::Return { thread, outcome } => {
-            write!(text, "return {thread} ")?;
-            put_outcome(text, outcome)?;
-            text.push('\n')
-        }
-    }
+    put_event_words(text, operations, calls, event)?;
+    text.push('\n')
 }
 
 /// Adds the lines of the events.

@@ -1,7 +1,7 @@
 //! Texts of runs of a slot.
 
 use lu_lang::read_component;
-use lu_run::{RunFault, RunFaultKind, read_run, write_run};
+use lu_run::{RunFault, RunFaultKind, is_run_text, read_run, read_setup, write_run};
 use lu_text::Fault;
 use std::process::Abort;
 use std::test::Fail;
@@ -100,5 +100,31 @@ fn runs_are_written(rt: HostRuntime) -> Result<(), Fail> {
     assert!(rt; whole.as_str() == text);
     let part = written(&rt, text.as_bytes(), 2)?;
     assert!(rt; part.as_str() == "run\ncall 0 put 7\ncall 1 take\n");
+    Ok(())
+}
+
+/// The number of calls of the setup that the text says.
+fn setup_size(rt: &(impl AllocGlobal + Abort), text: &[u8]) -> Result<usize, Fail> {
+    let component = read_component(rt.alloc(), COMPONENT)?;
+    match read_setup(rt.alloc(), &component, text) {
+        Ok(matrix) => Ok(matrix.setup().as_slice().len()),
+        Err(_) => Err(Fail::from("the text is no setup")),
+    }
+}
+
+#[test]
+fn setups_are_read(rt: HostRuntime) -> Result<(), Fail> {
+    assert!(rt; setup_size(&rt, b"")? == 0);
+    assert!(rt; setup_size(&rt, b"# before\nsetup put 7;take\n")? == 2);
+    assert!(rt; setup_size(&rt, b"setup put 7\nthread take\n")? == 1);
+    Ok(())
+}
+
+#[test]
+fn texts_of_runs(rt: HostRuntime) -> Result<(), Fail> {
+    assert!(rt; is_run_text(rt.alloc(), b"# recorded\n\n run # 7\n")?);
+    assert!(rt; !is_run_text(rt.alloc(), b"running\n")?);
+    assert!(rt; !is_run_text(rt.alloc(), b"thread put 7\nrun\n")?);
+    assert!(rt; !is_run_text(rt.alloc(), b"")?);
     Ok(())
 }

@@ -3,8 +3,8 @@ use Rattle.std.proofs.Common.{[], sym, subst}
 use Rattle.std.proofs.lemmas.Result.{IfOk-weaker}
 use Rattle.lu_linearization.specs.Monitors.{AreClosed, by_thread}
 use Rattle.lu_always.specs.Nodes.{IsAfterEvent, waits_in}
-use Rattle.lu_always.specs.Tables.{Goes, table_of}
-use Rattle.lu_always.proofs.Closed.{closed_same}
+use Rattle.lu_answers.specs.Tables.{Goes, table_of}
+use Rattle.lu_answers.proofs.Closed.{closed_same}
 use Rattle.lu_always.proofs.following.after_event.Goals as goal
 
 pub returns-in-Call : goal.returns-in-Call

@@ -1,6 +1,6 @@
 use Rattle.std.proofs.Common.{arith, rules, [], ◌≡◌, true, refl}
 use Rattle.lu_linearization.specs.Monitors.{CanBeStuck}
-use Rattle.lu_always.specs.Tables.{Goes, table_of}
+use Rattle.lu_answers.specs.Tables.{Goes, table_of}
 use Rattle.lu_always.proofs.Standings.{before_all, before_more}
 use Rattle.lu_always.proofs.judging.all_can_be_stuck.Goals as goal
 

@@ -1,6 +1,6 @@
 use Rattle.std.proofs.Common.{[]}
 use Rattle.lu_linearization.specs.Monitors.{CanBeStuck}
-use Rattle.lu_always.specs.Tables.{Goes, table_of}
+use Rattle.lu_answers.specs.Tables.{Goes, table_of}
 use Rattle.lu_always.proofs.Standings.{HoldsBefore}
 use Rattle.lu_always.proofs.judging.all_can_be_stuck.Given as goal
 

@@ -1,5 +1,9 @@
-use Rattle.lu_run.specs.Tables.{Grows, IsTable}
+use Rattle.lu_run.specs.Offending.{Learns}
+use Rattle.lu_run.proofs.Rounds.{KnownWithin}
 use Rattle.lu_run.proofs.following.follow.Given as goal
 
 abbrev pub invariant-loop-round : goal.invariant-loop-round
-invariant-loop-round l = record { table : IsTable l.component l.calls l.table; grows : Grows l.fn.table l.table }
+invariant-loop-round l = record {
+  learns : Learns l.component l.calls l.fn.table l.table;
+  known : KnownWithin l.pending l.thread l.monitor l._round l.table;
+}

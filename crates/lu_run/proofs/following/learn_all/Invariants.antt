@@ -1,5 +1,12 @@
-use Rattle.lu_run.specs.Tables.{Grows, IsTable}
+use Rattle.std.proofs.Common.{◌≡◌, ℕ, ◌<◌, Some, false, slice_get}
+use Rattle.lu_linearization.specs.declared.configuration.Configuration.{Configuration}
+use Rattle.lu_run.specs.Following.{IsKnownAt}
+use Rattle.lu_run.specs.Offending.{Learns}
 use Rattle.lu_run.proofs.following.learn_all.Given as goal
 
 abbrev pub invariant-loop-one : goal.invariant-loop-one
-invariant-loop-one l = record { table : IsTable l.component l.calls l.table; grows : Grows l.fn.table l.table }
+invariant-loop-one l = record {
+  learns : Learns l.component l.calls l.fn.table l.table;
+  known : (i : ℕ) (one : Configuration) → i < l.one-index → slice_get l.configurations i ≡ Some one → IsKnownAt l.table l.pending one;
+  same : l.new ≡ false → l.table ≡ l.fn.table;
+}

@@ -1,5 +1,11 @@
-use Rattle.lu_run.specs.Tables.{Grows, IsTable}
+use Rattle.std.proofs.Common.{◌≡◌, ℕ, ◌<◌, false}
+use Rattle.lu_run.specs.Following.{HasAnswer, question_at}
+use Rattle.lu_run.specs.Offending.{Learns}
 use Rattle.lu_run.proofs.following.learn_at.Given as goal
 
 abbrev pub invariant-loop-thread : goal.invariant-loop-thread
-invariant-loop-thread l = record { table : IsTable l.component l.calls l.table; grows : Grows l.fn.table l.table }
+invariant-loop-thread l = record {
+  learns : Learns l.component l.calls l.fn.table l.table;
+  known : (t : ℕ) → t < l.thread → HasAnswer l.table (question_at l.pending l.one t);
+  same : l.new ≡ false → l.table ≡ l.fn.table;
+}

@@ -1,0 +1,9 @@
+pub mod ReadSerially
+pub mod Closed
+pub mod Mapped
+pub mod Alone
+pub mod Replied
+pub mod Storing
+pub mod Resting
+pub mod Reaching
+pub mod Filled

@@ -1,0 +1,4 @@
+pub mod Tables
+pub mod Reading
+pub mod Stored
+pub mod Asking

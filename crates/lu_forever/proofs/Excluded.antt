@@ -1,0 +1,5 @@
+-- Where all unrolled matrices are linearizable, none offends.
+use Rattle.lu_forever.specs.Certified.{LinearizableNeverOffends}
+
+pub never_offends : LinearizableNeverOffends
+never_offends c matrix bound always some = some.offends (always some.big some.unrolled some.start some.is_start).0

@@ -1,0 +1,19 @@
+//! Certificates for any number of rounds: whether all matrices that are unrolled from one are
+//! linearizable, and none has a livelock.
+//!
+//! ```text
+//! match certify_forever(alloc, &component, &matrix, 40, 1 << 20)? {
+//!     Forever::Linearizable => ..,
+//!     Forever::NotLinearizable(moves) => ..,
+//!     Forever::Livelock(moves) => ..,
+//!     Forever::Offends => ..,
+//!     Forever::Undecided => ..,
+//! }
+//! ```
+#![tactic(auto)]
+
+mod certifying;
+mod laws;
+
+pub use certifying::{Forever, certify_forever};
+pub use laws::forever_laws;
