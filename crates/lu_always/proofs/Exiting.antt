@@ -22,11 +22,11 @@ use Rattle.lu_client.proofs.Clients.{moves_in_order}
 use Rattle.lu_client.proofs.OneCalls.{within_some}
 use Rattle.lu_always.specs.declared.stored.StoredNode.{StoredNode}
 use Rattle.lu_always.specs.Exits.{AreExits, MovesTo}
-use Rattle.lu_always.specs.Searching.{AreExitsOfFirst, AreSearched, Grows, HoldsOf, IsNodeAt, Rows, node_at, node_of}
+use Rattle.lu_always.specs.Searching.{AreExitsOfFirst, AreSearched, Grows, HoldsOf, IsNodeAt, node_at, node_of}
 use Rattle.lu_always.specs.Livelocks.{HasLivelockBy, NeverLivelocks}
 use Rattle.lu_always.specs.Nodes.{Node}
 use Rattle.lu_always.specs.Sinks.{Graph, IsFirstWithoutSink, IsSink, PathLeads, ReachesSink}
-use Rattle.lu_answers.specs.Tables.{table_of}
+use Rattle.lu_answers.specs.Tables.{Rows, table_of}
 use Rattle.lu_always.specs.Ways.{IsWayToLivelock}
 use Rattle.lu_always.proofs.Decided.{none_dead}
 use Rattle.lu_always.proofs.Endings.{lost_node_livelocks, nodes_never_livelock}

@@ -7,6 +7,7 @@ pub mod Against
 pub mod Certified
 mod Explained
 pub mod Judged
+mod RunAnswers
 mod Strings
 mod WordedTexts
 mod Messages

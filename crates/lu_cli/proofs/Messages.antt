@@ -1,5 +1,5 @@
 -- Lines of messages, one after the other.
-use Rattle.std.proofs.Common.{◌≡◌, ℕ, List, [], ◌∷◌, ◌++◌, refl, sym}
+use Rattle.std.proofs.Common.{ℕ, List, [], ◌∷◌, ◌++◌, refl, sym}
 use Rattle.std.proofs.lemmas.List.{append-nil, append_assoc}
 use Rattle.lu_source_lint.specs.declared.message.SourceMessage.{SourceMessage}
 use Rattle.lu_cli.specs.Lint.{AddsMessage, AddsMessages, TellsEach, message_line}

@@ -79,7 +79,13 @@ use Rattle.lu_cli.specs.Explain.{IsAnswerToExplainAgainst, IsExplainAfter, IsAns
 use Rattle.lu_cli.specs.Explanation.{IsExplainedTarget, IsExplainedHistory, IsExplainedSchedule, IsExplainedSerially, IsPicturedHistory, IsPresentedAs, IsPresentedHistory, ToEnded, ToFinding, status_by, unexplained}
 use Rattle.lu_recorded.specs.declared.recorded.Recorded.{Recorded}
 use Rattle.lu_recorded.specs.Codes.{recorded_code_of}
-use Rattle.lu_cli.specs.Witness.{IsAnswerToWitnessAgainst, IsAnswerToWitness, IsJudgedAgainstTexts, IsJudgedByMembers, IsJudgedSerially, IsJudgedTexts, four_parts, three_parts}
+use Rattle.lu_run.specs.Codes.{run_code_of}
+use Rattle.lu_run.specs.Setups.{setup_grammar}
+use Rattle.lu_run.specs.declared.judging.RunVerdict.{RunVerdict}
+use Rattle.lu_run.specs.declared.judging.RunVerdict.TheVariants.{Passes, FailsAt, CannotBeStuck as NotStuck, Offends}
+use Rattle.lu_run.specs.declared.run.Run.{Run}
+use Rattle.lu_cli.specs.Runs.{AreJudged, AreJudgedTexts, IsAnswerToRuns, run_parts, run_shown}
+use Rattle.lu_cli.specs.Witness.{IsAnswerToHistories, IsAnswerToWitness, IsAnswerToWitnessAgainst, IsJudgedAgainstTexts, IsJudgedByMembers, IsJudgedSerially, IsJudgedTexts, four_parts, three_parts}
 use Rattle.lu_cli.specs.Reading.{ToComponent, ToGiven, ToMatrix, ToParts, ToRecorded, ToReport, ToSchedule, ToSettled, ToSpec, ToTexts, ToWorded, ToValue}
 use Rattle.lu_source_text.specs.Kinds.{code_of as source_code_of}
 use Rattle.lu_source_text.specs.Readers.{component_meant}
@@ -527,11 +533,39 @@ judged_serially_else : (c : Component) (m : Matrix) (limits : Bounds) (all : Lis
 judged_serially_else c m limits all answer (inl is) = judged_else is.2 c m all answer is.7
 judged_serially_else c m limits all answer (inr is) = reported_else is.0 answer is.3
 
-witness_else : (limits : Bounds) (parts : List (List ℕ)) (answer : Answer) → IsAnswerToWitness limits parts answer → IsElse answer
-witness_else limits parts answer is =
+histories_else : (limits : Bounds) (parts : List (List ℕ)) (answer : Answer) → IsAnswerToHistories limits parts answer → IsElse answer
+histories_else limits parts answer is =
     parts_else (three_parts parts) (λ p. ToTexts p.0 p.1 (λ c m. IsJudgedTexts c m limits p.2)) answer
     (λ p more. texts_else p.0 p.1 (λ c m. IsJudgedTexts c m limits p.2) answer
     (λ c m from. recorded_else m p.2 (IsJudgedSerially c m limits) answer (λ all last. judged_serially_else c m limits all answer last) from) more) is
+
+run_shown_else : (c : Component) (bound n : ℕ) (run : Run) (verdict : RunVerdict) (answer : Answer) → answer ≡ run_shown c bound n run verdict → IsElse answer
+run_shown_else c bound n run Passes answer is = status_else answer 1 (ap (λ (a : Answer). a.status) is) (λ e. omega arith)
+run_shown_else c bound n run (FailsAt i) answer is = status_else answer 1 (ap (λ (a : Answer). a.status) is) (λ e. omega arith)
+run_shown_else c bound n run (NotStuck t) answer is = status_else answer 1 (ap (λ (a : Answer). a.status) is) (λ e. omega arith)
+run_shown_else c bound n run (Offends t call) answer is = status_else answer 3 (ap (λ (a : Answer). a.status) is) (λ e. omega arith)
+
+runs_judged_else : (c : Component) (m : Matrix) (limits : Bounds) (runs : List Run) (answer : Answer) → AreJudged c m limits runs answer → IsElse answer
+runs_judged_else c m limits runs answer (None, found, is) = status_else answer 0 (ap (λ (a : Answer). a.status) is) (λ e. omega arith)
+runs_judged_else c m limits runs answer (Some (n, verdict), found, is) = run_shown_else c limits.serial n is.0 verdict answer is.2
+
+runs_else : (c : Component) (m : Matrix) (limits : Bounds) (texts : List (List ℕ)) (answer : Answer) → AreJudgedTexts c m limits texts answer → IsElse answer
+runs_else c m limits texts answer (inl is) = runs_judged_else c m limits is.0 answer is.2
+runs_else c m limits texts answer (inr is) = refused_else (run_code_of is.1 ++ codes " run " ++ decimal is.0 ++ codes " line " ++ decimal is.2) answer is.4
+
+answer_to_runs_else : (limits : Bounds) (component setup : List ℕ) (runs : List (List ℕ)) (answer : Answer) → IsAnswerToRuns limits (component, setup, runs) answer → IsElse answer
+answer_to_runs_else limits component setup runs answer is =
+    value_else code_of (meaning_of component_grammar component)
+    (λ c. ToValue matrix_code_of (meaning_of (setup_grammar c) setup) (λ m. ToSettled c m (AreJudgedTexts c m limits runs))) answer
+    (λ c more. value_else matrix_code_of (meaning_of (setup_grammar c) setup) (λ m. ToSettled c m (AreJudgedTexts c m limits runs)) answer
+    (λ m last. settled_else c m (AreJudgedTexts c m limits runs) answer (runs_else c m limits runs answer) last) more) is
+
+witness_by : (limits : Bounds) (parts : List (List ℕ)) (found : Option (List ℕ × List ℕ × List (List ℕ))) (answer : Answer) → MatchOption found (IsAnswerToHistories limits parts answer) (λ p. IsAnswerToRuns limits p answer) → IsElse answer
+witness_by limits parts None answer is = histories_else limits parts answer is
+witness_by limits parts (Some (component, setup, runs)) answer is = answer_to_runs_else limits component setup runs answer is
+
+witness_else : (limits : Bounds) (parts : List (List ℕ)) (answer : Answer) → IsAnswerToWitness limits parts answer → IsElse answer
+witness_else limits parts answer is = witness_by limits parts (run_parts parts) answer is
 
 witness_against_else : (marks : Marks) (parts : List (List ℕ)) (answer : Answer) → IsAnswerToWitnessAgainst marks parts answer → IsElse answer
 witness_against_else marks parts answer is =

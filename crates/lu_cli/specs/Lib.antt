@@ -13,6 +13,7 @@ pub mod Explanation
 pub mod Failing
 pub mod Help
 pub mod Inputs
+pub mod Runs
 pub mod Witness
 pub mod Lint
 pub mod Outcomes

@@ -31,8 +31,13 @@ use Rattle.lu_text.specs.Lines.{texts}
 use Rattle.lu_recorded.specs.declared.fault.RecordedFaultKind.{RecordedFaultKind}
 use Rattle.lu_recorded.specs.Bundled.{AreRead, IsFirstRefused}
 use Rattle.lu_recorded.specs.Codes.{recorded_code_of}
+use Rattle.lu_run.specs.Bundled.{AreRead as AreRuns, IsFirstRefused as IsFirstRefusedRun}
+use Rattle.lu_run.specs.Codes.{run_code_of}
+use Rattle.lu_run.specs.Setups.{setup_grammar}
+use Rattle.lu_run.specs.declared.fault.RunFaultKind.{RunFaultKind}
+use Rattle.lu_run.specs.declared.run.Run.{Run}
 use Rattle.lu_cli.specs.Worded.{IsWordingOf}
-use Rattle.lu_cli.specs.Refusals.{refused_in_history}
+use Rattle.lu_cli.specs.Refusals.{refused_in_history, refused_in_run}
 use Rattle.lu_cli.specs.Outcomes.{Answer, refused, refused_on_line, unsettled}
 
 -- what is answered to the parts of a bundle, where it has this many and no more
@@ -87,6 +92,14 @@ ToRecorded m texts IsAnswer answer =
     × IsFirstRefused m texts (record { number = i; fault = At kind n })
     × (answer ≡ refused_in_history (recorded_code_of kind) i n))
 
+-- the answer to texts of runs: the fault of the first that has one, or what is answered to all
+abbrev pub ToRuns : Component → List (List ℕ) → (List Run → Answer → Type 0) → Answer → Type 0
+ToRuns c texts IsAnswer answer =
+    ((runs : List Run) × AreRuns c texts runs × IsAnswer runs answer)
+    ⊎ ((i : ℕ) × (kind : RunFaultKind) × (n : ℕ)
+    × IsFirstRefusedRun c texts (record { number = i; fault = At kind n })
+    × (answer ≡ refused_in_run (run_code_of kind) i n))
+
 -- ---- texts of components and matrices
 
 -- the answer to a matrix text of the component
@@ -98,6 +111,13 @@ abbrev pub ToSettled : Component → Matrix → (Answer → Type 0) → Answer �
 ToSettled c matrix IsAnswer answer =
     (Settles c matrix × IsAnswer answer)
     ⊎ ((k : ℕ) × IsUnsettledAt c matrix k × (answer ≡ unsettled k))
+
+-- the component is read first, and then the setup, which is run
+abbrev pub ToSetup : List ℕ → List ℕ → (Component → Matrix → Answer → Type 0) → Answer → Type 0
+ToSetup component setup IsAnswer =
+    ToValue code_of (meaning_of component_grammar component)
+    (λ c. ToValue matrix_code_of (meaning_of (setup_grammar c) setup)
+    (λ m. ToSettled c m (IsAnswer c m)))
 
 -- the component is read first, and then the matrix, whose setup is run
 abbrev pub ToTexts : List ℕ → List ℕ → (Component → Matrix → Answer → Type 0) → Answer → Type 0

@@ -14,6 +14,8 @@ use Rattle.lu_report.specs.Codes.{report_code_of}
 use Rattle.lu_spec.specs.Codes.{spec_code_of}
 use Rattle.lu_recorded.specs.Codes.{recorded_code_of}
 use Rattle.lu_recorded.specs.declared.fault.RecordedFaultKind.{RecordedFaultKind}
+use Rattle.lu_run.specs.Codes.{run_code_of}
+use Rattle.lu_run.specs.declared.fault.RunFaultKind.{RunFaultKind}
 use Rattle.lu_refute.specs.declared.fault.RefuteFault.{RefuteFault}
 use Rattle.lu_refute.specs.declared.fault.RefuteFault.TheVariants as refute
 use Rattle.lu_refine.specs.declared.campaigns.CampaignFault.{CampaignFault}
@@ -62,6 +64,15 @@ abbrev pub history_answer : ℕ → Fault RecordedFaultKind → Option Answer
 history_answer i (At kind n) = Some (refused_in_history (recorded_code_of kind) i n)
 history_answer i Memory = None
 
+-- a fault of the text of run number i, from 0, on this line
+abbrev pub refused_in_run : List ℕ → ℕ → ℕ → Answer
+refused_in_run code i n =
+    refused (code ++ codes " run " ++ decimal i ++ codes " line " ++ decimal n)
+
+abbrev pub run_answer : ℕ → Fault RunFaultKind → Option Answer
+run_answer i (At kind n) = Some (refused_in_run (run_code_of kind) i n)
+run_answer i Memory = None
+
 -- the line of a refusal, and its status; none for refused memory, of which the program tells in one
 -- place
 abbrev pub refusal_answer : Refusal → Option Answer
@@ -75,6 +86,7 @@ refusal_answer (refusal.Source fault) = line_answer source_code_of fault
 refusal_answer refusal.Operations = Some (refused (codes "G4"))
 refusal_answer (refusal.Histories n) = Some (too_many n)
 refusal_answer (refusal.Recorded fault) = history_answer fault.number fault.fault
+refusal_answer (refusal.Run fault) = run_answer fault.number fault.fault
 refusal_answer refusal.Memory = None
 
 -- an answer of this kind, or a refusal whose line is one

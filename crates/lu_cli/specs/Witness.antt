@@ -1,6 +1,5 @@
 -- What `witness` answers.
-use Rattle.std.specs.Prelude.{ℕ, ◌++◌, codes, List, ◌≡◌, length, Option, Some, None, slice_get, ◌∷◌, ◌⊎◌, Result, IfOk}
-use Rattle.std.specs.Fmt.{decimal}
+use Rattle.std.specs.Prelude.{ℕ, List, ◌≡◌, length, MatchOption, Option, Some, None, slice_get, ◌∷◌, ◌⊎◌, Result, IfOk}
 use Rattle.lu_text.specs.Words.{Word}
 use Rattle.lu_component.specs.Component.{Component}
 use Rattle.lu_test.specs.Matrix.{Matrix}
@@ -23,19 +22,8 @@ use Rattle.lu_cli.specs.declared.refusal.Refusal.{Refusal}
 use Rattle.lu_cli.specs.Refusals.{Answered}
 use Rattle.lu_cli.specs.Outcomes.{Answer}
 use Rattle.lu_cli.specs.Reading.{ToRecorded, ToParts, ToTexts, ToGiven}
+use Rattle.lu_cli.specs.Runs.{IsAnswerToRuns, all_witnessed, run_parts, unwitnessed}
 use Rattle.lu_cli.specs.Serial.{AreSerial, IsOffenceReported}
-
--- this many histories have their witnesses
-abbrev pub all_witnessed : ℕ → Answer
-all_witnessed count =
-    record { text = codes "witness pass " ++ decimal count ++ codes "\n"; status = 0 }
-
--- history n has not its witnesses: its text, and why
-abbrev pub unwitnessed : ℕ → List ℕ → List ℕ → Answer
-unwitnessed n history reason = record {
-  text = codes "witness fail " ++ decimal n ++ codes "\n---\n" ++ history ++ codes "---\n" ++ reason;
-  status = 1;
-}
 
 -- history n is shown, and why it has not its witnesses
 abbrev pub IsShown : List (List SerialOp) → Component → Matrix → ℕ → Recorded → Answer → Type 0
@@ -94,9 +82,15 @@ IsJudgedSerially c m limits all answer =
 abbrev pub IsJudgedTexts : Component → Matrix → Bounds → List (List ℕ) → Answer → Type 0
 IsJudgedTexts c matrix limits texts = ToRecorded matrix texts (IsJudgedSerially c matrix limits)
 
-abbrev pub IsAnswerToWitness : Bounds → List (List ℕ) → Answer → Type 0
-IsAnswerToWitness limits parts =
+abbrev pub IsAnswerToHistories : Bounds → List (List ℕ) → Answer → Type 0
+IsAnswerToHistories limits parts =
     ToParts (three_parts parts) (λ p. ToTexts p.0 p.1 (λ c m. IsJudgedTexts c m limits p.2))
+
+-- the answer to runs, where the bundle has some, and else to recorded histories
+abbrev pub IsAnswerToWitness : Bounds → List (List ℕ) → Answer → Type 0
+IsAnswerToWitness limits parts answer =
+    MatchOption (run_parts parts) (IsAnswerToHistories limits parts answer)
+    (λ found. IsAnswerToRuns limits found answer)
 
 -- ---- by a specification
 

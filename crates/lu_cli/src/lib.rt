@@ -25,6 +25,7 @@ mod refusal;
 mod refute;
 mod replay;
 mod request;
+mod runs;
 mod serial;
 mod shown;
 mod shrink;

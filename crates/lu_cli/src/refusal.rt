@@ -2,7 +2,7 @@
 
 ghost use Rattle.std.specs.Prelude.{◌≡◌, IfOk, Some};
 ghost use Rattle.lu_cli.specs.Outcomes as outcomes;
-ghost use Rattle.lu_cli.specs.Refusals.{SaysResult, refusal_answer, refused_in_history};
+ghost use Rattle.lu_cli.specs.Refusals.{SaysResult, refusal_answer, refused_in_history, refused_in_run};
 ghost use Rattle.lu_cli.specs.declared.refusal.Refusal.TheVariants.{Memory};
 
 use crate::answer::{Answer, refused};
@@ -12,6 +12,7 @@ use lu_recorded::PartFault;
 use lu_refine::CampaignFault;
 use lu_refute::RefuteFault;
 use lu_report::ReportFault;
+use lu_run::RunPartFault;
 use lu_source_text::SourceFault;
 use lu_spec::SpecFault;
 use lu_test::ScheduleFault;
@@ -51,6 +52,9 @@ pub(crate) enum Refusal {
 
     /// What is wrong with the text of a recorded history.
     Recorded(PartFault),
+
+    /// What is wrong with the text of a run.
+    Run(RunPartFault),
 
     /// Memory was refused.
     Memory,
@@ -138,6 +142,16 @@ impl From<PartFault> for Refusal {
     }
 }
 
+impl From<RunPartFault> for Refusal {
+    ghost use Rattle.lu_cli.specs.declared.refusal.Refusal.TheVariants.{Run};
+
+    ghost from_gives = { λ fault e. e ≡ Run fault };
+
+    fn from(fault: RunPartFault) -> Refusal {
+        Refusal::Run(fault)
+    }
+}
+
 impl From<AllocError> for Refusal {
     ghost from_gives = { λ _ e. e ≡ Memory };
 
@@ -167,6 +181,21 @@ fn refused_in_history(
 {
     Ok(Answer {
         text: format!(in alloc; "refused {code} history {number} line {line}\n")?,
+        status: 2,
+    })
+}
+
+/// A refusal for a fault of this code in the text of run `number`, on this line.
+fn refused_in_run(
+    alloc: Global,
+    code: &str,
+    number: usize,
+    line: usize,
+) -> Result<Answer, AllocError>
+    ensures { IfOk result (λ answer. answer ≡ refused_in_run code.now number line) }
+{
+    Ok(Answer {
+        text: format!(in alloc; "refused {code} run {number} line {line}\n")?,
         status: 2,
     })
 }
@@ -238,6 +267,12 @@ pub(crate) fn show_refusal(alloc: Global, refusal: Refusal) -> Result<Answer, Al
                 fault: Fault::At(kind, line),
             },
         ) => refused_in_history(alloc, kind.code(), number, line),
+        Refusal::Run(
+            RunPartFault {
+                number,
+                fault: Fault::At(kind, line),
+            },
+        ) => refused_in_run(alloc, kind.code(), number, line),
         Refusal::Texts(TextsFault::Component(Fault::Memory))
         | Refusal::Texts(TextsFault::Matrix(Fault::Memory))
         | Refusal::Texts(TextsFault::Spec(Fault::Memory))
@@ -249,6 +284,12 @@ pub(crate) fn show_refusal(alloc: Global, refusal: Refusal) -> Result<Answer, Al
         | Refusal::Campaign(CampaignFault::Memory)
         | Refusal::Recorded(
             PartFault {
+                fault: Fault::Memory,
+                ..
+            },
+        )
+        | Refusal::Run(
+            RunPartFault {
                 fault: Fault::Memory,
                 ..
             },

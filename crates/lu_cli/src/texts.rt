@@ -103,7 +103,7 @@ pub struct Case {
 
 /// The number of the first call of the setup that does not end, if there is one. Refused memory is
 /// a fault of the matrix.
-fn find_unsettled(
+pub(crate) fn find_unsettled(
     alloc: Global,
     component: &Component,
     matrix: &Matrix,

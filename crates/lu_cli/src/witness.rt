@@ -1,13 +1,13 @@
-//! Whether recorded histories have their serial witnesses.
+//! Whether recorded histories have their serial witnesses, and runs pass.
 
-ghost use Rattle.std.specs.Prelude.{◌≡◌, IfOk};
+ghost use Rattle.std.specs.Prelude.{◌≡◌};
 ghost use Rattle.lu_text.specs.Lines.{texts};
-ghost use Rattle.lu_cli.specs.Witness as spec;
-ghost use Rattle.lu_cli.specs.Witness.{IsAnswerToWitnessAgainst, IsAnswerToWitness, JudgesBy, JudgesSerially, JudgesTexts, JudgesTextsAgainst, ShowsFirst, four_parts, seen_as_four, seen_as_three, three_parts};
+ghost use Rattle.lu_cli.specs.Witness.{IsAnswerToHistories, IsAnswerToWitness, IsAnswerToWitnessAgainst, JudgesBy, JudgesSerially, JudgesTexts, JudgesTextsAgainst, ShowsFirst, four_parts, seen_as_four, seen_as_three, three_parts};
 ghost use Rattle.lu_cli.specs.Refusals.{Answered};
 
 use crate::answer::Answer;
 use crate::refusal::Refusal;
+use crate::runs::{all_witnessed, answer_runs, run_parts, unwitnessed};
 use crate::serial::show_offence;
 use crate::texts::read_texts;
 use lu_machine::Test;
@@ -18,32 +18,6 @@ use lu_serial_graph::learn_graph;
 use lu_spec::{Beginnings, Marks, read_given_spec};
 use lu_trie::SerialTree;
 use std::alloc::{AllocError, Global};
-
-/// That this many histories have their witnesses.
-fn all_witnessed(alloc: Global, count: usize) -> Result<Answer, AllocError>
-    ensures { IfOk result (λ answer. answer ≡ spec.all_witnessed count) }
-{
-    Ok(Answer {
-        text: format!(in alloc; "witness pass {count}\n")?,
-        status: 0,
-    })
-}
-
-/// That history `number` has not its witnesses: its text, and why.
-fn unwitnessed(
-    alloc: Global,
-    number: usize,
-    history: &str,
-    reason: &str,
-) -> Result<Answer, AllocError>
-    ensures { IfOk result (λ a. a ≡ spec.unwitnessed number history.now reason.now) }
-{
-    let mut text = format!(in alloc; "witness fail {number}\n---\n")?;
-    text.push_str(history)?;
-    text.push_str("---\n")?;
-    text.push_str(reason)?;
-    Ok(Answer { text, status: 1 })
-}
 
 /// The first history that has not its witnesses, which has this number.
 fn show_first<T: SerialTree>(
@@ -121,13 +95,9 @@ fn judge_texts(
     Ok(judge_serially(alloc, test, bounds, &all)?)
 }
 
-/// `lineup witness`: component, matrix, and recorded histories.
-pub(crate) fn answer_witness(
-    alloc: Global,
-    bounds: Bounds,
-    parts: &[&[u8]],
-) -> Result<Answer, Refusal>
-    ensures { Answered (IsAnswerToWitness bounds (texts parts.now)) result }
+/// The answer to component, matrix, and recorded histories.
+fn answer_histories(alloc: Global, bounds: Bounds, parts: &[&[u8]]) -> Result<Answer, Refusal>
+    ensures { Answered (IsAnswerToHistories bounds (texts parts.now)) result }
 {
     let (component, matrix, histories) = three_parts(parts).ok_or(Refusal::Parts)?;
     let case = read_texts(alloc, component, matrix)?;
@@ -136,6 +106,20 @@ pub(crate) fn answer_witness(
         matrix: &case.matrix,
     };
     judge_texts(alloc, test, bounds, histories)
+}
+
+/// `lineup witness`: component, matrix, and recorded histories; or component, setup and runs.
+pub(crate) fn answer_witness(
+    alloc: Global,
+    bounds: Bounds,
+    parts: &[&[u8]],
+) -> Result<Answer, Refusal>
+    ensures { Answered (IsAnswerToWitness bounds (texts parts.now)) result }
+{
+    match run_parts(alloc, parts)? {
+        None => answer_histories(alloc, bounds, parts),
+        Some((component, setup, runs)) => answer_runs(alloc, bounds, component, setup, runs),
+    }
 }
 
 /// A text of a specification and texts of recorded histories, which are judged by it.

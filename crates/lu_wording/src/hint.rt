@@ -25,7 +25,7 @@ fn meaning_of_case(code: &str) -> Option<&'static str> {
     })
 }
 
-/// The meaning of a refusal of a report, a specification or a history.
+/// The meaning of a refusal of a report, a specification, a history or a run.
 fn meaning_of_finding(code: &str) -> Option<&'static str> {
     Some(match code {
         "E1" => "this line does not belong to a report",
@@ -36,7 +36,11 @@ fn meaning_of_finding(code: &str) -> Option<&'static str> {
         "S4" => "too many serial histories to list; try fewer calls",
         "H2" => "expected `call`, `return` or `stuck`",
         "H4" => "the matrix has no such call",
-        "H5" => "this call or return cannot come next",
+        "H5" | "R5" => "this call or return cannot come next",
+        "R1" => "invalid byte; only ASCII, tabs and line ends are allowed",
+        "R2" => "expected `call`, `return` or `stuck`; a run begins with the line `run`",
+        "R3" => "not a number, or a number that is too large; threads are numbered from 0 to 7",
+        "R4" => "the component has no such operation, or it takes another number of arguments",
         _ => return None,
     })
 }
@@ -56,7 +60,7 @@ fn meaning_of_source(code: &str) -> Option<&'static str> {
     })
 }
 
-/// The meaning of a refusal of a command line, a bundle or a run.
+/// The meaning of a refusal of a command line or a bundle.
 fn meaning_of_request(code: &str) -> Option<&'static str> {
     Some(match code {
         "command" =>

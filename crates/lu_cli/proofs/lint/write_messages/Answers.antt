@@ -1,4 +1,4 @@
-use Rattle.std.proofs.Common.{◌≡◌, ◌+◌, ◌++◌, ◌∷◌, [], List, string_bytes, subst, sym, take}
+use Rattle.std.proofs.Common.{List, string_bytes, subst, sym, take}
 use Rattle.std.proofs.lemmas.List.{take_more}
 use Rattle.lu_source_lint.specs.declared.message.SourceMessage.{SourceMessage}
 use Rattle.lu_cli.specs.Lint.{AddsMessages}

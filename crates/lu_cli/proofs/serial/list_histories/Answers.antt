@@ -1,5 +1,3 @@
-use Rattle.std.proofs.Common.{List}
-use Rattle.std.specs.Prelude.{IfOk}
 use Rattle.std.proofs.lemmas.Result.{IfOk-weaker}
 use Rattle.lu_machine.proofs.Starting.{start_there}
 use Rattle.lu_machine.specs.Starts.{FromEachStart}

@@ -1,4 +1,4 @@
-use Rattle.std.proofs.Common.{arith, ◌≡◌, length, ap, inl, inr, refl}
+use Rattle.std.proofs.Common.{arith, length, ap, inl, inr, refl}
 use Rattle.lu_machine.proofs.Starting.{start_there}
 use Rattle.lu_serial_graph.specs.Graphs.{members_of}
 use Rattle.lu_cli.specs.Outcomes.{too_many}

@@ -1,8 +1,7 @@
-use Rattle.std.proofs.Common.{List, inl, inr, subst}
+use Rattle.std.proofs.Common.{inl, inr, subst}
 use Rattle.std.specs.Prelude.{IfOk}
 use Rattle.std.proofs.lemmas.Result.{IfOk-weaker}
 use Rattle.lu_machine.proofs.Starting.{start_there}
-use Rattle.lu_history.specs.declared.serial.SerialOp.{SerialOp}
 use Rattle.lu_serial.specs.Offences.{IsSetOf}
 use Rattle.lu_serial_graph.specs.Graphs.{members_of}
 use Rattle.lu_spec.specs.Beginnings.{IsClosureOf}

@@ -2,7 +2,8 @@ use Rattle.std.proofs.Common.{◌≡◌, ℕ, List, ◌∙◌, ap}
 use Rattle.std.specs.Prelude.{string_bytes}
 use Rattle.std.proofs.lemmas.Result.{IfOk-weaker}
 use Rattle.lu_recorded.specs.Reasons.{recorded_text}
-use Rattle.lu_cli.specs.Witness.{IsShown, unwitnessed}
+use Rattle.lu_cli.specs.Runs.{unwitnessed}
+use Rattle.lu_cli.specs.Witness.{IsShown}
 use Rattle.lu_cli.proofs.witness.show_first.Goals as goal
 
 pub returns : goal.returns

@@ -3,7 +3,7 @@ use Rattle.std.proofs.lemmas.Result.{err_from_is_err_and}
 use Rattle.lu_text.specs.Lines.{texts}
 use Rattle.lu_cli.specs.Witness.{IsJudgedTexts, three_parts}
 use Rattle.lu_cli.proofs.Refuted.{texts_answered, texts_refused}
-use Rattle.lu_cli.proofs.witness.answer_witness.Goals as goal
+use Rattle.lu_cli.proofs.witness.answer_histories.Goals as goal
 
 pub returns-in_err-case : goal.returns-in_err-case
 returns-in_err-case c =
