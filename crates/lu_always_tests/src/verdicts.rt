@@ -7,9 +7,11 @@ use lu_history::SerialOutcome;
 use std::process::Abort;
 use std::test::Fail;
 
-/// Operations that invert a bit and return its former value, with a lock and without.
+/// Operations that invert a bit and return its former value: without a lock, with one, and with a
+/// spin lock.
 const BIT: &[u8] = b"component c
 word x 1 0
+word l 1 0
 lock m
 op flip 0
 load r0 x 0
@@ -28,6 +30,18 @@ unlock m
 return r0
 L6: store x 0 1
 unlock m
+return r0
+end
+op spin 0
+L0: cas r1 l 0 0 1
+jz r1 L0
+load r0 x 0
+jz r0 L7
+store x 0 0
+store l 0 0
+return r0
+L7: store x 0 1
+store l 0 0
 return r0
 end
 ";
@@ -149,8 +163,8 @@ fn flags_that_wait_for_one_another_have_a_livelock(rt: HostRuntime) -> Result<()
 }
 
 #[test]
-fn a_flag_that_is_never_set_has_no_livelock(rt: HostRuntime) -> Result<(), Fail> {
-    let verdict = verdict_on_flags(&rt, b"thread left\nthread left\n")?;
+fn a_spin_lock_that_is_given_back_has_no_livelock(rt: HostRuntime) -> Result<(), Fail> {
+    let verdict = verdict_on(&rt, b"thread spin\nthread spin\n", 1000)?;
     assert!(rt; is_always_linearizable(verdict));
     Ok(())
 }
