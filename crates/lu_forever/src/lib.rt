@@ -13,7 +13,11 @@
 #![tactic(auto)]
 
 mod certifying;
+mod counting;
 mod laws;
+mod unrolling;
 
 pub use certifying::{Forever, certify_forever};
+pub use counting::unroll_for;
 pub use laws::forever_laws;
+pub use unrolling::unroll;
