@@ -55,7 +55,8 @@ fn rows_of(alloc: Global, lines: &[Calls], counts: &[u8]) -> Result<Vec<Calls>, 
 fn are_short(rows: &[Calls]) -> bool
     ensures { IsTrue result ↔ All (λ calls. length calls ≤ 8) rows.now }
 {
-    rows.iter().all(|calls| calls.as_slice().len() <= MOST_CALLS_OF_THREAD)
+    rows.iter()
+        .all(|calls| calls.as_slice().len() <= MOST_CALLS_OF_THREAD)
 }
 
 /// The number of calls of all threads.

@@ -33,5 +33,5 @@ returns-clause-unrolled c =
     let rows : c.in_ok-rows.rows.items ≡ rows_from counts matrix.threads 0 = c.in_ok-rows.ensures ∙ ap (λ (x : List (List Call)). rows_from counts x 0) c.as_slice.ensures.calls in
     let setup = c.in_ok-setup.ensures ∙ (c.as_slice-2.ensures ∙ c.setup.ensures.calls) in
     let made : (big : Matrix) → big ≡ matrix_with c.in_ok-setup.setup c.in_ok-rows.rows.items → IsUnrolledFrom (InOrder None) matrix big =
-        λ big is. subst (λ (x : Matrix). IsUnrolledFrom (InOrder None) matrix x) (sym (is ∙ (ap (λ (x : List (List Call)). matrix_with c.in_ok-setup.setup x) rows ∙ ap (λ (x : List Call). matrix_with x (rows_from counts matrix.threads 0)) setup))) (is_unrolled matrix counts) in
+    λ big is. subst (λ (x : Matrix). IsUnrolledFrom (InOrder None) matrix x) (sym (is ∙ (ap (λ (x : List (List Call)). matrix_with c.in_ok-setup.setup x) rows ∙ ap (λ (x : List Call). matrix_with x (rows_from counts matrix.threads 0)) setup))) (is_unrolled matrix counts) in
     some_weaker c.new.result (λ big. big ≡ matrix_with c.in_ok-setup.setup c.in_ok-rows.rows.items) (λ big. IsUnrolledFrom (InOrder None) matrix big) made c.new.ensures.calls
