@@ -25,7 +25,7 @@ use Rattle.lu_cli.specs.declared.request.Showing.TheVariants as showing
 use Rattle.lu_cli.specs.declared.request.TraceStart.TheVariants.{FirstMove, Setup}
 use Rattle.lu_cli.specs.declared.request.Request.TheVariants.{Commands, Lint, Bundle, BundleWithSource}
 use Rattle.lu_cli.specs.declared.request.BundleCommand.{BundleCommand}
-use Rattle.lu_cli.specs.declared.request.BundleCommand.TheVariants.{Replay, Trace, Draw, DrawExplained, Explain, ExplainAgainst, Serial, Witness, WitnessAgainst, Conform, Spec, Check, CheckAgainst, Certify, Refute, Shrink, Campaign, CampaignAgainst, Compile}
+use Rattle.lu_cli.specs.declared.request.BundleCommand.TheVariants.{Replay, Trace, Draw, DrawExplained, Explain, ExplainAgainst, Serial, Witness, WitnessAgainst, Conform, Spec, Check, CheckAgainst, Certify, CertifyForever, Refute, Shrink, Campaign, CampaignAgainst, Compile}
 use Rattle.lu_cli.specs.declared.table.CommandRow.{CommandRow}
 use Rattle.lu_cli.specs.declared.table.Kind.{Kind}
 use Rattle.lu_cli.specs.declared.table.Kind.TheVariants.{Flag, Number, Long}
@@ -202,9 +202,16 @@ certify_with (Some choice) (Some local) (Some nodes) =
     Some (record { options = choice; local = local; nodes = nodes })
 certify_with _ _ _ = None
 
-abbrev pub certify_in : List Row → Option CertifyOptions
-certify_in rows =
+abbrev pub certify_options_in : List Row → Option CertifyOptions
+certify_options_in rows =
     certify_with (choice_in rows) (number_named (codes "local") rows) (nodes_in rows)
+
+-- a certificate of a matrix, or of all matrices that are unrolled from it
+abbrev pub certify_in : List Row → Option BundleCommand
+certify_in rows =
+    option_map
+    (λ asked. if flag_in (codes "forever") rows then CertifyForever asked else Certify asked)
+    (certify_options_in rows)
 
 -- a judgement by the serial runs, or one by a specification
 abbrev pub witness_in : List Row → Option BundleCommand
@@ -334,7 +341,7 @@ command_by name rows =
     else (if bytes_eq name (codes "check") then check_in rows
     else (if bytes_eq name (codes "witness") then witness_in rows
     else (if bytes_eq name (codes "conform") then Some (conform_in rows)
-    else (if bytes_eq name (codes "certify") then option_map Certify (certify_in rows)
+    else (if bytes_eq name (codes "certify") then certify_in rows
     else (if bytes_eq name (codes "refute") then Some Refute
     else (if bytes_eq name (codes "shrink") then option_map Shrink (limits_in rows)
     else (if bytes_eq name (codes "campaign") then campaign_in rows

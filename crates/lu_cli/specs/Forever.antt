@@ -29,19 +29,23 @@ always_linearizable = record { text = codes "linearizable\nrounds any\n"; status
 abbrev pub by_moves : List ℕ → List Move → Answer
 by_moves words u = verdict words (schedule_text u) 1
 
+-- such a verdict where not even the schedule has a text
+abbrev pub by_words : List ℕ → Answer
+by_words words = record { text = words ++ codes "\nrounds any\n"; status = 1 }
+
 -- there is no verdict, for this reason
 abbrev pub undecided_for : List ℕ → Answer
-undecided_for why = verdict (codes "undecided") (why ++ codes "\n") 3
+undecided_for why = verdict (codes "undecided") why 3
 
--- a serial run takes more moves than this, or has two outcomes
+-- a call of a serial run takes more moves than this, or has two outcomes
 abbrev pub serial_offence : ℕ → Answer
 serial_offence bound =
     undecided_for (codes "a call that runs alone has two outcomes, or takes more than "
-    ++ decimal bound ++ codes " moves")
+    ++ decimal bound ++ codes " moves\n")
 
--- there are more nodes than this
-abbrev pub too_many_nodes : ℕ → Answer
-too_many_nodes most = undecided_for (codes "there are more than " ++ decimal most ++ codes " nodes")
+-- this many nodes give no verdict
+abbrev pub no_verdict : ℕ → Answer
+no_verdict most = undecided_for (codes "no verdict within " ++ decimal most ++ codes " nodes\n")
 
 -- the certificate says that the matrix is not linearizable, or has a livelock
 abbrev pub IsAgainst : Certificate → Type 0
@@ -61,12 +65,16 @@ pub record ShowsUnrolled (c : Component) (matrix : Matrix) (asked : CertifyOptio
   pub against : IsAgainst certificate
   pub shown : ShowsCertificate c certificate answer
 
--- a verdict in these words, by a schedule of an unrolled matrix: the certificate of that matrix, or
--- the schedule
+-- a verdict in these words, by a schedule of an unrolled matrix; or, where that is too long for a
+-- text, the words alone
+abbrev pub ShowsMoves : List ℕ → List Move → Answer → Type 0
+ShowsMoves words u answer = (answer ≡ by_moves words u) ⊎ (answer ≡ by_words words)
+
+-- so, or by the certificate of the unrolled matrix
 abbrev pub ShowsBySchedule : Component → Matrix → CertifyOptions → List ℕ → List Move → Answer
     → Type 0
 ShowsBySchedule c matrix asked words u answer =
-    ShowsUnrolled c matrix asked answer ⊎ (answer ≡ by_moves words u)
+    ShowsUnrolled c matrix asked answer ⊎ ShowsMoves words u answer
 
 -- what a verdict for any number of rounds is shown as
 abbrev pub ShowsForever : Component → Matrix → CertifyOptions → Forever → Answer → Type 0
@@ -77,7 +85,7 @@ ShowsForever c matrix asked (forever.Livelock moves) answer =
     ShowsBySchedule c matrix asked (codes "livelock") moves.items answer
 ShowsForever c matrix asked forever.Offends answer =
     answer ≡ serial_offence asked.options.serial
-ShowsForever c matrix asked forever.Undecided answer = answer ≡ too_many_nodes asked.nodes
+ShowsForever c matrix asked forever.Undecided answer = answer ≡ no_verdict asked.nodes
 
 -- the verdict on all matrices that are unrolled from this one
 abbrev pub IsCertifiedForever : Component → Matrix → CertifyOptions → Answer → Type 0
@@ -86,9 +94,9 @@ IsCertifiedForever c matrix asked answer =
     × ShowsForever c matrix asked found answer
 
 -- the same of results that can only want memory
-abbrev pub ShowsByMoves : {E : Type 0} → Test → CertifyOptions → List ℕ → List Move
+abbrev pub ShowsVerdict : {E : Type 0} → Test → CertifyOptions → List ℕ → List Move
     → Result Answer E → Type 0
-ShowsByMoves test asked words u result =
+ShowsVerdict test asked words u result =
     IfOk result (ShowsBySchedule test.component.now test.matrix.now asked words u)
 
 abbrev pub ShowsFound : {E : Type 0} → Test → CertifyOptions → Forever → Result Answer E → Type 0

@@ -110,7 +110,9 @@ options =
     (codes "minimum number of local instructions that run with a move")
     (codes "certify" ∷ [])
     ∷ number (codes "nodes") (codes "N") (Number 1 4294967295) (Some (codes "8388608"))
-    (codes "maximum number of nodes in the graph of a cut")
+    (codes "maximum number of nodes in the graph of a cut, or with --forever in all")
+    (codes "certify" ∷ [])
+    ∷ flag (codes "forever") (codes "each thread makes its line of calls any number of times")
     (codes "certify" ∷ [])
     ∷ flag (codes "source") (codes "the component may be a source")
     (codes "serial" ∷ codes "check" ∷ codes "certify" ∷ codes "witness" ∷ codes "conform" ∷

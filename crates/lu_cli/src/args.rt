@@ -301,8 +301,8 @@ fn check_in(given: &ArgMatches<'_>) -> Option<BundleCommand>
     }
 }
 
-fn certify_in(given: &ArgMatches<'_>) -> Option<CertifyOptions>
-    ensures { result ≡ spec.certify_in (rows_of (found_of given.now)) }
+fn certify_options_in(given: &ArgMatches<'_>) -> Option<CertifyOptions>
+    ensures { result ≡ spec.certify_options_in (rows_of (found_of given.now)) }
 {
     let options = options_in(given)?;
     let local = number_named(given, "local")?;
@@ -312,6 +312,18 @@ fn certify_in(given: &ArgMatches<'_>) -> Option<CertifyOptions>
         local,
         nodes,
     })
+}
+
+/// A certificate of a matrix, or of all matrices that are unrolled from it.
+fn certify_in(given: &ArgMatches<'_>) -> Option<BundleCommand>
+    ensures { result ≡ spec.certify_in (rows_of (found_of given.now)) }
+{
+    let asked = certify_options_in(given)?;
+    if flag_in(given, "forever") {
+        Some(BundleCommand::CertifyForever(asked))
+    } else {
+        Some(BundleCommand::Certify(asked))
+    }
 }
 
 /// A judgement by the serial runs, or one by a specification.
@@ -388,7 +400,7 @@ fn command_by(name: &str, given: &ArgMatches<'_>) -> Option<BundleCommand>
         "check" => check_in(given),
         "witness" => witness_in(given),
         "conform" => Some(conform_in(given)),
-        "certify" => certify_in(given).map(BundleCommand::Certify),
+        "certify" => certify_in(given),
         "refute" => Some(BundleCommand::Refute),
         "shrink" => bounds_in(given).map(BundleCommand::Shrink),
         "campaign" => campaign_in(given),

@@ -22,7 +22,7 @@ use std::sync::Wait;
 use std::thread::Threads;
 
 /// How many local instructions run with a move of the component that is certified.
-fn certified_local(asked: CertifyOptions, component: &Component) -> u8
+pub(crate) fn certified_local(asked: CertifyOptions, component: &Component) -> u8
     ensures local { result ≡ spec.certified_local asked component.now }
     ensures longer { component.now.local ≤ result }
     ensures few { result ≤ MOST_LOCAL }

@@ -16,6 +16,7 @@ use crate::conform::answer_conform;
 use crate::explain::{answer_explain, answer_explain_against};
 use crate::explanation::Presentation;
 use crate::failing::RunView;
+use crate::forever::answer_certify_forever;
 use crate::refusal::Refusal;
 use crate::refute::answer_refute;
 use crate::replay::answer_replay;
@@ -58,6 +59,7 @@ pub(crate) fn carry_out_alone(
             answer_check_against_alone(alloc, options, marks, parts)
         },
         BundleCommand::Certify(asked) => answer_certify_alone(alloc, asked, parts),
+        BundleCommand::CertifyForever(asked) => answer_certify_forever(alloc, asked, parts),
         BundleCommand::Refute => answer_refute(alloc, parts),
         BundleCommand::Shrink(bounds) => answer_shrink(alloc, bounds, parts),
         BundleCommand::Campaign(options) => answer_campaign(alloc, options, parts),

@@ -1,11 +1,11 @@
 //! Whether a component is linearizable on all matrices that are unrolled from one.
 
-ghost use Rattle.std.specs.Prelude.{◌≡◌, IfOk, IfSome};
+ghost use Rattle.std.specs.Prelude.{◌≡◌, ◌↔◌, IfOk, IfSome, IsTrue, true};
 ghost use Rattle.lu_text.specs.Lines.{texts};
 ghost use Rattle.lu_cli.specs.Forever as spec;
-ghost use Rattle.lu_cli.specs.Forever.{CertifiesForever, IsAgainst, IsAnswerToCertifyForever, ShowsForever, ShowsUnrolled};
+ghost use Rattle.lu_cli.specs.Forever.{CertifiesForever, IsAgainst, IsAnswerToCertifyForever, ShowsUnrolled};
+ghost use Rattle.lu_test.specs.Schedule.{AreMoves, IsMove};
 ghost use Rattle.lu_cli.specs.Refusals.{Answered};
-ghost use Rattle.lu_forever.specs.Certified.{IsForever};
 
 use crate::answer::{Answer, show_certificate, verdict};
 use crate::certify::certified_local;
@@ -54,21 +54,84 @@ fn show_unrolled(
     Ok(Some(show_certificate(alloc, component, &certificate)?))
 }
 
-/// The verdict on an unrolled matrix: its certificate, or this schedule of it.
-fn show_by_moves(
+/// Whether a move of a schedule may be this one.
+fn is_move(next: &Move) -> bool
+    ensures { IsTrue result ↔ IsMove next.now }
+{
+    next.thread <= 7 && next.pick <= 7
+}
+
+/// Whether a schedule may have these moves.
+fn are_moves(moves: &[Move]) -> bool
+    ensures { IsTrue result ↔ AreMoves moves.now }
+{
+    moves.len() <= 4112 && moves.iter().all(is_move)
+}
+
+/// A verdict in these words alone.
+fn show_words(alloc: Global, words: &str) -> Result<Answer, AllocError>
+    ensures { IfOk result (λ answer. answer ≡ spec.by_words words.now) }
+{
+    Ok(Answer {
+        text: format!(in alloc; "{words}\nrounds any\n")?,
+        status: 1,
+    })
+}
+
+/// A verdict in these words, by this schedule of an unrolled matrix; or the words alone where it is
+/// too long for a text.
+fn show_moves(alloc: Global, words: &str, moves: Vec<Move>) -> Result<Answer, AllocError>
+    ensures { IfOk result (spec.ShowsMoves words.now moves.items) }
+{
+    if !are_moves(&moves) {
+        return show_words(alloc, words);
+    }
+    let text = write_schedule(alloc, &Schedule::new(moves))?;
+    verdict(alloc, words, text.as_str(), 1)
+}
+
+/// A verdict in these words: the certificate of an unrolled matrix, or this schedule of it.
+fn show_by_schedule(
     alloc: Global,
     test: Test<'_>,
     asked: CertifyOptions,
     words: &str,
     moves: Vec<Move>,
 ) -> Result<Answer, AllocError>
-    ensures { spec.ShowsByMoves test.entry asked words.now moves.entry.items result }
+    ensures { spec.ShowsVerdict test.entry asked words.now moves.items result }
 {
     if let Some(answer) = show_unrolled(alloc, test, asked, &moves)? {
         return Ok(answer);
     }
-    let text = write_schedule(alloc, &Schedule::new(moves))?;
-    verdict(alloc, words, text.as_str(), 1)
+    show_moves(alloc, words, moves)
+}
+
+/// That a call of a serial run has two outcomes, or takes more moves than this.
+fn show_offence(alloc: Global, bound: u16) -> Result<Answer, AllocError>
+    ensures { IfOk result (λ answer. answer ≡ spec.serial_offence bound) }
+{
+    let why = format!(in alloc;
+        "a call that runs alone has two outcomes, or takes more than {bound} moves\n"
+    )?;
+    verdict(alloc, "undecided", why.as_str(), 3)
+}
+
+/// That this many nodes give no verdict.
+fn show_limit(alloc: Global, most: u32) -> Result<Answer, AllocError>
+    ensures { IfOk result (λ answer. answer ≡ spec.no_verdict most) }
+{
+    let why = format!(in alloc; "no verdict within {most} nodes\n")?;
+    verdict(alloc, "undecided", why.as_str(), 3)
+}
+
+/// That every unrolled matrix is linearizable.
+fn show_linearizable(alloc: Global) -> Result<Answer, AllocError>
+    ensures { IfOk result (λ answer. answer ≡ spec.always_linearizable) }
+{
+    Ok(Answer {
+        text: String::from_str(alloc, "linearizable\nrounds any\n")?,
+        status: 0,
+    })
 }
 
 /// What a verdict for any number of rounds is shown as.
@@ -78,31 +141,16 @@ fn show_forever(
     asked: CertifyOptions,
     found: Forever,
 ) -> Result<Answer, AllocError>
-    ensures { spec.ShowsFound test.entry asked found.entry result }
+    ensures { spec.ShowsFound test.entry asked found result }
 {
     match found {
-        Forever::Linearizable => Ok(Answer {
-            text: String::from_str(alloc, "linearizable\nrounds any\n")?,
-            status: 0,
-        }),
+        Forever::Linearizable => show_linearizable(alloc),
         Forever::NotLinearizable(moves) => {
-            show_by_moves(alloc, test, asked, "not linearizable", moves)
+            show_by_schedule(alloc, test, asked, "not linearizable", moves)
         }
-        Forever::Livelock(moves) => show_by_moves(alloc, test, asked, "livelock", moves),
-        Forever::Offends => Ok(Answer {
-            text: format!(in alloc;
-                "undecided\n---\na call that runs alone has two outcomes, or takes more than {} moves\n",
-                asked.options.serial()
-            )?,
-            status: 3,
-        }),
-        Forever::Undecided => Ok(Answer {
-            text: format!(in alloc;
-                "undecided\n---\nthere are more than {} nodes\n",
-                asked.nodes
-            )?,
-            status: 3,
-        }),
+        Forever::Livelock(moves) => show_by_schedule(alloc, test, asked, "livelock", moves),
+        Forever::Offends => show_offence(alloc, asked.options.serial()),
+        Forever::Undecided => show_limit(alloc, asked.nodes),
     }
 }
 

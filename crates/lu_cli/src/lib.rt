@@ -15,6 +15,7 @@ mod counted;
 mod explain;
 mod explanation;
 mod failing;
+mod forever;
 mod help;
 mod input;
 mod lint;

@@ -165,6 +165,10 @@ pub enum BundleCommand {
     /// `lineup certify`: decide whether a component is linearizable on a matrix.
     Certify(CertifyOptions),
 
+    /// `lineup certify --forever`: decide whether a component is linearizable on all matrices that
+    /// are unrolled from one. Of the options, the bound on serial runs and the number of nodes count.
+    CertifyForever(CertifyOptions),
+
     /// `lineup refute`: show where a component that fails does not meet a specification.
     Refute,
 

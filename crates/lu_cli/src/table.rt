@@ -131,7 +131,7 @@ static COMMANDS: [CommandRow; 16] = [
     },
 ];
 
-static OPTIONS: [OptionRow; 27] = [
+static OPTIONS: [OptionRow; 28] = [
     OptionRow {
         name: "bound",
         letter: "N",
@@ -232,7 +232,15 @@ static OPTIONS: [OptionRow; 27] = [
             most: 4_294_967_295,
         },
         default: Some("8388608"),
-        words: "maximum number of nodes in the graph of a cut",
+        words: "maximum number of nodes in the graph of a cut, or with --forever in all",
+        commands: &["certify"],
+    },
+    OptionRow {
+        name: "forever",
+        letter: "",
+        kind: Kind::Flag,
+        default: None,
+        words: "each thread makes its line of calls any number of times",
         commands: &["certify"],
     },
     OptionRow {

@@ -11,6 +11,10 @@ use lu_component::Component;
 use lu_test::{Matrix, Move};
 use std::alloc::{AllocError, Global};
 
+/// The most stages of the table of the serial histories. A counter that never returns to a value has
+/// infinitely many.
+const MOST_STAGES: usize = 65_536;
+
 /// Whether all matrices that are unrolled from one are linearizable, and none has a livelock.
 #[derive(Drop)]
 pub enum Forever {
@@ -38,7 +42,7 @@ pub enum Forever {
 /// and none has a livelock. Each thread repeats its line of calls any number of times, and may stop
 /// anywhere. `serial_bound`, at most 256, is the number of moves that a call of a serial run may take
 /// after its first. The table of the serial histories has no more than `most` stages, and no more
-/// than `most` nodes are searched.
+/// than 65,536. No more than `most` nodes are searched.
 ///
 /// # Errors
 ///
@@ -54,7 +58,13 @@ pub fn certify_forever(
     requires few { serial_bound ≤ MOST_MOVES }
     ensures { IfOk result (IsForever component.now matrix.now serial_bound) }
 {
-    let table = match find_table(alloc, component, matrix, serial_bound, most)? {
+    let table = match find_table(
+        alloc,
+        component,
+        matrix,
+        serial_bound,
+        most.min(MOST_STAGES),
+    )? {
         Tabled::Table(table) => table,
         Tabled::Offends => return Ok(Forever::Offends),
         Tabled::TooMany => return Ok(Forever::Undecided),
