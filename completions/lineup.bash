@@ -20,7 +20,7 @@ _lineup() {
         *)
             case "${COMP_WORDS[1]}" in
                 check) options='--bound --serial --workers --depth --spec --marks' ;;
-                certify | test) options='--bound --serial --workers --depth --local --nodes' ;;
+                certify | test) options='--bound --serial --workers --depth --local --nodes --forever' ;;
                 serial | shrink) options='--bound --serial' ;;
                 witness) options='--bound --serial --spec --marks' ;;
                 conform) options='--show' ;;
