@@ -35,7 +35,9 @@ fn stack_of_command(command: &BundleCommand) -> usize
         }
         BundleCommand::Check(options) => stack_within(options.bound(), options.serial()),
         BundleCommand::CheckAgainst(options, _) => stack_within(options.bound(), 0),
-        BundleCommand::Certify(asked) => stack_within(MOST_MOVES, asked.options.serial()),
+        BundleCommand::Certify(asked) | BundleCommand::CertifyForever(asked) => {
+            stack_within(MOST_MOVES, asked.options.serial())
+        }
         BundleCommand::Shrink(bounds) => stack_within(bounds.bound(), bounds.serial()),
         BundleCommand::Campaign(options) => stack_within(MOST_MOVES, options.bounds.serial()),
         BundleCommand::CampaignAgainst(options) => {
