@@ -47,7 +47,7 @@ use Rattle.lu_client.specs.Alone.{rest_of}
 use Rattle.lu_client.proofs.Cutting.{client_has_ended, ended_is_blocked}
 use Rattle.lu_client.proofs.Played.{ready}
 use Rattle.lu_client.proofs.Unrolled.{client_setup, client_starts, cut_is_unrolled}
-use Rattle.lu_always.specs.Always.{AlwaysLinearizes, AlwaysServes, FailsNever, IsSerialPrefix, IsWell, PrefixesAgree}
+use Rattle.lu_always.specs.Always.{AlwaysLinearizes, AlwaysServes, FailsNever, HasSpec, IsAlwaysLinearizable, IsSerialPrefix, IsWell, PrefixesAgree}
 use Rattle.lu_always.specs.Certified.{CertifiedInOneRound, LivelockInOneRound, NoLivelockInOneRound, RefutedInOneRound}
 use Rattle.lu_always.specs.OneRound.{OneRoundIsAllCuts}
 use Rattle.lu_answers.specs.Tables.{IsTableOf, Table}
@@ -62,10 +62,10 @@ use Rattle.lu_answers.proofs.ReadSerially.{none_offends}
 -- ---- nodes
 
 module _ (c : Component) (way : Way) (matrix : Matrix) (bound : ℕ) (start : State) (table : Table) (from : IsStart c (client_matrix way matrix) start) (are : IsTableOf c way matrix bound (rest_of start) table) where
-  same_start : (big : Matrix) (s : State) → IsUnrolledFrom way matrix big → IsStart c big s → start ≡ client_of way matrix s
+  pub same_start : (big : Matrix) (s : State) → IsUnrolledFrom way matrix big → IsStart c big s → start ≡ client_of way matrix s
   same_start big s unrolled is = start_same c (client_matrix way matrix) start (client_of way matrix s) from (client_starts c way matrix big s unrolled is)
 
-  table_here : (big : Matrix) (s : State) → IsUnrolledFrom way matrix big → IsStart c big s → IsTableOf c way matrix bound (rest_of s) table
+  pub table_here : (big : Matrix) (s : State) → IsUnrolledFrom way matrix big → IsStart c big s → IsTableOf c way matrix bound (rest_of s) table
   table_here big s unrolled is = subst (λ (x : State). IsTableOf c way matrix bound (rest_of x) table) (same_start big s unrolled is) are
 
 pub nodes_tell_all : NodesTellAll
@@ -282,9 +282,9 @@ no_livelock_in_one_round c matrix limits members u settles is livelock =
 
 -- ---- specifications
 
-pub nodes_serve_all : NodesServeAll
-nodes_serve_all c way matrix bound start dead table list big from sound are nodes unrolled =
-    let always = nodes_tell_all c way matrix bound start dead table list from sound are nodes in
+-- where all unrolled matrices are linearizable, each has one
+pub always_has_spec : (c : Component) (way : Way) (matrix : Matrix) (bound : ℕ) (start : State) (table : Table) (big : Matrix) → IsStart c (client_matrix way matrix) start → IsTableOf c way matrix bound (rest_of start) table → IsAlwaysLinearizable c matrix way bound → IsUnrolledFrom way matrix big → HasSpec c big
+always_has_spec c way matrix bound start table big from are always unrolled =
     let setup : big.setup ≡ (client_matrix way matrix).setup = unrolled.setup ∙ sym (client_setup way matrix) in
     let s = at_rest c big start.cells start.locks in
     let is = other_start c (client_matrix way matrix) big start from setup in
@@ -297,3 +297,7 @@ nodes_serve_all c way matrix bound start dead table list big from sound are node
             (always_linearizes c matrix way bound big s always unrolled is smaller other u of at ended)),
       ),
     )
+
+pub nodes_serve_all : NodesServeAll
+nodes_serve_all c way matrix bound start dead table list big from sound are nodes unrolled =
+    always_has_spec c way matrix bound start table big from are (nodes_tell_all c way matrix bound start dead table list from sound are nodes) unrolled

@@ -14,15 +14,15 @@ use Rattle.lu_client.specs.Livelock.{MayEnd, OpenLeads}
 use Rattle.lu_client.specs.Stages.{IsIn}
 use Rattle.lu_client.proofs.MayEnd.{no_livelock, some_livelock}
 use Rattle.lu_client.proofs.Played.{ready}
-use Rattle.lu_always.specs.Livelocks.{LivelocksNever, LostNodeLivelocks, NodesNeverLivelock}
-use Rattle.lu_always.specs.Nodes.{AreNodes, Node, Represents}
+use Rattle.lu_always.specs.Livelocks.{AreAllNodes, LivelocksNever, LostNodeLivelocks, NodesNeverLivelock}
+use Rattle.lu_always.specs.Nodes.{Node, Represents}
 use Rattle.lu_answers.specs.Tables.{Table}
 use Rattle.lu_always.proofs.Decided.{client_path}
 use Rattle.lu_always.proofs.Likeness.{alike_on, alike_open, blocked_alike, client_alike}
 use Rattle.lu_always.proofs.Stood.{open_same}
 
 -- a move of the client keeps the component
-step_component : (c : Component) (way : Way) (a : State) (m : Move) (b : State) (event : Option Event) → a.component ≡ c → ClientStep way a m b event → b.component ≡ c
+pub step_component : (c : Component) (way : Way) (a : State) (m : Move) (b : State) (event : Option Event) → a.component ≡ c → ClientStep way a m b event → b.component ≡ c
 step_component c way a m b event is step =
     ap (λ (x : State). x.component) step.2.2 ∙ ((step_moved (let x : State = record a { matrix = step.0 } in x) m step.2.0 event step.2.1).component ∙ is)
 
@@ -52,7 +52,7 @@ module _ (c : Component) (way : Way) (dead : DeadTable) (sound : IsDeadTable c d
     component : s.component ≡ c
 
   -- the client comes to states of nodes only
-  nodes_along : (table : Table) (start : State) (list : List Node) → AreNodes dead table way start list → (u : List Move) (a b : State) (history : List Event) → HasNodeOf list a → ClientLeads way a u b history → HasNodeOf list b
+  nodes_along : (table : Table) (start : State) (list : List Node) → AreAllNodes dead table way start list → (u : List Move) (a b : State) (history : List Event) → HasNodeOf list a → ClientLeads way a u b history → HasNodeOf list b
   nodes_along table start list are [] a b history has path = subst (HasNodeOf list) (sym path.0) has
   nodes_along table start list are (m ∷ u) a b history has (next, event, rest, step, path, is) =
       let there = client_alike dead way a has.node.state (known a has.component) has.state m next event step in
@@ -71,7 +71,7 @@ nodes_never_livelock c way matrix start dead table list from sound are may big u
     no_livelock c way matrix big start s u end history from
     (λ v b h path.
     (let component = (ready c (client_matrix way matrix) start from).component in
-    let first : HasNodeOf c way dead sound list start = record { node = are.starts.0; among = are.starts.1; state = are.starts.2.0; component = component } in
+    let first : HasNodeOf c way dead sound list start = record { node = are.starts.0; among = are.starts.1; state = are.starts.2; component = component } in
     let has = nodes_along c way dead sound table start list are v start b h first path in
     may_end_alike c way dead sound has.node.state b (has.state.component ∙ has.component) (alike_back dead b has.node.state has.state) (may has.node has.among)))
     unrolled is leads
@@ -79,7 +79,7 @@ nodes_never_livelock c way matrix start dead table list from sound are may big u
 pub lost_node_livelocks : LostNodeLivelocks
 lost_node_livelocks c way matrix start dead table first u node from sound is_first path never =
     let component = (ready c (client_matrix way matrix) start from).component in
-    let run = client_path c dead sound table way u first node start component is_first.0 path in
+    let run = client_path c dead sound table way u first node start component is_first path in
     let it = some_livelock c way matrix start u run.b run.history from run.leads (λ may. never (may_end_alike c way dead sound run.b node.state run.component run.state may)) in
     record {
       big = it.0;

@@ -1,31 +1,42 @@
 -- Where a schedule of an unrolled matrix leads, there is a node, whose monitor is that of its history.
-use Rattle.std.proofs.Common.{arith, ◌≡◌, ◌≢◌, ◌↔◌, ℕ, suc, ◌≤◌, List, [], ◌∷◌, ◌++◌, length, take, drop, Option, Some, None, slice_get, refl, sym, ◌∙◌, ap, subst, inl, inr, append_assoc}
+use Rattle.std.proofs.Common.{arith, ◌≡◌, ◌≢◌, ◌↔◌, ℕ, suc, ◌+◌, ◌<◌, ◌≤◌, Bool, List, [], ◌∷◌, ◌++◌, length, take, drop, Option, Some, None, slice_get, refl, sym, ◌∙◌, ap, subst, inl, inr, append_assoc}
 use Rattle.std.specs.Option.{option_map}
+use Rattle.std.proofs.lemmas.Bool.{lt-ltb}
 use Rattle.std.proofs.lemmas.List.{append-nil}
 use Rattle.lu_component.specs.Component.{Component}
 use Rattle.lu_test.specs.declared.schedule.Move.{Move}
 use Rattle.lu_test.specs.Matrix.{Matrix, calls_of}
 use Rattle.lu_machine.specs.declared.event.Event.{Event}
 use Rattle.lu_machine.specs.declared.event.Event.TheVariants.{Call, Return}
+use Rattle.lu_machine.specs.Changes.{IsAtWork, idle}
 use Rattle.lu_machine.specs.States.{State, call_count, progress}
-use Rattle.lu_machine.specs.Steps.{Step}
+use Rattle.lu_machine.specs.Steps.{Step, picks_of}
 use Rattle.lu_machine.specs.Runs.{Leads, with_event}
 use Rattle.lu_machine.specs.Starts.{IsStart}
 use Rattle.lu_machine.specs.Ends.{IsComplete, IsEnded}
 use Rattle.lu_machine.proofs.Keeping.{step_moved}
-use Rattle.lu_machine.proofs.Paths.{with_event-append}
+use Rattle.lu_machine.proofs.Paths.{child_leads, leads_on, with_event-append}
+use Rattle.lu_machine.proofs.StepLaws.{feasible_step}
 use Rattle.lu_horizon.specs.Dead.{DeadTable, IsDeadTable}
 use Rattle.lu_history.specs.declared.operation.OpId.{OpId}
 use Rattle.lu_history.specs.declared.serial.SerialOp.{SerialOp}
 use Rattle.lu_history.specs.Histories.{IsPending, calls, outcomes}
 use Rattle.lu_history.specs.Parts.{keep_pending}
 use Rattle.lu_history.specs.Standing.{Agree}
-use Rattle.lu_history.proofs.Events.{last_at, split_at}
+use Rattle.lu_history.proofs.Events.{calls-append, calls_call, last_at, outcomes-append, split_at}
 use Rattle.lu_history.proofs.Following.{start_agrees, step_agrees}
 use Rattle.lu_serial.specs.Serial.{HasOpen, IsSerialHistory}
 use Rattle.lu_serial.specs.Offences.{NoOffence}
 use Rattle.lu_serial.proofs.Opening.{complete_not_open, no_open_complete}
 use Rattle.lu_tree.specs.Alike.{AreAlike}
+use Rattle.lu_tree.proofs.AlikeRuns.{picks_alike}
+use Rattle.lu_graph.specs.Guards.{TellsGuarded}
+use Rattle.lu_graph.specs.Nodes.{EndsWell}
+use Rattle.lu_late.specs.LastCalls.{AreAllBlocked, IsGoodBefore}
+use Rattle.lu_late.specs.Steps.{IsIdle, IsOneStep}
+use Rattle.lu_late.proofs.Alone.{call_begins}
+use Rattle.lu_late.proofs.Calls.{call_event}
+use Rattle.lu_late.proofs.Enough.{ends_well}
 use Rattle.lu_witness.specs.Goodness.{IsGoodAt}
 use Rattle.lu_witness.specs.Witnesses.{HasWitness, entries}
 use Rattle.lu_witness.proofs.Entries.{entries-append, entries_own}
@@ -43,7 +54,7 @@ use Rattle.lu_linearization.specs.Monitors.{IsMonitorOf, IsStuckFrom, CanBeStuck
 use Rattle.lu_linearization.proofs.Monitored.{monitor_calls, monitor_completes, monitor_returns, monitor_starts, monitor_sticks}
 use Rattle.lu_linearization.proofs.Sequential.{in_turn, is_pending, pending_count}
 use Rattle.lu_client.specs.Rounds.{IsUnrolledFrom, Way}
-use Rattle.lu_client.specs.Clients.{client_of, event_in}
+use Rattle.lu_client.specs.Clients.{AllBlocked, client_of, event_in}
 use Rattle.lu_client.specs.Alone.{rest_of}
 use Rattle.lu_client.specs.Automaton.{HasAllEntries, NoneStuck}
 use Rattle.lu_client.specs.Stages.{IsIn}
@@ -53,6 +64,10 @@ use Rattle.lu_client.proofs.Outcomes.{begin_rests, stuck_is_played}
 use Rattle.lu_client.proofs.Played.{IsReady, ready, serial_is_played}
 use Rattle.lu_answers.specs.Tables.{Goes, IsTableOf, LeadsTo, Table}
 use Rattle.lu_always.specs.Nodes.{AreNodes, IsAfterMove, IsFirst, IsGoodNode, MovesLead, Node, Represents, waits_in}
+use Rattle.lu_always.specs.Steps.{AreStepNodes, HasNodeAfter, IsGoodBeforeCalls}
+use Rattle.lu_always.proofs.BeforeCalls.{sticks_before}
+use Rattle.lu_always.proofs.ClientCalls.{client_picks, open_not_idle, work_open}
+use Rattle.lu_always.proofs.SamePlaces.{HaveSamePlaces, alike_places, client_places, idle_there, one_step_there, places_on}
 use Rattle.lu_always.proofs.Likeness.{MovesOnce, alike_on, alike_open, client_alike}
 use Rattle.lu_always.proofs.Stood.{HaveSameOpen, client_standing, none_sequential, open_same, push_sequential, step_comes, waits_same}
 use Rattle.lu_answers.proofs.ReadSerially.{HasRoomFor, is_played, is_read, none_offends, stuck_from, stuck_to}
@@ -69,6 +84,9 @@ entry_stands q i op at =
     let parts : entries t q ≡ entries t (take i q) ++ op.outcome ∷ entries t (drop (suc i) q) =
     ap (entries t) (split_at q op i at) ∙ (entries-append t (take i q) (op ∷ drop (suc i) q) ∙ ap (λ x. entries t (take i q) ++ x) (entries_own op (drop (suc i) q))) in
     ap (λ x. slice_get x (length (entries t (take i q)))) parts ∙ last_at (entries t (take i q)) (entries t (drop (suc i) q)) op.outcome
+
+none_by : (a b : ℕ) → a ≡ b → b ≡ 0 → a ≡ 0
+none_by a b same none = same ∙ none
 
 module _ (c : Component) (way : Way) (matrix big : Matrix) (bound : ℕ) (s : State) (dead : DeadTable) (sound : IsDeadTable c dead) (table : Table) (unrolled : IsUnrolledFrom way matrix big) (is : IsStart c big s) (are : IsTableOf c way matrix bound (rest_of s) table) where
   at : IsReady c big s
@@ -310,3 +328,145 @@ module _ (c : Component) (way : Way) (matrix big : Matrix) (bound : ℕ) (s : St
         complete = λ calm. absurd (good.0.0 (no_open_complete end (λ t o. calm t (open_there t o)) good.0.1));
         stuck = λ t o. (let waits = open_pending t (open_here t o) in (sticks (record { t = t; k = done_of end t }) waits).0 (good.1 (record { t = t; k = done_of end t }) waits));
       }
+
+  -- ---- before a call
+
+  module _ (r : State) (h : List Event) (monitor : List Shown) (mine : IsFor r h monitor) (m : Move) (next : State) (k : ℕ) (step : Step r m next (Some (Call m.thread k))) where
+    call_sequential : HasSequentialThreads (h ++ Call m.thread k ∷ [])
+    call_sequential = push_sequential h (Call m.thread k) mine.sequential (step_comes r m next (Call m.thread k) h mine.agree step)
+
+    -- a call that has just been made is pending
+    pub call_pending : IsPending (h ++ Call m.thread k ∷ []) (record { t = m.thread; k = k })
+    call_pending =
+        let t = m.thread in
+        let comes = step_comes r m next (Call t k) h mine.agree step in
+        let called : calls t (h ++ Call t k ∷ []) ≡ calls t h + (calls t [] + 1) = calls-append t h (Call t k ∷ []) ∙ ap (λ n. calls t h + n) (calls_call t k []) in
+        let ended : length (outcomes t (h ++ Call t k ∷ [])) ≡ length (outcomes t h) = ap length (outcomes-append t h (Call t k ∷ []) ∙ append-nil (outcomes t h)) in
+        let before = comes.0 in
+        let done = comes.1 in
+        is_pending (h ++ Call t k ∷ []) (record { t = t; k = k }) call_sequential (omega (arith, called, before)) (omega (arith, ended, done))
+
+    -- it is stuck there exactly where it can be stuck before it
+    pub call_sticks : (u : List Move) → Leads s u r h → HasWitness (IsSerialHistory s) (keep_pending m.thread (h ++ Call m.thread k ∷ [])) ↔ CanBeStuck (Goes table) m.thread monitor
+    call_sticks u leads =
+        let a : OpId = record { t = m.thread; k = k } in
+        let whole : Leads s (u ++ m ∷ []) next (h ++ Call m.thread k ∷ []) = child_leads s u r h leads m next (Some (Call m.thread k)) step in
+        sticks_before (IsSerialHistory s) (LeadsTo table) (Goes table) thread_in (is_automaton table) reads_beginnings (λ q z. (serial_fits c big s q is z).0) h a monitor call_sequential call_pending
+        (has_stuck (u ++ m ∷ []) next (h ++ Call m.thread k ∷ []) whole call_sequential a call_pending) mine.monitor
+
+  -- so it can be, where the history with the call is good
+  pub good_call : (u : List Move) (r : State) (h : List Event) (monitor : List Shown) (m : Move) (end : State) (last : List Event) → Leads s u r h → IsFor r h monitor → IsIdle r m.thread → Leads r (m ∷ []) end last → IsGoodAt (IsSerialHistory s) end (h ++ last) → CanBeStuck (Goes table) m.thread monitor
+  good_call u r h monitor m end last leads mine is (next, e, rest, one, (same, none), joined) good =
+      let t = m.thread in
+      let k = is.0 in
+      let a : OpId = record { t = t; k = k } in
+      let called : e ≡ Some (Call t k) = call_event r m next e is one in
+      let call : Step r m next (Some (Call t k)) = subst (Step r m next) called one in
+      let whole : last ≡ Call t k ∷ [] = joined ∙ (ap (with_event e) none ∙ ap (λ x. with_event x []) called) in
+      let begun : IsAtWork end t k = subst (λ x. IsAtWork x t k) (sym same) (call_begins r m next (Some (Call t k)) is call) in
+      let waits : IsPending (h ++ last) a = subst (λ x. IsPending (h ++ x) a) (sym whole) (call_pending r h monitor mine m next k call) in
+      elim good as (λ _. CanBeStuck (Goes table) t monitor) [
+        | inl complete ↦ absurd (complete_not_open end complete.0 t (work_open end t k begun))
+        | inr stuck ↦ (call_sticks r h monitor mine m next k call u leads).0 (subst (λ x. HasWitness (IsSerialHistory s) (keep_pending t (h ++ x))) whole (stuck.1 a waits))
+      ]
+
+  -- an open operation has as many picks in a node's state
+  pub node_picks : (r x : State) → r.component ≡ c → AreAlike dead (client_of way matrix r) x → (t : ℕ) → HasOpen r t → picks_of x t ≡ picks_of r t
+  node_picks r x component alike t busy =
+      picks_alike dead (client_of way matrix r) x (sound_at r component) alike t ∙ client_picks way matrix r t busy
+
+  -- ---- a list of nodes that has all to which steps lead
+
+  module _ (start : State) (list : List Node) (nodes : AreStepNodes dead table way start list) where
+    -- wherever the moves of a step lead
+    along : (u : List Move) (r x : State) (h : List Event) (monitor : List Shown) (end : State) (k : List Event) → AreAlike dead (client_of way matrix r) x → IsFor r h monitor → HasNodeAfter dead table way list x u monitor → Leads r u end k → HasNode list end (h ++ k)
+    along [] r x h monitor end k alike mine (node, among, state, same) leads =
+        let here : HasNode list r h = record { node = node; among = among; state = alike_on dead (client_of way matrix r) x node.state alike state; mine = subst (IsFor r h) (sym same) mine } in
+        subst (λ y. HasNode list y (h ++ k)) (sym leads.0) (subst (HasNode list r) (sym (ap (λ y. h ++ y) leads.1 ∙ append-nil h)) here)
+    along (m ∷ u) r x h monitor end k alike mine after (next, event, rest, step, leads, joined) =
+        let to = move_to_client way matrix r m next event (of_next r mine.matrix_is) step in
+        let there = client_alike dead way (client_of way matrix r) x (sound_at r mine.component_is) alike m (client_of way matrix next) (option_map (event_in way matrix) event) to in
+        let on = after there.0 (option_map (event_in way matrix) event) there.1 in
+        let now : IsFor next (longer h event) on.0 = for_next r h monitor on.0 mine m next there.0 (same_open there.0 next there.2) event step on.1 in
+        let whole : (h ++ with_event event []) ++ rest ≡ h ++ k = append_assoc h (with_event event []) rest ∙ (ap (λ y. h ++ y) (with_event-append event [] rest) ∙ sym (ap (λ y. h ++ y) joined)) in
+        subst (HasNode list end) whole (along u next there.0 (longer h event) on.0 end rest there.2 now on.2 leads)
+
+    -- a schedule leads there, and there is a node
+    record HasReached (r : State) (h : List Event) : Type 0 where
+      has : HasNode list r h
+      schedule : List Move
+      leads : Leads s schedule r h
+
+    same_places : (r : State) (h : List Event) (it : HasReached r h) → HaveSamePlaces r it.has.node.state
+    same_places r h it = places_on r (client_of way matrix r) it.has.node.state (client_places way matrix r) (alike_places dead (client_of way matrix r) it.has.node.state it.has.state)
+
+    reached_on : (r : State) (h : List Event) (step : List Move) (next : State) (first : List Event) → HasReached r h → IsOneStep r step → Leads r step next first → HasReached next (h ++ first)
+    reached_on r h step next first it one leads =
+        let node = it.has.node in
+        let after = nodes.closed node step it.has.among (one_step_there r node.state (same_places r h it) step one) in
+        record {
+          has = along step r node.state h node.monitor next first it.has.state it.has.mine after leads;
+          schedule = it.schedule ++ step;
+          leads = leads_on s it.schedule step r next h first it.leads leads;
+        }
+
+    reached_first : start ≡ client_of way matrix s → HasReached s []
+    reached_first same =
+        let first = nodes.starts in
+        record {
+          has = record { node = first.0; among = first.1; state = subst (Represents dead first.0) same first.2.0; mine = for_start first.0 start first.2 };
+          schedule = [];
+          leads = (refl, refl);
+        }
+
+    module _ (r : State) (h : List Event) (it : HasReached r h) (blocked : AreAllBlocked r) where
+      abbrev node : Node
+      node = it.has.node
+
+      node_blocked : AllBlocked node.state
+      node_blocked t o =
+          let here = open_here it.schedule r h it.leads node it.has.state it.has.mine t o in
+          node_picks r node.state it.has.mine.component_is it.has.state t here ∙ blocked.begun t (open_not_idle r t here)
+
+      good_there : IsGoodBeforeCalls table way node
+      good_there = nodes.good node it.has.among node_blocked
+
+      good_open : (t k : ℕ) → IsAtWork r t k → HasWitness (IsSerialHistory s) (keep_pending t h)
+      good_open t k begun =
+          let o = work_open r t k begun in
+          let waits = open_pending it.schedule r h it.leads node it.has.state it.has.mine t o in
+          (sticks it.schedule r h it.leads node it.has.state it.has.mine (record { t = t; k = done_of r t }) waits).1
+          (good_there.good.stuck t (open_there it.schedule r h it.leads node it.has.state it.has.mine t o))
+
+      good_next : (t k : ℕ) → slice_get r.threads t ≡ Some (idle k) → k < call_count r t → HasWitness (IsSerialHistory s) (keep_pending t (h ++ Call t k ∷ []))
+      good_next t k stands left =
+          let m : Move = record { thread = t; pick = 0 } in
+          let idle_here : IsIdle r t = (k, stands) in
+          let one : picks_of r t ≡ 1 = rw (stands, lt-ltb k (call_count r t) left) refl in
+          let go = feasible_step r m (omega (arith, one)) in
+          let next = go.0 in
+          let made : go.1 ≡ Some (Call t k) = call_event r m next go.1 idle_here go.2 in
+          let step : Step r m next (Some (Call t k)) = subst (Step r m next) made go.2 in
+          let to = move_to_client way matrix r m next (Some (Call t k)) (of_next r it.has.mine.matrix_is) step in
+          let on = client_alike dead way (client_of way matrix r) node.state (sound_at r it.has.mine.component_is) it.has.state m (client_of way matrix next) (option_map (event_in way matrix) (Some (Call t k))) to in
+          let begun : IsAtWork next t k = call_begins r m next (Some (Call t k)) idle_here step in
+          let o = work_open next t k begun in
+          let component : next.component ≡ c = (step_moved r m next (Some (Call t k)) step).component ∙ it.has.mine.component_is in
+          let none = none_by (picks_of on.0 t) (picks_of next t) (node_picks next on.0 component on.2 t o) (blocked.next m next (Some (Call t k)) idle_here step) in
+          let stuck : CanBeStuck (Goes table) t node.monitor =
+          good_there.next m (idle_there r node.state (same_places r h it) t idle_here, (on.0, option_map (event_in way matrix) (Some (Call t k)), on.1, none)) in
+          (call_sticks r h node.monitor it.has.mine m next k step it.schedule it.leads).1 stuck
+
+      good_before : IsGoodBefore (IsSerialHistory s) r h
+      good_before = record {
+        complete = λ complete.
+            (completes it.schedule r h it.leads node it.has.state it.has.mine complete).1
+            (good_there.good.complete (λ t o. complete_not_open r complete t (open_here it.schedule r h it.leads node it.has.state it.has.mine t o)));
+        begun = good_open;
+        next = good_next;
+      }
+
+    -- so each schedule that ends is good
+    pub ends_well_by_steps : (guarded : List Bool) → TellsGuarded c guarded → start ≡ client_of way matrix s → EndsWell (IsSerialHistory s) s
+    ends_well_by_steps guarded told same =
+        ends_well HasReached reached_on (IsSerialHistory s) c big guarded s told is (reached_first same) good_before

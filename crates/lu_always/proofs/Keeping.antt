@@ -1,16 +1,12 @@
 -- Nodes that are kept.
-use Rattle.std.proofs.Common.{arith, ◌≡◌, ◌⊎◌, map, reverse, ℕ, zero, suc, ◌+◌, ◌<◌, ◌≤◌, true, List, [], ◌∷◌, ◌++◌, length, Option, Some, None, get_or, slice_get, refl, sym, ◌∙◌, ap, subst, inl, inr, append_assoc, length-append}
+use Rattle.std.proofs.Common.{arith, ◌≡◌, ◌⊎◌, map, ℕ, zero, suc, ◌+◌, ◌<◌, ◌≤◌, true, List, [], ◌∷◌, ◌++◌, length, Option, Some, None, get_or, slice_get, refl, sym, ◌∙◌, ap, subst, inl, inr, append_assoc, length-append}
 use Rattle.std.proofs.lemmas.Bool.{cases_lt}
-use Rattle.std.proofs.lemmas.List.{append-nil, reverse-append, reverse-reverse}
+use Rattle.std.proofs.lemmas.List.{append-nil}
 use Rattle.std.proofs.lemmas.Option.{get_or_from_slice_get, same_Some, slice_get-map, slice_get_past, slice_get_within}
-use Rattle.std.specs.Global.{Vec}
 use Rattle.std.specs.Option.{option_and_then, option_map}
 use Rattle.lu_test.specs.declared.schedule.Move.{Move}
-use Rattle.lu_component.specs.Component.{Component}
-use Rattle.lu_test.specs.Matrix.{Matrix}
 use Rattle.lu_machine.specs.declared.event.Event.{Event}
 use Rattle.lu_machine.specs.declared.event.Event.TheVariants.{Call, Return}
-use Rattle.lu_machine.specs.Starts.{IsStart}
 use Rattle.lu_machine.specs.declared.position.Position.{Position}
 use Rattle.lu_machine.specs.Positions.{CanStandAt, at_position}
 use Rattle.lu_machine.specs.States.{State}
@@ -20,23 +16,22 @@ use Rattle.lu_machine.proofs.Positions.{HaveSame, position_eq, same_position}
 use Rattle.lu_machine.proofs.StepLaws.{step_feasible}
 use Rattle.lu_history.proofs.Events.{at_push, kept_at}
 use Rattle.lu_linearization.specs.declared.configuration.Configuration.{Configuration as Shown}
-use Rattle.lu_linearization.specs.Monitors.{AreInitial}
 use Rattle.lu_tree.specs.Alike.{AreAlike}
 use Rattle.lu_tree.proofs.Alike.{alike_itself}
 use Rattle.lu_client.proofs.Clients.{moves_in_order}
-use Rattle.lu_client.specs.Rounds.Way.{InOrder}
-use Rattle.lu_client.specs.Clients.{AllBlocked, ClientStep}
+use Rattle.lu_client.specs.Clients.{ClientStep}
 use Rattle.lu_client.specs.Stages.{IsIn, Stage}
 use Rattle.lu_client.proofs.OneCalls.{within_some}
 use Rattle.lu_always.specs.declared.stored.Arrival.{Arrival}
 use Rattle.lu_always.specs.declared.stored.StoredNode.{StoredNode}
-use Rattle.lu_always.specs.Searching.{AddsAt, AddsFrom, AddsOnly, AllCanStand, AreArrivals, AreSearched, ComesFrom, Grows, HasAllNext, HasNext, IsArrival, IsBad, IsGoodIfBlocked, IsLinearizableBy, IsNodeAt, IsStoredFor, IsVerdict, arrived, node_at, node_of}
-use Rattle.lu_always.specs.Ways.{HasParentsBefore, IsWayBack, IsWayTo, arrival_at}
-use Rattle.lu_always.specs.declared.verdicts.Verdict.TheVariants.{Fails}
-use Rattle.lu_always.specs.Nodes.{AreNodes, IsAfterMove, IsFirst, IsGoodNode, IsMove, MovesLead, Node, Represents}
+use Rattle.lu_always.specs.Searching.{AddsAt, AddsBy, AddsFrom, AddsOnly, AllCanStand, AreArrivals, AreSearched, ComesFrom, Grows, HasAllNext, HasNext, HoldsOf, IsArrival, IsNodeAt, IsStoredFor, Leads, arrived, moves_of, node_at, node_of}
+use Rattle.lu_always.specs.Ways.{AreBack, HasParentsBefore, IsWayTo, all_moves, arrival_at}
+use Rattle.lu_always.specs.Livelocks.{AreAllNodes}
+use Rattle.lu_always.specs.Nodes.{IsAfterMove, IsMove, MovesLead, Node, Represents}
+use Rattle.lu_answers.specs.declared.rounds.Rounds.{Rounds}
 use Rattle.lu_answers.specs.Tables.{Rows, Table, table_of}
+use Rattle.lu_answers.specs.Ways.{limit_of, way_of}
 use Rattle.lu_always.proofs.Likeness.{in_order_once}
-use Rattle.lu_always.proofs.Decided.{bad_node_fails, nodes_tell_all, none_dead}
 
 stands_same : (s : State) (p q : Position) → HaveSame p q → at_position s p ≡ at_position s q
 stands_same s p q is =
@@ -76,8 +71,8 @@ longer s old new grows index within =
     let parts : length new ≡ length old + length grows.more = ap (λ (x : List StoredNode). length x) grows.parts ∙ length-append old grows.more in
     omega (arith, parts, within)
 
-pub next_more : (rows : Rows) (s : State) (old new : List StoredNode) → Grows s old new → (node : Node) (m : Move) → HasNext rows old node m → HasNext rows new node m
-next_more rows s old new grows node m next b event step = let x = next b event step in (x.0, in_more s old new grows x.0 x.1, x.2, x.3)
+pub next_more : (rounds : Rounds) (rows : Rows) (s : State) (old new : List StoredNode) → Grows s old new → (node : Node) (m : Move) → HasNext rounds rows old node m → HasNext rounds rows new node m
+next_more rounds rows s old new grows node m next b event step = let x = next b event step in (x.0, in_more s old new grows x.0 x.1, x.2, x.3)
 
 -- ---- one move
 
@@ -85,8 +80,8 @@ pub record SameBase (a b : State) : Type 0 where
   pub component : b.component ≡ a.component
   pub matrix_is : b.matrix ≡ a.matrix
 
-pub moved_base : (a : State) (m : Move) (b : State) (event : Option Event) → ClientStep (InOrder None) a m b event → SameBase a b
-moved_base a m b event step =
+pub moved_base : (rounds : Rounds) (a : State) (m : Move) (b : State) (event : Option Event) → ClientStep (way_of rounds) a m b event → SameBase a b
+moved_base rounds a m b event step =
     let moved = step_moved (let x : State = record a { matrix = step.0 } in x) m step.2.0 event step.2.1 in
     record {
       component = ap (λ (x : State). x.component) step.2.2 ∙ moved.component;
@@ -115,24 +110,34 @@ base_grows a b old new same grows = record {
 pub home_again : (a b new : State) (home : Position) → SameBase a b → at_position a home ≡ a → new ≡ at_position b home → new ≡ a
 home_again a b new home same here is = is ∙ (base_at a b home same ∙ here)
 
-pub next_made : (rows : Rows) (a : State) (m : Move) (b : State) (event : Option Event) (all : List StoredNode) (j : ℕ) (monitor after : List Shown) → ClientStep (InOrder None) a m b event → IsNodeAt all j (node_at b after) → IsAfterMove (table_of [] rows) b event monitor after → HasNext rows all (node_at a monitor) m
-next_made rows a m b event all j monitor after made keeps is other others step =
-    let same = in_order_once None a m b other event others made step in
+pub next_made : (rounds : Rounds) (rows : Rows) (a : State) (m : Move) (b : State) (event : Option Event) (all : List StoredNode) (j : ℕ) (monitor after : List Shown) → ClientStep (way_of rounds) a m b event → IsNodeAt all j (node_at b after) → IsAfterMove (table_of [] rows) b event monitor after → HasNext rounds rows all (node_at a monitor) m
+next_made rounds rows a m b event all j monitor after made keeps is other others step =
+    let same = in_order_once (limit_of rounds) a m b other event others made step in
     let one : b ≡ other = same.0 in
     let now : IsAfterMove (table_of [] rows) b event monitor keeps.0.monitor = subst (λ x. IsAfterMove (table_of [] rows) b event monitor x) (sym keeps.2.1) is in (
       keeps.0,
       (j, keeps.1),
-      sym (base_at a b keeps.0.position (moved_base a m b event made)) ∙ (keeps.2.0 ∙ one),
+      sym (base_at a b keeps.0.position (moved_base rounds a m b event made)) ∙ (keeps.2.0 ∙ one),
       subst (λ e. IsAfterMove (table_of [] rows) other e monitor keeps.0.monitor) same.1 (subst (λ x. IsAfterMove (table_of [] rows) x event monitor keeps.0.monitor) one now),
     )
 
-pub adds_made : (rows : Rows) (a : State) (m : Move) (b : State) (event : Option Event) (index : ℕ) (old new : List StoredNode) (monitor after : List Shown) → ClientStep (InOrder None) a m b event → IsAfterMove (table_of [] rows) b event monitor after → AddsOnly b after (arrived index m) old new → AddsFrom rows a index (node_at a monitor) old new
-adds_made rows a m b event index old new monitor after step is only kept at =
-    elim (only kept at) as (λ _. IsIn old kept ⊎ ComesFrom rows a index (node_at a monitor) kept) [
+-- each new node is the one to which the move of the arrival leads
+pub adds_made : (rounds : Rounds) (rows : Rows) (a : State) (one : Arrival) (b : State) (event : Option Event) (old new : List StoredNode) (monitor after : List Shown) → ClientStep (way_of rounds) a one.by b event → IsAfterMove (table_of [] rows) b event monitor after → AddsOnly b after (Some one) old new → AddsBy rounds rows a monitor one old new
+adds_made rounds rows a one b event old new monitor after step is only kept at =
+    elim (only kept at) as (λ _. IsIn old kept ⊎ ((kept.arrival ≡ Some one) × Leads rounds rows (node_at a monitor) (one.by ∷ []) (node_of a kept))) [
       | inl before ↦ inl before
       | inr mine ↦
-          (let here : at_position a kept.position ≡ b = sym (base_at a b kept.position (moved_base a m b event step)) ∙ mine.0.0 in
-          inr (m, event, mine.1, (b, step, subst (AreAlike [] b) (sym here) (alike_itself [] b), subst (λ x. IsAfterMove (table_of [] rows) b event monitor x) (sym mine.0.1) is)))
+          (let here : at_position a kept.position ≡ b = sym (base_at a b kept.position (moved_base rounds a one.by b event step)) ∙ mine.0.0 in
+          let move : IsMove [] (table_of [] rows) (way_of rounds) (node_at a monitor) one.by event (node_of a kept) = (b, step, subst (AreAlike [] b) (sym here) (alike_itself [] b), subst (λ x. IsAfterMove (table_of [] rows) b event monitor x) (sym mine.0.1) is) in
+          inr (mine.1, (node_of a kept, event, move, refl)))
+    ]
+
+-- a move alone
+pub adds_one : (rounds : Rounds) (rows : Rows) (a : State) (monitor : List Shown) (index : ℕ) (m : Move) (old new : List StoredNode) → AddsBy rounds rows a monitor (arrived index m) old new → AddsFrom rounds rows a index (node_at a monitor) old new
+adds_one rounds rows a monitor index m old new adds kept at =
+    elim (adds kept at) as (λ _. IsIn old kept ⊎ ComesFrom rounds rows a index (node_at a monitor) kept) [
+      | inl before ↦ inl before
+      | inr mine ↦ inr (arrived index m, mine.0, refl, mine.1)
     ]
 
 pub only_one : (For : StoredNode → Type 0) (all new : List StoredNode) (one : StoredNode) → new ≡ all ++ one ∷ [] → For one → (kept : StoredNode) → IsIn new kept → IsIn all kept ⊎ For kept
@@ -148,58 +153,58 @@ only_one For all new one is for kept at =
 abbrev pub IsBelow : ℕ → ℕ → Move → Type 0
 IsBelow t p m = (m.thread < t) ⊎ ((m.thread ≡ t) × (m.pick < p))
 
-pub record SoFar (rows : Rows) (s : State) (monitor : List Shown) (index : ℕ) (old : List StoredNode) (machine : State) (all : List StoredNode) (t p : ℕ) : Type 0 where
+pub record SoFar (rounds : Rounds) (rows : Rows) (s : State) (monitor : List Shown) (index : ℕ) (old : List StoredNode) (machine : State) (all : List StoredNode) (t p : ℕ) : Type 0 where
   pub machine_is : machine ≡ s
   pub grows : Grows s old all
-  pub below : (m : Move) → IsBelow t p m → HasNext rows all (node_at s monitor) m
-  pub adds : AddsFrom rows s index (node_at s monitor) old all
+  pub below : (m : Move) → IsBelow t p m → HasNext rounds rows all (node_at s monitor) m
+  pub adds : AddsFrom rounds rows s index (node_at s monitor) old all
 
-module _ (rows : Rows) (s : State) (monitor : List Shown) (index : ℕ) (old : List StoredNode) where
-  pub far_none : SoFar rows s monitor index old s old 0 0
+module _ (rounds : Rounds) (rows : Rows) (s : State) (monitor : List Shown) (index : ℕ) (old : List StoredNode) where
+  pub far_none : SoFar rounds rows s monitor index old s old 0 0
   far_none = record { machine_is = refl; grows = grows_none s old; below = λ m below. elim below [ inl lt ↦ absurd (omega (arith, lt)) | inr at ↦ (let lt = at.1 in absurd (omega (arith, lt))) ]; adds = λ kept at. inl at }
 
-  pub far_more : (machine next : State) (all new : List StoredNode) (t p : ℕ) → SoFar rows s monitor index old machine all t p → next ≡ machine → Grows machine all new → HasNext rows new (node_at machine monitor) (record { thread = t; pick = p }) → AddsFrom rows machine index (node_at machine monitor) all new → SoFar rows s monitor index old next new t (p + 1)
+  pub far_more : (machine next : State) (all new : List StoredNode) (t p : ℕ) → SoFar rounds rows s monitor index old machine all t p → next ≡ machine → Grows machine all new → HasNext rounds rows new (node_at machine monitor) (record { thread = t; pick = p }) → AddsFrom rounds rows machine index (node_at machine monitor) all new → SoFar rounds rows s monitor index old next new t (p + 1)
   far_more machine next all new t p far home grows keeps adds =
       let more : Grows s all new = subst (λ x. Grows x all new) far.machine_is grows in
-      let here : HasNext rows new (node_at s monitor) (record { thread = t; pick = p }) = subst (λ x. HasNext rows new (node_at x monitor) (record { thread = t; pick = p })) far.machine_is keeps in
+      let here : HasNext rounds rows new (node_at s monitor) (record { thread = t; pick = p }) = subst (λ x. HasNext rounds rows new (node_at x monitor) (record { thread = t; pick = p })) far.machine_is keeps in
       record {
         machine_is = home ∙ far.machine_is;
         grows = grows_on s old all new far.grows more;
         below = λ m below.
-            elim below as (λ _. HasNext rows new (node_at s monitor) m) [
-              | inl lt ↦ next_more rows s all new more (node_at s monitor) m (far.below m (inl lt))
-              | inr at ↦ elim (cases_lt m.pick p) as (λ _. HasNext rows new (node_at s monitor) m) [
-                | inl less ↦ next_more rows s all new more (node_at s monitor) m (far.below m (inr (at.0, less)))
+            elim below as (λ _. HasNext rounds rows new (node_at s monitor) m) [
+              | inl lt ↦ next_more rounds rows s all new more (node_at s monitor) m (far.below m (inl lt))
+              | inr at ↦ elim (cases_lt m.pick p) as (λ _. HasNext rounds rows new (node_at s monitor) m) [
+                | inl less ↦ next_more rounds rows s all new more (node_at s monitor) m (far.below m (inr (at.0, less)))
                 | inr past ↦
                     (let lt = at.1 in
                     let pick : m.pick ≡ p = omega (arith, lt, past) in
                     let one : Move = record { thread = t; pick = p } in
                     let same : m ≡ one = ap (λ (x : ℕ). let y : Move = record { thread = x; pick = m.pick } in y) at.0 ∙ ap (λ (x : ℕ). let y : Move = record { thread = t; pick = x } in y) pick in
-                    subst (HasNext rows new (node_at s monitor)) (sym same) here)
+                    subst (HasNext rounds rows new (node_at s monitor)) (sym same) here)
               ]
             ];
         adds = λ kept at.
-            elim (subst (λ x. AddsFrom rows x index (node_at x monitor) all new) far.machine_is adds kept at) as (λ _. IsIn old kept ⊎ ComesFrom rows s index (node_at s monitor) kept) [
+            elim (subst (λ x. AddsFrom rounds rows x index (node_at x monitor) all new) far.machine_is adds kept at) as (λ _. IsIn old kept ⊎ ComesFrom rounds rows s index (node_at s monitor) kept) [
               | inl before ↦ far.adds kept before
               | inr mine ↦ inr mine
             ];
       }
 
-  never : (all : List StoredNode) (m : Move) → picks_of s m.thread ≤ m.pick → HasNext rows all (node_at s monitor) m
-  never all m past b event step = let it = (moves_in_order None s m b event).0 step in let lt = step_feasible s m it.0 event it.1 in absurd (omega (arith, lt, past))
+  never : (all : List StoredNode) (m : Move) → picks_of s m.thread ≤ m.pick → HasNext rounds rows all (node_at s monitor) m
+  never all m past b event step = let it = (moves_in_order (limit_of rounds) s m b event).0 step in let lt = step_feasible s m it.0 event it.1 in absurd (omega (arith, lt, past))
 
-  pub far_turn : (machine : State) (all : List StoredNode) (t p : ℕ) → picks_of s t ≤ p → SoFar rows s monitor index old machine all t p → SoFar rows s monitor index old machine all (t + 1) 0
+  pub far_turn : (machine : State) (all : List StoredNode) (t p : ℕ) → picks_of s t ≤ p → SoFar rounds rows s monitor index old machine all t p → SoFar rounds rows s monitor index old machine all (t + 1) 0
   far_turn machine all t p over far =
       record {
         machine_is = far.machine_is;
         grows = far.grows;
         below = λ m below.
-            elim below as (λ _. HasNext rows all (node_at s monitor) m) [
-              | inl lt ↦ elim (cases_lt m.thread t) as (λ _. HasNext rows all (node_at s monitor) m) [
+            elim below as (λ _. HasNext rounds rows all (node_at s monitor) m) [
+              | inl lt ↦ elim (cases_lt m.thread t) as (λ _. HasNext rounds rows all (node_at s monitor) m) [
                 | inl less ↦ far.below m (inl less)
                 | inr same ↦
                     (let here : m.thread ≡ t = omega (arith, lt, same) in
-                    elim (cases_lt m.pick p) as (λ _. HasNext rows all (node_at s monitor) m) [
+                    elim (cases_lt m.pick p) as (λ _. HasNext rounds rows all (node_at s monitor) m) [
                       | inl less ↦ far.below m (inr (here, less))
                       | inr more ↦ never all m (let few : picks_of s m.thread ≤ p = subst (λ x. picks_of s x ≤ p) (sym here) over in omega (arith, few, more))
                     ])
@@ -212,18 +217,18 @@ module _ (rows : Rows) (s : State) (monitor : List Shown) (index : ℕ) (old : L
   picks_past : (t : ℕ) → length s.threads ≤ t → picks_of s t ≡ 0
   picks_past t past = rw (slice_get_past s.threads t past) refl
 
-  pub far_all : (machine : State) (all : List StoredNode) (t p : ℕ) → length s.threads ≤ t → SoFar rows s monitor index old machine all t p → HasAllNext rows all (node_at s monitor)
+  pub far_all : (machine : State) (all : List StoredNode) (t p : ℕ) → length s.threads ≤ t → SoFar rounds rows s monitor index old machine all t p → HasAllNext rounds rows all (node_at s monitor)
   far_all machine all t p past far m =
-      elim (cases_lt m.thread t) as (λ _. HasNext rows all (node_at s monitor) m) [
+      elim (cases_lt m.thread t) as (λ _. HasNext rounds rows all (node_at s monitor) m) [
         | inl less ↦ far.below m (inl less)
         | inr over ↦ never all m (let zero_picks = picks_past m.thread (omega (arith, past, over)) in omega (arith, zero_picks))
       ]
 
 -- ---- node after node
 
-pub moves_on : (table : Table) (u : List Move) (first node next : Node) (m : Move) (event : Option Event) → MovesLead [] table (InOrder None) first u node → IsMove [] table (InOrder None) node m event next → MovesLead [] table (InOrder None) first (u ++ m ∷ []) next
-moves_on table [] first node next m event path move = (next, event, subst (λ (x : Node). IsMove [] table (InOrder None) x m event next) path move, refl)
-moves_on table (o ∷ u) first node next m event path move = (path.0, path.1, path.2, moves_on table u path.0 node next m event path.3 move)
+pub moves_on : (rounds : Rounds) (table : Table) (u : List Move) (first node next : Node) (m : Move) (event : Option Event) → MovesLead [] table (way_of rounds) first u node → IsMove [] table (way_of rounds) node m event next → MovesLead [] table (way_of rounds) first (u ++ m ∷ []) next
+moves_on rounds table [] first node next m event path move = (next, event, subst (λ (x : Node). IsMove [] table (way_of rounds) x m event next) path move, refl)
+moves_on rounds table (o ∷ u) first node next m event path move = (path.0, path.1, path.2, moves_on rounds table u path.0 node next m event path.3 move)
 
 pub base_node : (s machine : State) (kept : StoredNode) → SameBase s machine → node_of machine kept ≡ node_of s kept
 base_node s machine kept same = ap (λ (x : State). node_at x kept.monitor) (base_at s machine kept.position same)
@@ -236,17 +241,17 @@ here_node machine new items xs ys number d e kept monitor first second same is a
     ap (λ x. node_at x monitor) (is ∙ ap (λ (x : StoredNode). at_position machine x.position) other)
     ∙ ap (λ m. node_at (at_position machine kept.position) m) (same ∙ ap (λ (x : StoredNode). x.monitor) mine)
 
-pub adds_here : (rows : Rows) (machine new : State) (index : ℕ) (node here : Node) (old all : List StoredNode) → SameBase machine new → node ≡ here → AddsFrom rows new index node old all → AddsFrom rows machine index here old all
-adds_here rows machine new index node here old all same is adds kept at =
-    elim (adds kept at) as (λ _. IsIn old kept ⊎ ComesFrom rows machine index here kept) [
+pub adds_here : (rounds : Rounds) (rows : Rows) (machine new : State) (index : ℕ) (node here : Node) (old all : List StoredNode) → SameBase machine new → node ≡ here → AddsFrom rounds rows new index node old all → AddsFrom rounds rows machine index here old all
+adds_here rounds rows machine new index node here old all same is adds kept at =
+    elim (adds kept at) as (λ _. IsIn old kept ⊎ ComesFrom rounds rows machine index here kept) [
       | inl before ↦ inl before
-      | inr mine ↦
+      | inr (a, by, from, leads) ↦
           inr (
-            mine.0,
-            mine.1,
-            mine.2,
-            subst (λ (x : Node). IsMove [] (table_of [] rows) (InOrder None) x mine.0 mine.1 (node_of machine kept)) is
-                (subst (λ (x : Node). IsMove [] (table_of [] rows) (InOrder None) node mine.0 mine.1 x) (base_node machine new kept same) mine.3),
+            a,
+            by,
+            from,
+            subst (λ (x : Node). Leads rounds rows x (moves_of a) (node_of machine kept)) is
+                (subst (λ (x : Node). Leads rounds rows node (moves_of a) x) (base_node machine new kept same) leads),
           )
     ]
 
@@ -257,34 +262,29 @@ old_at all more i kept lt at =
     let same : old.0 ≡ kept = same_Some old.0 kept (sym (kept_at all more old.0 i old.1) ∙ at) in
     old.1 ∙ ap Some same
 
--- from the node of this number all is kept, and it is good if it is blocked
-abbrev pub IsVisited : Rows → State → List StoredNode → ℕ → List StoredNode → Type 0
-IsVisited rows s old number new =
-    (kept : StoredNode) → slice_get old number ≡ Some kept → IsGoodIfBlocked rows (node_of s kept) × HasAllNext rows new (node_of s kept)
-
 -- ---- arrivals
 
 -- an arrival stays one as the list grows, for any later index too
-arrival_more : (rows : Rows) (s : State) (all new : List StoredNode) → Grows s all new → (kept : StoredNode) (i j : ℕ) → i ≤ j → (a : Option Arrival) → IsArrival rows s all i kept a → IsArrival rows s new j kept a
-arrival_more rows s all new grows kept i j le None is = is
-arrival_more rows s all new grows kept i j le (Some a) is =
-    let before = is.0 in
-    (omega (arith, before, le), is.1, ap (λ (x : List StoredNode). slice_get x a.parent) grows.parts ∙ kept_at all grows.more is.1 a.parent is.2, is.3, is.4)
+arrival_more : (rounds : Rounds) (rows : Rows) (first_monitor : List Shown) (s : State) (all new : List StoredNode) → Grows s all new → (kept : StoredNode) (i j : ℕ) → i ≤ j → (a : Option Arrival) → IsArrival rounds rows first_monitor s all i kept a → IsArrival rounds rows first_monitor s new j kept a
+arrival_more rounds rows first_monitor s all new grows kept i j le None is = is
+arrival_more rounds rows first_monitor s all new grows kept i j le (Some a) (before, parent, at, leads) =
+    (omega (arith, before, le), parent, ap (λ (x : List StoredNode). slice_get x a.parent) grows.parts ∙ kept_at all grows.more parent a.parent at, leads)
 
-pub arrivals_more : (rows : Rows) (s : State) (n : ℕ) (all new : List StoredNode) → n < length all → AreArrivals rows s all → Grows s all new → AddsAt rows s n all new → AreArrivals rows s new
-arrivals_more rows s n all new within are grows adds i kept at =
+pub arrivals_more : (rounds : Rounds) (rows : Rows) (first_monitor : List Shown) (s : State) (n : ℕ) (all new : List StoredNode) → n < length all → AreArrivals rounds rows first_monitor s all → Grows s all new → AddsAt rounds rows s n all new → AreArrivals rounds rows first_monitor s new
+arrivals_more rounds rows first_monitor s n all new within are grows adds i kept at =
     let here = within_some all n within in
-    elim (cases_lt i (length all)) as (λ _. IsArrival rows s new i kept kept.arrival) [
+    elim (cases_lt i (length all)) as (λ _. IsArrival rounds rows first_monitor s new i kept kept.arrival) [
       | inl less ↦
           (let old = old_at all grows.more i kept less (sym (ap (λ (x : List StoredNode). slice_get x i) grows.parts) ∙ at) in
-          arrival_more rows s all new grows kept i i (omega arith) kept.arrival (are i kept old))
-      | inr past ↦ elim (adds here.0 here.1 kept (i, at)) as (λ _. IsArrival rows s new i kept kept.arrival) [
+          arrival_more rounds rows first_monitor s all new grows kept i i (omega arith) kept.arrival (are i kept old))
+      | inr past ↦ elim (adds here.0 here.1 kept (i, at)) as (λ _. IsArrival rounds rows first_monitor s new i kept kept.arrival) [
         | inl before ↦
             (let lt = slice_get_within all before.0 kept before.1 in
-            arrival_more rows s all new grows kept before.0 i (omega (arith, lt, past)) kept.arrival (are before.0 kept before.1))
-        | inr mine ↦
-            subst (IsArrival rows s new i kept) (sym mine.2)
-            (omega (arith, within, past), here.0, ap (λ (x : List StoredNode). slice_get x n) grows.parts ∙ kept_at all grows.more here.0 n here.1, mine.1, mine.3)
+            arrival_more rounds rows first_monitor s all new grows kept before.0 i (omega (arith, lt, past)) kept.arrival (are before.0 kept before.1))
+        | inr (a, by, from, leads) ↦
+            (let there : slice_get new n ≡ Some here.0 = ap (λ (x : List StoredNode). slice_get x n) grows.parts ∙ kept_at all grows.more here.0 n here.1 in
+            let so : IsArrival rounds rows first_monitor s new i kept (Some a) = (omega (arith, within, past, from), here.0, subst (λ x. slice_get new x ≡ Some here.0) (sym from) there, leads) in
+            subst (IsArrival rounds rows first_monitor s new i kept) (sym by) so)
       ]
     ]
 
@@ -299,76 +299,92 @@ arrival_there list i a is = by (slice_get list i) refl is
     by None at h = absurd cc
     by (Some kept) at h = (kept, at, h)
 
-pub parents_before : (rows : Rows) (s : State) (all : List StoredNode) → AreArrivals rows s all → HasParentsBefore all
-parents_before rows s all are i a is =
+pub parents_before : (rounds : Rounds) (rows : Rows) (first_monitor : List Shown) (s : State) (all : List StoredNode) → AreArrivals rounds rows first_monitor s all → HasParentsBefore all
+parents_before rounds rows first_monitor s all are i a is =
     let there = arrival_there all i a is in
-    (subst (IsArrival rows s all i there.0) there.2 (are i there.0 there.1)).0
+    (subst (IsArrival rounds rows first_monitor s all i there.0) there.2 (are i there.0 there.1)).0
+
+-- moves after moves
+leads_on : (rounds : Rounds) (table : Table) (u v : List Move) (a b c : Node) → MovesLead [] table (way_of rounds) a u b → MovesLead [] table (way_of rounds) b v c → MovesLead [] table (way_of rounds) a (u ++ v) c
+leads_on rounds table [] v a b c first second = subst (λ (x : Node). MovesLead [] table (way_of rounds) x v c) first second
+leads_on rounds table (m ∷ u) v a b c (next, event, move, rest) second = (next, event, move, leads_on rounds table u v next b c rest second)
 
 -- where moves from the first node lead
-pub record WayFrom (rows : Rows) (s : State) (u : List Move) (node : Node) : Type 0 where
+pub record WayFrom (rounds : Rounds) (rows : Rows) (first_monitor : List Shown) (s : State) (u : List Move) (node : Node) : Type 0 where
   pub first : Node
-  pub is_first : IsFirst [] s first
-  pub lead : MovesLead [] (table_of [] rows) (InOrder None) first u node
+  pub state : Represents [] first s
+  pub monitor : first.monitor ≡ first_monitor
+  pub lead : Leads rounds rows first u node
 
-way_leads : (rows : Rows) (s : State) (all : List StoredNode) → AreArrivals rows s all → (back : List Move) (i : ℕ) → IsWayBack all i back → (kept : StoredNode) → slice_get all i ≡ Some kept → WayFrom rows s (reverse back) (node_of s kept)
-way_leads rows s all are [] i way kept at = record {
-  first = node_of s kept;
-  is_first = subst (IsArrival rows s all i kept) (sym (arrival_is all i kept at) ∙ way.1) (are i kept at);
-  lead = refl;
-}
-way_leads rows s all are (m ∷ back) i way kept at =
-    let a : Arrival = record { parent = way.0; by = m } in
-    let is : IsArrival rows s all i kept (Some a) = subst (IsArrival rows s all i kept) (sym (arrival_is all i kept at) ∙ way.1) (are i kept at) in
-    let before = way_leads rows s all are back way.0 way.2 is.1 is.2 in
+way_leads : (rounds : Rounds) (rows : Rows) (first_monitor : List Shown) (s : State) (all : List StoredNode) → AreArrivals rounds rows first_monitor s all → (back : List Arrival) (i : ℕ) → AreBack all i back → (kept : StoredNode) → slice_get all i ≡ Some kept → WayFrom rounds rows first_monitor s (all_moves back) (node_of s kept)
+way_leads rounds rows first_monitor s all are [] i way kept at =
+    let is : IsStoredFor (node_at s first_monitor) kept = subst (IsArrival rounds rows first_monitor s all i kept) (sym (arrival_is all i kept at) ∙ way.1) (are i kept at) in
+    record {
+      first = node_of s kept;
+      state = subst (AreAlike [] s) (sym is.0) (alike_itself [] s);
+      monitor = is.1;
+      lead = refl;
+    }
+way_leads rounds rows first_monitor s all are (a ∷ back) i (here, way) kept at =
+    let is : IsArrival rounds rows first_monitor s all i kept (Some a) = subst (IsArrival rounds rows first_monitor s all i kept) (sym (arrival_is all i kept at) ∙ here) (are i kept at) in
+    let before = way_leads rounds rows first_monitor s all are back a.parent way is.1 is.2 in
     record {
       first = before.first;
-      is_first = before.is_first;
-      lead = subst (λ u. MovesLead [] (table_of [] rows) (InOrder None) before.first u (node_of s kept)) (sym (reverse-append (m ∷ []) back)) (moves_on (table_of [] rows) (reverse back) before.first (node_of s is.1) (node_of s kept) m is.3 before.lead is.4);
+      state = before.state;
+      monitor = before.monitor;
+      lead = leads_on rounds (table_of [] rows) (all_moves back) (moves_of a) before.first (node_of s is.1) (node_of s kept) before.lead is.3;
     }
 
-pub way_there : (rows : Rows) (s : State) (all : List StoredNode) → AreArrivals rows s all → (i : ℕ) (u : List Move) → IsWayTo all i u → (kept : StoredNode) → slice_get all i ≡ Some kept → WayFrom rows s u (node_of s kept)
-way_there rows s all are i u way kept at =
-    subst (λ v. WayFrom rows s v (node_of s kept)) (reverse-reverse u) (way_leads rows s all are (reverse u) i way kept at)
+pub way_there : (rounds : Rounds) (rows : Rows) (first_monitor : List Shown) (s : State) (all : List StoredNode) → AreArrivals rounds rows first_monitor s all → (i : ℕ) (u : List Move) → IsWayTo all i u → (kept : StoredNode) → slice_get all i ≡ Some kept → WayFrom rounds rows first_monitor s u (node_of s kept)
+way_there rounds rows first_monitor s all are i u (back, way, is) kept at =
+    subst (λ v. WayFrom rounds rows first_monitor s v (node_of s kept)) (sym is) (way_leads rounds rows first_monitor s all are back i way kept at)
 
-pub searched_next : (rows : Rows) (s : State) (n : ℕ) (all new : List StoredNode) → n < length all → AreSearched rows s n all → Grows s all new → IsVisited rows s all n new → AddsAt rows s n all new → AreSearched rows s (n + 1) new
-searched_next rows s n all new within are grows visited adds = record {
-  arrivals = arrivals_more rows s n all new within are.arrivals grows adds;
-  first = (are.first.0, in_more s all new grows are.first.0 are.first.1, are.first.2, are.first.3);
+-- what holds of the nodes before an index, as the list grows, where it holds of the next one too
+pub first_more : (s : State) (n : ℕ) (all new : List StoredNode) (Holds : List StoredNode → Node → Type 0) → n < length all → Grows s all new → ((node : Node) → Holds all node → Holds new node) → ((i : ℕ) → i < n → HoldsOf s all i (Holds all)) → HoldsOf s all n (Holds new) → (i : ℕ) → i < n + 1 → HoldsOf s new i (Holds new)
+first_more s n all new Holds within grows stays before here i lt kept at =
+    let old = old_at all grows.more i kept (omega (arith, lt, within)) (sym (ap (λ (x : List StoredNode). slice_get x i) grows.parts) ∙ at) in
+    elim (cases_lt i n) as (λ _. Holds new (node_of s kept)) [
+      | inl less ↦ stays (node_of s kept) (before i less kept old)
+      | inr past ↦ (let same : i ≡ n = omega (arith, lt, past) in here kept (ap (slice_get all) (sym same) ∙ old))
+    ]
+
+pub searched_next : (rounds : Rounds) (rows : Rows) (first_monitor : List Shown) (s : State) (n : ℕ) (all new : List StoredNode) → n < length all → AreSearched rounds rows first_monitor s n all → Grows s all new → HoldsOf s all n (HasAllNext rounds rows new) → AddsAt rounds rows s n all new → AreSearched rounds rows first_monitor s (n + 1) new
+searched_next rounds rows first_monitor s n all new within are grows visited adds = record {
+  starts = (are.starts.0, in_more s all new grows are.starts.0 are.starts.1, are.starts.2);
+  arrivals = arrivals_more rounds rows first_monitor s n all new within are.arrivals grows adds;
   stand = grows.stand are.stand;
-  closed = λ i lt kept at.
-      let old = old_at all grows.more i kept (omega (arith, lt, within)) (sym (ap (λ (x : List StoredNode). slice_get x i) grows.parts) ∙ at) in
-      elim (cases_lt i n) as (λ _. HasAllNext rows new (node_of s kept)) [
-        | inl less ↦ λ m. next_more rows s all new grows (node_of s kept) m (are.closed i less kept old m)
-        | inr past ↦ (let same : i ≡ n = omega (arith, lt, past) in (visited kept (ap (slice_get all) (sym same) ∙ old)).1)
-      ];
-  good = λ i lt kept at.
-      let old = old_at all grows.more i kept (omega (arith, lt, within)) (sym (ap (λ (x : List StoredNode). slice_get x i) grows.parts) ∙ at) in
-      elim (cases_lt i n) as (λ _. IsGoodIfBlocked rows (node_of s kept)) [
-        | inl less ↦ are.good i less kept old
-        | inr past ↦ (let same : i ≡ n = omega (arith, lt, past) in (visited kept (ap (slice_get all) (sym same) ∙ old)).0)
-      ];
+  closed = first_more s n all new (λ list node. HasAllNext rounds rows list node) within grows (λ node has m. next_more rounds rows s all new grows node m (has m)) are.closed visited;
 }
 
-pub searched_none : (rows : Rows) (s : State) (all : List StoredNode) (j : ℕ) (monitor : List Shown) → IsNodeAt all j (node_at s monitor) → AllCanStand s all → AreInitial 0 monitor → ((kept : StoredNode) → IsIn all kept → IsStoredFor (node_at s monitor) kept × (kept.arrival ≡ None)) → AreSearched rows s 0 all
-searched_none rows s all j monitor keeps can first only = record {
-  arrivals = λ i kept at.
-      let mine = only kept (i, at) in
-      subst (IsArrival rows s all i kept) (sym mine.1) (subst (AreAlike [] s) (sym mine.0.0) (alike_itself [] s), subst (AreInitial 0) (sym mine.0.1) first);
-  first = (keeps.0, (j, keeps.1), keeps.2.0, subst (AreInitial 0) (sym keeps.2.1) first);
+-- the first node alone
+pub first_arrivals : (rounds : Rounds) (rows : Rows) (first_monitor : List Shown) (s : State) (all : List StoredNode) → ((kept : StoredNode) → IsIn all kept → IsStoredFor (node_at s first_monitor) kept × (kept.arrival ≡ None)) → AreArrivals rounds rows first_monitor s all
+first_arrivals rounds rows first_monitor s all only i kept at =
+    let mine = only kept (i, at) in
+    subst (IsArrival rounds rows first_monitor s all i kept) (sym mine.1) mine.0
+
+pub searched_none : (rounds : Rounds) (rows : Rows) (first_monitor : List Shown) (s : State) (all : List StoredNode) (j : ℕ) → IsNodeAt all j (node_at s first_monitor) → AllCanStand s all → ((kept : StoredNode) → IsIn all kept → IsStoredFor (node_at s first_monitor) kept × (kept.arrival ≡ None)) → AreSearched rounds rows first_monitor s 0 all
+searched_none rounds rows first_monitor s all j keeps can only = record {
+  starts = (keeps.0, (j, keeps.1), keeps.2);
+  arrivals = first_arrivals rounds rows first_monitor s all only;
   stand = can;
   closed = λ i lt kept at. absurd (omega (arith, lt));
-  good = λ i lt kept at. absurd (omega (arith, lt));
 }
 
 -- ---- which stages a table has changes nothing
 
-after_any : (stages others : List Stage) (rows : Rows) (b : State) (event : Option Event) (old new : List Shown) → IsAfterMove (table_of others rows) b event old new → IsAfterMove (table_of stages rows) b event old new
+pub after_any : (stages others : List Stage) (rows : Rows) (b : State) (event : Option Event) (old new : List Shown) → IsAfterMove (table_of others rows) b event old new → IsAfterMove (table_of stages rows) b event old new
 after_any stages others rows b None old new is = is
 after_any stages others rows b (Some (Call t k)) old new is = is
 after_any stages others rows b (Some (Return t k outcome)) old new is = is
 
-good_any : (stages others : List Stage) (rows : Rows) (node : Node) → IsGoodNode (table_of others rows) node → IsGoodNode (table_of stages rows) node
-good_any stages others rows node good = record { complete = good.complete; stuck = good.stuck }
+pub moves_any : (rounds : Rounds) (stages others : List Stage) (rows : Rows) (u : List Move) (first node : Node) → MovesLead [] (table_of others rows) (way_of rounds) first u node → MovesLead [] (table_of stages rows) (way_of rounds) first u node
+moves_any rounds stages others rows [] first node path = path
+moves_any rounds stages others rows (m ∷ u) first node path = (
+  path.0,
+  path.1,
+  (path.2.0, path.2.1, path.2.2, after_any stages others rows path.2.0 path.1 first.monitor path.0.monitor path.2.3),
+  moves_any rounds stages others rows u path.0 node path.3,
+)
 
 pub can_none : (s : State) (all : List StoredNode) → all ≡ [] → AllCanStand s all
 can_none s all none kept is = absurd (nothing is.0 (ap (λ (xs : List StoredNode). slice_get xs is.0) (sym none) ∙ is.1))
@@ -388,81 +404,57 @@ only_first For old new none only kept at =
     nothing zero at = cc
     nothing (suc i) at = cc
 
-pub base_adds : (rows : Rows) (s machine : State) (same : SameBase s machine) (index : ℕ) (kept : StoredNode) (old new : List StoredNode) → AddsFrom rows machine index (node_of machine kept) old new → AddsFrom rows s index (node_of s kept) old new
-base_adds rows s machine same index kept old new adds other at =
-    elim (adds other at) as (λ _. IsIn old other ⊎ ComesFrom rows s index (node_of s kept) other) [
+pub base_adds : (rounds : Rounds) (rows : Rows) (s machine : State) (same : SameBase s machine) (index : ℕ) (kept : StoredNode) (old new : List StoredNode) → AddsFrom rounds rows machine index (node_of machine kept) old new → AddsFrom rounds rows s index (node_of s kept) old new
+base_adds rounds rows s machine same index kept old new adds other at =
+    elim (adds other at) as (λ _. IsIn old other ⊎ ComesFrom rounds rows s index (node_of s kept) other) [
       | inl before ↦ inl before
-      | inr mine ↦
+      | inr (a, by, from, leads) ↦
           inr (
-            mine.0,
-            mine.1,
-            mine.2,
-            subst (λ (x : Node). IsMove [] (table_of [] rows) (InOrder None) x mine.0 mine.1 (node_of s other)) (base_node s machine kept same)
-                (subst (λ (x : Node). IsMove [] (table_of [] rows) (InOrder None) (node_of machine kept) mine.0 mine.1 x) (base_node s machine other same) mine.3),
+            a,
+            by,
+            from,
+            subst (λ (x : Node). Leads rounds rows x (moves_of a) (node_of s other)) (base_node s machine kept same)
+                (subst (λ (x : Node). Leads rounds rows (node_of machine kept) (moves_of a) x) (base_node s machine other same) leads),
           )
     ]
 
--- ---- where all were searched
+-- ---- stored nodes, as nodes
 
-module _ (c : Component) (matrix : Matrix) (rows : Rows) (s : State) (is : IsStart c matrix s) (place : ℕ) (all : List StoredNode) (past : length all ≤ place) (are : AreSearched rows s place all) where
-  there : (kept : StoredNode) → IsIn all kept → IsIn (map (node_of s) all) (node_of s kept)
-  there kept at = (at.0, slice_get-map (node_of s) all at.0 ∙ ap (option_map (node_of s)) at.1)
+pub there : (s : State) (all : List StoredNode) (kept : StoredNode) → IsIn all kept → IsIn (map (node_of s) all) (node_of s kept)
+there s all kept at = (at.0, slice_get-map (node_of s) all at.0 ∙ ap (option_map (node_of s)) at.1)
 
-  pub record From (node : Node) : Type 0 where
-    pub i : ℕ
-    pub kept : StoredNode
-    pub at : slice_get all i ≡ Some kept
-    pub is_node : node_of s kept ≡ node
+pub record From (s : State) (all : List StoredNode) (node : Node) : Type 0 where
+  pub i : ℕ
+  pub kept : StoredNode
+  pub at : slice_get all i ≡ Some kept
+  pub is_node : node_of s kept ≡ node
 
-  pub from : (node : Node) → IsIn (map (node_of s) all) node → From node
-  from node (i, at) = by (slice_get all i) refl
-    where
-      by : (o : Option StoredNode) → slice_get all i ≡ o → From node
-      by None e = absurd (let none : slice_get (map (node_of s) all) i ≡ None = slice_get-map (node_of s) all i ∙ ap (option_map (node_of s)) e in cc)
-      by (Some kept) e = record {
-        i = i;
-        kept = kept;
-        at = e;
-        is_node = same_Some (node_of s kept) node (sym (slice_get-map (node_of s) all i ∙ ap (option_map (node_of s)) e) ∙ at);
-      }
-
-  module _ (stages : List Stage) where
-    abbrev table : Table
-    table = table_of stages rows
-
-    closed_at : (kept : StoredNode) (i : ℕ) → slice_get all i ≡ Some kept → (m : Move) (b : State) (event : Option Event) → ClientStep (InOrder None) (node_of s kept).state m b event → (next : Node) × IsIn (map (node_of s) all) next × Represents [] next b × IsAfterMove table b event kept.monitor next.monitor
-    closed_at kept i at m b event step =
-        let within = slice_get_within all i kept at in
-        let on = are.closed i (omega (arith, within, past)) kept at m b event step in
-        (node_of s on.0, there on.0 on.1, subst (AreAlike [] b) (sym on.2) (alike_itself [] b), after_any stages [] rows b event kept.monitor on.0.monitor on.3)
-
-    pub nodes : AreNodes [] table (InOrder None) s (map (node_of s) all)
-    nodes = record {
-      starts = (node_of s are.first.0, there are.first.0 are.first.1, (subst (AreAlike [] s) (sym are.first.2) (alike_itself [] s), are.first.3));
-      closed = λ node m b event at step.
-          let f = from node at in
-          subst (λ (x : Node). (next : Node) × IsIn (map (node_of s) all) next × Represents [] next b × IsAfterMove table b event x.monitor next.monitor) f.is_node
-          (closed_at f.kept f.i f.at m b event (subst (λ (x : Node). ClientStep (InOrder None) x.state m b event) (sym f.is_node) step));
-      good = λ node at blocked.
-          let f = from node at in
-          let within = slice_get_within all f.i f.kept f.at in
-          subst (IsGoodNode table) f.is_node
-          (good_any stages [] rows (node_of s f.kept) (are.good f.i (omega (arith, within, past)) f.kept f.at (subst (λ (x : Node). AllBlocked x.state) (sym f.is_node) blocked)));
+pub from : (s : State) (all : List StoredNode) (node : Node) → IsIn (map (node_of s) all) node → From s all node
+from s all node (i, at) = by (slice_get all i) refl
+  where
+    by : (o : Option StoredNode) → slice_get all i ≡ o → From s all node
+    by None e = absurd (let none : slice_get (map (node_of s) all) i ≡ None = slice_get-map (node_of s) all i ∙ ap (option_map (node_of s)) e in cc)
+    by (Some kept) e = record {
+      i = i;
+      kept = kept;
+      at = e;
+      is_node = same_Some (node_of s kept) node (sym (slice_get-map (node_of s) all i ∙ ap (option_map (node_of s)) e) ∙ at);
     }
 
-  pub shows_all : IsLinearizableBy c matrix rows
-  shows_all stages bound tables = nodes_tell_all c (InOrder None) matrix bound s [] (table_of stages rows) (map (node_of s) all) is (none_dead c) (tables s is) (nodes stages)
+-- ---- where all moves of all nodes were made
 
-moves_any : (stages others : List Stage) (rows : Rows) (u : List Move) (first node : Node) → MovesLead [] (table_of others rows) (InOrder None) first u node → MovesLead [] (table_of stages rows) (InOrder None) first u node
-moves_any stages others rows [] first node path = path
-moves_any stages others rows (m ∷ u) first node path = (
-  path.0,
-  path.1,
-  (path.2.0, path.2.1, path.2.2, after_any stages others rows path.2.0 path.1 first.monitor path.0.monitor path.2.3),
-  moves_any stages others rows u path.0 node path.3,
-)
+module _ (rounds : Rounds) (rows : Rows) (first_monitor : List Shown) (s : State) (place : ℕ) (all : List StoredNode) (past : length all ≤ place) (are : AreSearched rounds rows first_monitor s place all) where
+  closed_at : (kept : StoredNode) (i : ℕ) → slice_get all i ≡ Some kept → (m : Move) (b : State) (event : Option Event) → ClientStep (way_of rounds) (node_of s kept).state m b event → (next : Node) × IsIn (map (node_of s) all) next × Represents [] next b × IsAfterMove (table_of [] rows) b event kept.monitor next.monitor
+  closed_at kept i at m b event step =
+      let within = slice_get_within all i kept at in
+      let on = are.closed i (omega (arith, within, past)) kept at m b event step in
+      (node_of s on.0, there s all on.0 on.1, subst (AreAlike [] b) (sym on.2) (alike_itself [] b), on.3)
 
-pub shows_failing : (c : Component) (matrix : Matrix) (rows : Rows) (s : State) → IsStart c matrix s → (moves : Vec Move) (node : Node) → WayFrom rows s moves.items node → IsBad rows node → IsVerdict c matrix rows (Fails moves)
-shows_failing c matrix rows s is moves node way bad stages bound tables =
-    bad_node_fails c None matrix bound s [] (table_of stages rows) way.first moves.items node is (none_dead c) (tables s is) way.is_first (moves_any stages [] rows moves.items way.first node way.lead) bad.0
-    (λ good. bad.1 (good_any [] stages rows node good))
+  pub nodes : AreAllNodes [] (table_of [] rows) (way_of rounds) s (map (node_of s) all)
+  nodes = record {
+    starts = (node_of s are.starts.0, there s all are.starts.0 are.starts.1, subst (AreAlike [] s) (sym are.starts.2.0) (alike_itself [] s));
+    closed = λ node m b event at step.
+        let f = from s all node at in
+        subst (λ (x : Node). (next : Node) × IsIn (map (node_of s) all) next × Represents [] next b × IsAfterMove (table_of [] rows) b event x.monitor next.monitor) f.is_node
+        (closed_at f.kept f.i f.at m b event (subst (λ (x : Node). ClientStep (way_of rounds) x.state m b event) (sym f.is_node) step));
+  }

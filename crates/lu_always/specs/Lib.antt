@@ -1,10 +1,12 @@
 pub mod Always
 pub mod OneRound
 pub mod Nodes
+pub mod Steps
 pub mod Sinks
 pub mod Marking
 pub mod Exits
 pub mod Livelocks
 pub mod Searching
+pub mod StepSearch
 pub mod Ways
 pub mod Certified

@@ -1,5 +1,5 @@
 -- Livelocks of matrices that are unrolled from one: threads may spin forever.
-use Rattle.std.specs.Prelude.{List}
+use Rattle.std.specs.Prelude.{List, Option}
 use Rattle.lu_component.specs.Component.{Component}
 use Rattle.lu_test.specs.declared.schedule.Move.{Move}
 use Rattle.lu_test.specs.Matrix.{Matrix}
@@ -9,11 +9,11 @@ use Rattle.lu_machine.specs.Starts.{FromEachStart, IsStart}
 use Rattle.lu_machine.specs.States.{State}
 use Rattle.lu_graph.specs.Hopeless.{LosesHope}
 use Rattle.lu_horizon.specs.Dead.{DeadTable, IsDeadTable}
-use Rattle.lu_client.specs.Clients.{client_matrix}
+use Rattle.lu_client.specs.Clients.{ClientStep, client_matrix}
 use Rattle.lu_client.specs.Livelock.{MayEnd, SomeEnds}
 use Rattle.lu_client.specs.Rounds.{IsUnrolledFrom, Way}
 use Rattle.lu_client.specs.Stages.{IsIn}
-use Rattle.lu_always.specs.Nodes.{AreNodes, IsFirst, MovesLead, Node}
+use Rattle.lu_always.specs.Nodes.{IsAfterMove, MovesLead, Node, Represents}
 use Rattle.lu_answers.specs.Tables.{Table}
 
 -- wherever a schedule leads from s, some schedule ends
@@ -36,6 +36,15 @@ pub record HasLivelockBy (c : Component) (matrix : Matrix) (way : Way) (u : List
   pub is_start : IsStart c big start
   pub lost : LosesHope start u
 
+-- A list of nodes with the first one, and with all nodes to which moves lead.
+pub record AreAllNodes (dead : DeadTable) (table : Table) (way : Way) (start : State)
+    (list : List Node) : Type 0 where
+  pub starts : (node : Node) × IsIn list node × Represents dead node start
+  pub closed : (node : Node) (m : Move) (b : State) (event : Option Event) → IsIn list node
+      → ClientStep way node.state m b event
+      → (next : Node) × IsIn list next × Represents dead next b
+      × IsAfterMove table b event node.monitor next.monitor
+
 -- ---- laws
 
 -- Where there is a closed list of nodes, and from each of them moves of open operations alone may
@@ -46,7 +55,7 @@ NodesNeverLivelock =
     (c : Component) (way : Way) (matrix : Matrix) (start : State) (dead : DeadTable)
     (table : Table) (list : List Node) →
     IsStart c (client_matrix way matrix) start → IsDeadTable c dead
-    → AreNodes dead table way start list
+    → AreAllNodes dead table way start list
     → ((node : Node) → IsIn list node → MayEnd way node.state)
     → NeverLivelocks c matrix way
 
@@ -56,7 +65,7 @@ abbrev pub LostNodeLivelocks : Type 0
 LostNodeLivelocks =
     (c : Component) (way : Way) (matrix : Matrix) (start : State) (dead : DeadTable)
     (table : Table) (first : Node) (u : List Move) (node : Node) →
-    IsStart c (client_matrix way matrix) start → IsDeadTable c dead → IsFirst dead start first
+    IsStart c (client_matrix way matrix) start → IsDeadTable c dead → Represents dead first start
     → MovesLead dead table way first u node → (MayEnd way node.state → ⊥)
     → HasLivelockBy c matrix way u
 

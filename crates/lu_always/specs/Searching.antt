@@ -1,6 +1,7 @@
 -- Nodes as they are stored, and a search of all nodes.
-use Rattle.std.specs.Prelude.{◌≡◌, ◌⊎◌, ℕ, ◌<◌, List, [], ◌++◌, Option, Some, None, slice_get}
+use Rattle.std.specs.Prelude.{◌≡◌, ◌⊎◌, ℕ, ◌<◌, List, [], ◌∷◌, ◌++◌, Option, Some, None, slice_get}
 use Rattle.std.specs.Global.{Vec}
+use Rattle.std.specs.Option.{option_map_or}
 use Rattle.lu_component.specs.Component.{Component}
 use Rattle.lu_test.specs.declared.schedule.Move.{Move}
 use Rattle.lu_test.specs.Matrix.{Matrix}
@@ -11,10 +12,11 @@ use Rattle.lu_machine.specs.Positions.{CanStandAt, at_position}
 use Rattle.lu_machine.specs.States.{State}
 use Rattle.lu_serial.specs.Serial.{HasOpen}
 use Rattle.lu_linearization.specs.declared.configuration.Configuration.{Configuration as Shown}
-use Rattle.lu_linearization.specs.Monitors.{AreInitial, CanBeStuck}
+use Rattle.lu_linearization.specs.Monitors.{CanBeStuck}
 use Rattle.lu_client.specs.Rounds.Way.{InOrder}
-use Rattle.lu_client.specs.Clients.{AllBlocked, ClientStep, around}
+use Rattle.lu_client.specs.Clients.{ClientStep, around}
 use Rattle.lu_client.specs.Stages.{IsIn, Stage}
+use Rattle.lu_always.specs.declared.given.Given.{Given}
 use Rattle.lu_always.specs.declared.stored.Arrival.{Arrival}
 use Rattle.lu_always.specs.declared.stored.StoredNode.{StoredNode}
 use Rattle.lu_always.specs.declared.verdicts.Verdict.{Verdict}
@@ -22,13 +24,15 @@ use Rattle.lu_always.specs.declared.verdicts.Verdict.TheVariants.{AlwaysLineariz
 use Rattle.lu_always.specs.Exits.{AreExits}
 use Rattle.lu_always.specs.Livelocks.{HasLivelockBy, NeverLivelocks}
 use Rattle.lu_always.specs.Sinks.{Graph}
-use Rattle.lu_always.specs.Nodes.{IsAfterMove, IsFirst, IsGoodNode, IsMove, Node}
+use Rattle.lu_always.specs.Nodes.{IsAfterMove, MovesLead, Node}
 use Rattle.lu_always.specs.Always.{FailsBy, IsAlwaysLinearizable}
+use Rattle.lu_answers.specs.declared.rounds.Rounds.{Rounds}
+use Rattle.lu_answers.specs.Ways.{way_of}
 use Rattle.lu_answers.specs.Tables.{Goes, IsTableFrom, Rows, table_of}
 
--- a move of the client without a limit of rounds
-abbrev pub RoundStep : State → Move → State → Option Event → Type 0
-RoundStep s m new event = ClientStep (InOrder None) s m new event
+-- a move of the client
+abbrev pub RoundStep : Rounds → State → Move → State → Option Event → Type 0
+RoundStep rounds s m new event = ClientStep (way_of rounds) s m new event
 
 -- the threads after each that has made the last call of its line is before the first one again
 abbrev pub threads_around : State → List Thread
@@ -89,45 +93,66 @@ pub record Grows (s : State) (old new : List StoredNode) : Type 0 where
   pub stand : AllCanStand s old → AllCanStand s new
 
 -- the list has the node to which the move leads from this one, if it leads anywhere
-abbrev pub HasNext : Rows → List StoredNode → Node → Move → Type 0
-HasNext rows all node m =
-    (b : State) (event : Option Event) → RoundStep node.state m b event
+abbrev pub HasNext : Rounds → Rows → List StoredNode → Node → Move → Type 0
+HasNext rounds rows all node m =
+    (b : State) (event : Option Event) → RoundStep rounds node.state m b event
     → (stored : StoredNode) × IsIn all stored × (at_position node.state stored.position ≡ b)
     × MonitorAfter rows b event node.monitor stored.monitor
 
 -- the list has all nodes to which moves lead from this one
-abbrev pub HasAllNext : Rows → List StoredNode → Node → Type 0
-HasAllNext rows all node = (m : Move) → HasNext rows all node m
+abbrev pub HasAllNext : Rounds → Rows → List StoredNode → Node → Type 0
+HasAllNext rounds rows all node = (m : Move) → HasNext rounds rows all node m
 
 -- the same for the node of this state and this monitor
-abbrev pub HasNextOf : Rows → State → List Shown → Move → List StoredNode → Type 0
-HasNextOf rows s monitor m all = HasNext rows all (node_at s monitor) m
+abbrev pub HasNextOf : Rounds → Rows → State → List Shown → Move → List StoredNode → Type 0
+HasNextOf rounds rows s monitor m all = HasNext rounds rows all (node_at s monitor) m
 
-abbrev pub HasAllNextOf : Rows → State → List Shown → List StoredNode → Type 0
-HasAllNextOf rows s monitor all = HasAllNext rows all (node_at s monitor)
+abbrev pub HasAllNextOf : Rounds → Rows → State → List Shown → List StoredNode → Type 0
+HasAllNextOf rounds rows s monitor all = HasAllNext rounds rows all (node_at s monitor)
 
 -- these are the exits of the node of this state and this monitor
-abbrev pub AreExitsOf : State → List Shown → List StoredNode → Vec ℕ → Type 0
-AreExitsOf s monitor all exits = AreExits all exits.items s
+abbrev pub AreExitsOf : Rounds → State → List Shown → List StoredNode → Vec ℕ → Type 0
+AreExitsOf rounds s monitor all exits = AreExits rounds all exits.items s
 
--- by the move m, from the node stored at this index
-abbrev pub arrived : ℕ → Move → Option Arrival
-arrived index m = Some (record { parent = index; by = m })
+-- the moves of the arrival: the call, if it has one, and the move after it
+abbrev pub moves_of : Arrival → List Move
+moves_of a = option_map_or (λ call. call ∷ a.by ∷ []) a.call (a.by ∷ [])
 
--- some move leads to the stored node from this one, which is stored at this index
-abbrev pub ComesFrom : Rows → State → ℕ → Node → StoredNode → Type 0
-ComesFrom rows s index node stored =
-    (m : Move) × (event : Option Event) × (stored.arrival ≡ arrived index m)
-    × IsMove [] (table_of [] rows) (InOrder None) node m event (node_of s stored)
+-- by the move m alone, from the node stored at this index
+abbrev pub arrived : ℕ → Move → Arrival
+arrived index m = record { parent = index; call = None; by = m }
 
--- some move leads to each new node from this one, which is stored at this index
-abbrev pub AddsFrom : Rows → State → ℕ → Node → List StoredNode → List StoredNode → Type 0
-AddsFrom rows s index node old new =
-    (stored : StoredNode) → IsIn new stored → IsIn old stored ⊎ ComesFrom rows s index node stored
+-- these moves lead from one node to the other
+abbrev pub Leads : Rounds → Rows → Node → List Move → Node → Type 0
+Leads rounds rows node u end = MovesLead [] (table_of [] rows) (way_of rounds) node u end
+
+-- the stored node was reached from this one, which is stored at this index
+abbrev pub ComesFrom : Rounds → Rows → State → ℕ → Node → StoredNode → Type 0
+ComesFrom rounds rows s index node stored =
+    (a : Arrival) × (stored.arrival ≡ Some a) × (a.parent ≡ index)
+    × Leads rounds rows node (moves_of a) (node_of s stored)
+
+-- each new node was reached from this one, which is stored at this index
+abbrev pub AddsFrom : Rounds → Rows → State → ℕ → Node → List StoredNode → List StoredNode
+    → Type 0
+AddsFrom rounds rows s index node old new =
+    (stored : StoredNode) → IsIn new stored
+    → IsIn old stored ⊎ ComesFrom rounds rows s index node stored
 
 -- the same from the node of this state and this monitor
-abbrev pub Adds : Rows → State → List Shown → ℕ → List StoredNode → List StoredNode → Type 0
-Adds rows s monitor index old new = AddsFrom rows s index (node_at s monitor) old new
+abbrev pub Adds : Rounds → Rows → State → List Shown → ℕ → List StoredNode → List StoredNode
+    → Type 0
+Adds rounds rows s monitor index old new =
+    AddsFrom rounds rows s index (node_at s monitor) old new
+
+-- the move of the arrival leads to each new node from the node of this state and this monitor
+abbrev pub AddsBy : Rounds → Rows → State → List Shown → Arrival → List StoredNode
+    → List StoredNode → Type 0
+AddsBy rounds rows s monitor a old new =
+    (stored : StoredNode) → IsIn new stored
+    → IsIn old stored
+    ⊎ ((stored.arrival ≡ Some a)
+    × Leads rounds rows (node_at s monitor) (a.by ∷ []) (node_of s stored))
 
 -- Each node of the new list is one of the old, or that of this state and this monitor, with this
 -- arrival.
@@ -137,81 +162,98 @@ AddsOnly s monitor arrival old new =
     (stored : StoredNode) → IsIn new stored
     → IsIn old stored ⊎ (IsStoredFor (node_at s monitor) stored × (stored.arrival ≡ arrival))
 
--- where its open operations are blocked, the node is good
-abbrev pub IsGoodIfBlocked : Rows → Node → Type 0
-IsGoodIfBlocked rows node = AllBlocked node.state → IsGoodNode (table_of [] rows) node
-
--- its open operations are blocked, and the node is not good
-abbrev pub IsBad : Rows → Node → Type 0
-IsBad rows node = AllBlocked node.state × (IsGoodNode (table_of [] rows) node → ⊥)
-
 -- the property holds of the node stored at this index
 abbrev pub HoldsOf : State → List StoredNode → ℕ → (Node → Type 0) → Type 0
 HoldsOf s all i P = (stored : StoredNode) → slice_get all i ≡ Some stored → P (node_of s stored)
 
--- What the search of the node at this index finds. Either the node is good if it is blocked, and the
--- new list has all nodes to which moves lead from it, and these are its exits; or the node is bad.
-abbrev pub IsVisit : Rows → State → List StoredNode → ℕ → List StoredNode → Option (Vec ℕ)
+-- The new list has all nodes to which moves lead from the node at this index, and these are its exits.
+abbrev pub IsVisit : Rounds → Rows → State → List StoredNode → ℕ → List StoredNode → Vec ℕ
     → Type 0
-IsVisit rows s old index new (Some exits) =
-    HoldsOf s old index (IsGoodIfBlocked rows) × HoldsOf s old index (HasAllNext rows new)
-    × HoldsOf s old index (λ node. AreExits new exits.items node.state)
-IsVisit rows s old index new None = HoldsOf s old index (IsBad rows)
+IsVisit rounds rows s old index new exits =
+    HoldsOf s old index (HasAllNext rounds rows new)
+    × HoldsOf s old index (λ node. AreExits rounds new exits.items node.state)
 
--- some move leads to each new node from the one stored at this index
-abbrev pub AddsAt : Rows → State → ℕ → List StoredNode → List StoredNode → Type 0
-AddsAt rows s index old new =
-    HoldsOf s old index (λ node. AddsFrom rows s index node old new)
+-- each new node was reached from the one stored at this index
+abbrev pub AddsAt : Rounds → Rows → State → ℕ → List StoredNode → List StoredNode → Type 0
+AddsAt rounds rows s index old new =
+    HoldsOf s old index (λ node. AddsFrom rounds rows s index node old new)
 
--- the node stored at this index was reached so: it is the first one; or a move leads to it from a
--- node that is stored before it
-abbrev pub IsArrival : Rows → State → List StoredNode → ℕ → StoredNode → Option Arrival → Type 0
-IsArrival rows s all index stored None = IsFirst [] s (node_of s stored)
-IsArrival rows s all index stored (Some arrival) =
-    (arrival.parent < index)
-    × (parent : StoredNode) × (slice_get all arrival.parent ≡ Some parent)
-    × (event : Option Event)
-    × IsMove [] (table_of [] rows) (InOrder None)
-    (node_of s parent) arrival.by event (node_of s stored)
+-- the node stored at this index was reached so: it is the first one, with this monitor; or it was
+-- reached from a node that is stored before it
+abbrev pub IsArrival : Rounds → Rows → List Shown → State → List StoredNode → ℕ → StoredNode
+    → Option Arrival → Type 0
+IsArrival rounds rows first s all index stored None = IsStoredFor (node_at s first) stored
+IsArrival rounds rows first s all index stored (Some a) =
+    (a.parent < index)
+    × (parent : StoredNode) × (slice_get all a.parent ≡ Some parent)
+    × Leads rounds rows (node_of s parent) (moves_of a) (node_of s stored)
 
 -- each node was reached by its arrival
-abbrev pub AreArrivals : Rows → State → List StoredNode → Type 0
-AreArrivals rows s all =
+abbrev pub AreArrivals : Rounds → Rows → List Shown → State → List StoredNode → Type 0
+AreArrivals rounds rows first s all =
     (i : ℕ) (stored : StoredNode) → slice_get all i ≡ Some stored
-    → IsArrival rows s all i stored stored.arrival
+    → IsArrival rounds rows first s all i stored stored.arrival
 
--- The list has the first node, and each node was reached by its arrival. The nodes before this index
--- are searched: they are good if they are blocked, and the list has all nodes to which moves lead from
--- them.
-pub record AreSearched (rows : Rows) (s : State) (index : ℕ) (all : List StoredNode) : Type 0 where
-  pub first : (stored : StoredNode) × IsIn all stored × (at_position s stored.position ≡ s)
-      × AreInitial 0 stored.monitor
+-- The list has the first node, and each node was reached by its arrival. The list has all nodes to
+-- which moves lead from the nodes before this index.
+pub record AreSearched (rounds : Rounds) (rows : Rows) (first : List Shown) (s : State)
+    (index : ℕ) (all : List StoredNode) : Type 0 where
+  pub starts : (stored : StoredNode) × IsIn all stored × IsStoredFor (node_at s first) stored
   pub stand : AllCanStand s all
-  pub arrivals : AreArrivals rows s all
-  pub closed : (i : ℕ) → i < index → HoldsOf s all i (HasAllNext rows all)
-  pub good : (i : ℕ) → i < index → HoldsOf s all i (IsGoodIfBlocked rows)
+  pub arrivals : AreArrivals rounds rows first s all
+  pub closed : (i : ℕ) → i < index → HoldsOf s all i (HasAllNext rounds rows all)
 
 -- these are the exits of the first nodes, one list for each
-abbrev pub AreExitsOfFirst : State → List StoredNode → Graph → Type 0
-AreExitsOfFirst s all exits =
+abbrev pub AreExitsOfFirst : Rounds → State → List StoredNode → Graph → Type 0
+AreExitsOfFirst rounds s all exits =
     (i : ℕ) (its : Vec ℕ) → slice_get exits i ≡ Some its
-    → HoldsOf s all i (λ node. AreExits all its.items node.state)
+    → HoldsOf s all i (λ node. AreExits rounds all its.items node.state)
 
 -- all unrolled matrices are linearizable, if the rows are the table of the serial histories
-abbrev pub IsLinearizableBy : Component → Matrix → Rows → Type 0
-IsLinearizableBy c matrix rows =
+abbrev pub IsLinearizableBy : Component → Rounds → Matrix → Rows → Type 0
+IsLinearizableBy c rounds matrix rows =
     (stages : List Stage) (bound : ℕ) →
-    IsTableFrom c matrix rows stages bound → IsAlwaysLinearizable c matrix (InOrder None) bound
+    IsTableFrom c rounds matrix rows stages bound
+    → IsAlwaysLinearizable c matrix (way_of rounds) bound
 
 -- Whether all unrolled matrices are linearizable, or a schedule of one that fails, if the rows are
 -- the table of the serial histories. Where all are, whether none has a livelock, or a schedule that
 -- is one: that does not depend on the rows.
-abbrev pub IsVerdict : Component → Matrix → Rows → Verdict → Type 0
-IsVerdict c matrix rows AlwaysLinearizable =
-    IsLinearizableBy c matrix rows × NeverLivelocks c matrix (InOrder None)
-IsVerdict c matrix rows (Fails moves) =
+abbrev pub IsVerdict : Component → Rounds → Matrix → Rows → Verdict → Type 0
+IsVerdict c rounds matrix rows AlwaysLinearizable =
+    IsLinearizableBy c rounds matrix rows × NeverLivelocks c matrix (way_of rounds)
+IsVerdict c rounds matrix rows (Fails moves) =
     (stages : List Stage) (bound : ℕ) →
-    IsTableFrom c matrix rows stages bound → FailsBy c matrix (InOrder None) moves.items
-IsVerdict c matrix rows (Livelock moves) =
-    IsLinearizableBy c matrix rows × HasLivelockBy c matrix (InOrder None) moves.items
-IsVerdict c matrix rows Undecided = Unit {0}
+    IsTableFrom c rounds matrix rows stages bound → FailsBy c matrix (way_of rounds) moves.items
+IsVerdict c rounds matrix rows (Livelock moves) =
+    IsLinearizableBy c rounds matrix rows × HasLivelockBy c matrix (way_of rounds) moves.items
+IsVerdict c rounds matrix rows Undecided = Unit {0}
+
+-- none, or these moves are a livelock of an unrolled matrix
+abbrev pub IsLivelockIfAny : Component → Rounds → Matrix → Option (Vec Move) → Type 0
+IsLivelockIfAny c rounds matrix None = NeverLivelocks c matrix (way_of rounds)
+IsLivelockIfAny c rounds matrix (Some moves) =
+    HasLivelockBy c matrix (way_of rounds) moves.items
+
+-- ---- by what a search is given
+
+abbrev pub HasNextBy : Given → State → List Shown → Move → List StoredNode → Type 0
+HasNextBy given s monitor m all = HasNextOf given.rounds given.table.now s monitor m all
+
+abbrev pub HasAllNextBy : Given → State → List Shown → List StoredNode → Type 0
+HasAllNextBy given s monitor all = HasAllNextOf given.rounds given.table.now s monitor all
+
+abbrev pub AddsByOf : Given → State → List Shown → Arrival → List StoredNode → List StoredNode
+    → Type 0
+AddsByOf given s monitor a old new = AddsBy given.rounds given.table.now s monitor a old new
+
+abbrev pub AddsOf : Given → State → List Shown → ℕ → List StoredNode → List StoredNode → Type 0
+AddsOf given s monitor index old new =
+    Adds given.rounds given.table.now s monitor index old new
+
+abbrev pub IsVisitBy : Given → State → List StoredNode → ℕ → List StoredNode → Vec ℕ → Type 0
+IsVisitBy given s old index new exits =
+    IsVisit given.rounds given.table.now s old index new exits
+
+abbrev pub AddsAtBy : Given → State → ℕ → List StoredNode → List StoredNode → Type 0
+AddsAtBy given s index old new = AddsAt given.rounds given.table.now s index old new

@@ -5,6 +5,7 @@ ghost use Rattle.lu_always.specs.Certified.{CertifiedInOneRound, LivelockInOneRo
 ghost use Rattle.lu_always.specs.Livelocks.{LivelocksNever, LostNodeLivelocks, NodesNeverLivelock};
 ghost use Rattle.lu_always.specs.Nodes.{BadNodeFails, NodesServeAll, NodesTellAll, NoneDead};
 ghost use Rattle.lu_always.specs.OneRound.{OneRoundIsAllCuts, OneRoundIsCut};
+ghost use Rattle.lu_always.specs.Steps.{BlockedCallFails, StepNodesServeAll, StepNodesTellAll};
 
 /// What it means that all unrolled matrices are linearizable. The prefixes of the serial histories
 /// of each are its specification, and don't conflict. None fails: one that fails has no
@@ -36,6 +37,18 @@ pub fn node_laws()
     ensures serve { NodesServeAll }
     ensures bad { BadNodeFails }
     ensures none_dead { NoneDead }
+{}
+
+/// A search need take steps only: the move of an open operation, or a call with the move after it, and
+/// left movers first. A list of nodes with all nodes to which steps lead, in which each blocked node
+/// is good before last calls, shows that all unrolled matrices are linearizable, each by a
+/// deterministic specification. A path to a blocked node, followed by a call that would be blocked at
+/// once and cannot be stuck, shows that one of them is linearizable by none. The arrays that locks
+/// guard are given.
+pub fn step_laws()
+    ensures all { StepNodesTellAll }
+    ensures serve { StepNodesServeAll }
+    ensures call { BlockedCallFails }
 {}
 
 /// A closed list of nodes, from each of which moves of open operations alone may lead to where all of

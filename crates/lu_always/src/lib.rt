@@ -6,6 +6,7 @@
 #![tactic(auto)]
 
 mod following;
+mod given;
 mod judging;
 mod laws;
 mod livelock;
@@ -14,13 +15,14 @@ mod searching;
 mod sinks;
 mod standing;
 mod stepping;
+mod steps;
 mod stored;
 mod verdicts;
 mod ways;
 
 pub use following::after_move;
 pub use judging::is_good;
-pub use laws::{always_laws, livelock_laws, node_laws, one_round_laws};
+pub use laws::{always_laws, livelock_laws, node_laws, one_round_laws, step_laws};
 pub use searching::find_verdict;
 pub use stepping::client_step;
 pub use stored::{Arrival, StoredNode};

@@ -1,26 +1,26 @@
-//! The search of all nodes.
+//! The search of all nodes for livelocks, and the verdict.
 
-ghost use Rattle.std.specs.Prelude.{◌≡◌, ◌<◌, IfOk, OnOk, false, length, true};
+ghost use Rattle.std.specs.Prelude.{◌≡◌, ◌<◌, IfOk, IfSome, OnOk, length};
 ghost use Rattle.lu_component.specs.Component.{IsComponent};
 ghost use Rattle.lu_machine.specs.Positions.{CanStandAt, at_position};
 ghost use Rattle.lu_machine.specs.Starts.{CanRun};
 ghost use Rattle.lu_machine.specs.Steps.{IsFeasible};
 ghost use Rattle.lu_always.specs.Exits.{MovesTo};
-ghost use Rattle.lu_always.specs.Searching.{AddsAt, Adds, AddsOnly, AllCanStand, AreExitsOf, Grows, HasAllNextOf, HasNextOf, IsBad, IsGoodIfBlocked, IsNodeAt, IsVerdict, IsVisit, node_at};
+ghost use Rattle.lu_always.specs.Searching.{AddsAtBy, AddsByOf, AddsOf, AddsOnly, AllCanStand, AreExitsOf, Grows, HasAllNextBy, HasNextBy, IsLivelockIfAny, IsNodeAt, IsVerdict, IsVisitBy, node_at};
 
 use crate::following::after_move;
-use crate::judging::is_good;
+use crate::given::Given;
 use crate::livelock::way_to_livelock;
 use crate::nodes::Nodes;
-use crate::standing::{is_blocked, is_waiting};
+use crate::standing::is_waiting;
 use crate::stepping::client_step;
+use crate::steps::{Linearizability, find_failure};
 use crate::stored::{Arrival, StoredNode};
 use crate::verdicts::Verdict;
-use crate::ways::way_to;
-use lu_answers::AnswerTable;
+use lu_answers::{AnswerTable, Rounds};
 use lu_component::Component;
 use lu_linearization::Monitor;
-use lu_machine::{Machine, Position};
+use lu_machine::{Machine, Outcome, Position};
 use lu_test::{Matrix, Move};
 use std::alloc::{AllocError, Global};
 
@@ -54,35 +54,30 @@ pub(crate) fn store(
     }
 }
 
-/// Stores the node to which the move leads from this state and this monitor, which are stored at
-/// the index `at`. The machine returns to the state. Returns the index of the node.
-fn store_next(
-    alloc: Global,
+/// Stores the node to which the arrival's move leads from this state and this monitor. The machine
+/// returns to the state. Returns the index of the node.
+pub(crate) fn store_next(
+    given: Given<'_>,
     machine: &mut Machine<'_>,
     home: &Position,
     monitor: &Monitor,
-    table: &AnswerTable,
-    next: Move,
-    at: usize,
+    arrival: Arrival,
     all: &mut Nodes,
 ) -> Result<usize, AllocError>
-    requires feasible { IsFeasible machine.old next }
+    requires feasible { IsFeasible machine.old arrival.by }
     requires stands { CanStandAt machine.old.component machine.old.matrix home.now }
     requires here { at_position machine.old home.now ≡ machine.old }
     ensures home { OnOk result (machine.new ≡ machine.old) }
     ensures grows { OnOk result (Grows machine.old all.old all.new) }
-    ensures next { OnOk result (HasNextOf table.now machine.old monitor.now next all.new) }
-    ensures leads { IfOk result (MovesTo all.new machine.old next) }
+    ensures next { OnOk result
+        (HasNextBy given.entry machine.old monitor.now arrival.by all.new) }
+    ensures leads { IfOk result (MovesTo given.entry.rounds all.new machine.old arrival.by) }
     ensures new { OnOk result
-        (Adds table.now machine.old monitor.now at all.old all.new) }
+        (AddsByOf given.entry machine.old monitor.now arrival all.old all.new) }
 {
-    let event = client_step(alloc, machine, next)?;
-    let after = after_move(alloc, machine, monitor, table, event)?;
-    let arrival = Arrival {
-        parent: at,
-        by: next,
-    };
-    let to = store(alloc, machine, after, Some(arrival), all)?;
+    let event = client_step(given.alloc, machine, given.rounds, arrival.by)?;
+    let after = after_move(given.alloc, machine, monitor, given.table, event)?;
+    let to = store(given.alloc, machine, after, Some(arrival), all)?;
     machine.stand_at(home);
     Ok(to)
 }
@@ -90,12 +85,11 @@ fn store_next(
 /// Stores all nodes to which moves lead from this state and this monitor, which are stored at the
 /// index `at`. The machine returns to the state. Returns the indexes of those to which moves of open
 /// operations lead.
-pub(crate) fn store_all_next(
-    alloc: Global,
+fn store_all_next(
+    given: Given<'_>,
     machine: &mut Machine<'_>,
     home: &Position,
     monitor: &Monitor,
-    table: &AnswerTable,
     at: usize,
     all: &mut Nodes,
 ) -> Result<Vec<usize>, AllocError>
@@ -104,16 +98,21 @@ pub(crate) fn store_all_next(
     requires here { at_position machine.old home.now ≡ machine.old }
     ensures home { OnOk result (machine.new ≡ machine.old) }
     ensures grows { OnOk result (Grows machine.old all.old all.new) }
-    ensures next { OnOk result (HasAllNextOf table.now machine.old monitor.now all.new) }
-    ensures exits { IfOk result (AreExitsOf machine.old monitor.now all.new) }
+    ensures next { OnOk result (HasAllNextBy given.entry machine.old monitor.now all.new) }
+    ensures exits { IfOk result
+        (AreExitsOf given.entry.rounds machine.old monitor.now all.new) }
     ensures new { OnOk result
-        (Adds table.now machine.old monitor.now at all.old all.new) }
+        (AddsOf given.entry machine.old monitor.now at all.old all.new) }
 {
-    let mut exits = Vec::new(alloc);
+    let mut exits = Vec::new(given.alloc);
     for thread in 0..machine.threads() {
         for pick in 0..machine.picks(thread) {
-            let next = Move { thread, pick };
-            let to = store_next(alloc, machine, home, monitor, table, next, at, all)?;
+            let arrival = Arrival {
+                parent: at,
+                call: None,
+                by: Move { thread, pick },
+            };
+            let to = store_next(given, machine, home, monitor, arrival, all)?;
             if is_waiting(machine, thread) {
                 exits.push(to)?;
             }
@@ -122,51 +121,68 @@ pub(crate) fn store_all_next(
     Ok(exits)
 }
 
-/// Whether the node of this state and this monitor is good, if its open operations are blocked.
-fn is_well(machine: &Machine<'_>, monitor: &Monitor, table: &AnswerTable) -> bool
-    ensures well { result ≡ true → IsGoodIfBlocked table.now (node_at machine.now monitor.now) }
-    ensures bad { result ≡ false → IsBad table.now (node_at machine.now monitor.now) }
-{
-    if is_blocked(machine) {
-        return is_good(machine, monitor, table);
-    }
-    true
-}
-
-/// Searches the node at this index. None where its open operations are blocked and it is not good;
-/// otherwise stores all nodes to which moves lead from it, and returns the indexes of those to which
-/// moves of open operations lead.
+/// Stores all nodes to which moves lead from the node at this index. Returns the indexes of those to
+/// which moves of open operations lead.
 fn visit(
-    alloc: Global,
+    given: Given<'_>,
     machine: &mut Machine<'_>,
-    table: &AnswerTable,
     index: usize,
     all: &mut Nodes,
-) -> Result<Option<Vec<usize>>, AllocError>
+) -> Result<Vec<usize>, AllocError>
     requires sound { IsComponent machine.old.component }
     requires there { index < length all.old }
     requires stand { AllCanStand machine.old all.old }
     ensures component { OnOk result (machine.new.component ≡ machine.old.component) }
     ensures matrix { OnOk result (machine.new.matrix ≡ machine.old.matrix) }
     ensures grows { OnOk result (Grows machine.old all.old all.new) }
-    ensures visit { IfOk result
-        (IsVisit table.now machine.old all.old index all.new) }
-    ensures new { OnOk result
-        (AddsAt table.now machine.old index all.old all.new) }
+    ensures visit { IfOk result (IsVisitBy given.entry machine.old all.old index all.new) }
+    ensures new { OnOk result (AddsAtBy given.entry machine.old index all.old all.new) }
 {
-    let monitor = all.list()[index].monitor.try_clone(alloc)?;
+    let monitor = all.list()[index].monitor.try_clone(given.alloc)?;
     machine.stand_at(&all.list()[index].position);
-    if !is_well(machine, &monitor, table) {
-        return Ok(None);
-    }
-    let home = machine.position(alloc)?;
-    let exits = store_all_next(alloc, machine, &home, &monitor, table, index, all)?;
-    Ok(Some(exits))
+    let home = machine.position(given.alloc)?;
+    let exits = store_all_next(given, machine, &home, &monitor, index, all)?;
+    Ok(exits)
 }
 
-/// Whether all matrices that are unrolled from this one without a limit of rounds are linearizable,
-/// and none has a livelock. `table` is the table of its serial histories; if it is not, only what the
-/// verdict says of livelocks is right. No more than `most` nodes are searched.
+/// A monitor without configurations. It stays so.
+fn without_configurations(alloc: Global) -> Result<Monitor, AllocError> {
+    // (nothing has taken effect before any call, so nothing can return)
+    Monitor::new(alloc, 0)?.ret(alloc, 0, Outcome::Trap)
+}
+
+/// Whether an unrolled matrix has a livelock, and the moves that show it. Only states are searched,
+/// with a monitor of no configuration, and no more than `most`. None if there are more.
+fn find_livelock(
+    given: Given<'_>,
+    component: &Component,
+    matrix: &Matrix,
+    most: usize,
+) -> Result<Option<Option<Vec<Move>>>, AllocError>
+    requires { CanRun component.now matrix.now }
+    ensures { IfOk result (λ found.
+        IfSome found (IsLivelockIfAny component.now given.entry.rounds matrix.now)) }
+{
+    let mut machine = Machine::start(given.alloc, component, matrix)?;
+    let mut all = Nodes::new(given.alloc);
+    let mut exits = Vec::new(given.alloc);
+    let first = without_configurations(given.alloc)?;
+    store(given.alloc, &machine, first, None, &mut all)?;
+    for index in 0..most {
+        if index >= all.len() {
+            let moves = way_to_livelock(given.alloc, all.list(), exits.as_slice())?;
+            return Ok(Some(moves));
+        }
+        let found = visit(given, &mut machine, index, &mut all)?;
+        exits.push(found)?;
+    }
+    Ok(None)
+}
+
+/// Whether all matrices that are unrolled from this one are linearizable, and none has a livelock:
+/// each thread makes its line of calls this often, and may stop anywhere. `table` is the table of
+/// the serial histories; if it is not, only what the verdict says of livelocks is right. No more than
+/// `most` nodes and `most` states are searched.
 ///
 /// # Errors
 ///
@@ -176,29 +192,25 @@ pub fn find_verdict(
     component: &Component,
     matrix: &Matrix,
     table: &AnswerTable,
+    rounds: Rounds,
     most: usize,
 ) -> Result<Verdict, AllocError>
     requires { CanRun component.now matrix.now }
-    ensures { IfOk result (IsVerdict component.now matrix.now table.now) }
+    ensures { IfOk result (IsVerdict component.now rounds matrix.now table.now) }
 {
-    let mut machine = Machine::start(alloc, component, matrix)?;
-    let mut all = Nodes::new(alloc);
-    let mut exits = Vec::new(alloc);
-    store(alloc, &machine, Monitor::new(alloc, 0)?, None, &mut all)?;
-    for index in 0..most {
-        if index >= all.len() {
-            let Some(moves) = way_to_livelock(alloc, all.list(), exits.as_slice())? else {
-                return Ok(Verdict::AlwaysLinearizable);
-            };
-            return Ok(Verdict::Livelock(moves));
-        }
-        match visit(alloc, &mut machine, table, index, &mut all)? {
-            Some(found) => exits.push(found)?,
-            None => {
-                let moves = way_to(alloc, all.list(), index)?;
-                return Ok(Verdict::Fails(moves));
-            }
-        }
+    let given = Given {
+        alloc,
+        table,
+        rounds,
+    };
+    match find_failure(given, component, matrix, most)? {
+        Linearizability::Fails(moves) => return Ok(Verdict::Fails(moves)),
+        Linearizability::Open => return Ok(Verdict::Undecided),
+        Linearizability::Always => {}
     }
-    Ok(Verdict::Undecided)
+    match find_livelock(given, component, matrix, most)? {
+        None => Ok(Verdict::Undecided),
+        Some(None) => Ok(Verdict::AlwaysLinearizable),
+        Some(Some(moves)) => Ok(Verdict::Livelock(moves)),
+    }
 }

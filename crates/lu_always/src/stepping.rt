@@ -8,6 +8,7 @@ ghost use Rattle.lu_client.specs.Rounds.Way.{InOrder};
 ghost use Rattle.lu_client.specs.Clients.{around, turned};
 ghost use Rattle.lu_always.specs.Searching.{RoundStep, threads_around};
 
+use lu_answers::Rounds;
 use lu_machine::{Event, Machine, Thread};
 use lu_test::Move;
 use std::alloc::{AllocError, Global};
@@ -66,7 +67,7 @@ fn come_around(alloc: Global, machine: &mut Machine<'_>) -> Result<(), AllocErro
     Ok(())
 }
 
-/// Makes a feasible move of the client without a limit of rounds. Returns its event, if there is one.
+/// Makes a feasible move of the client. Returns its event, if there is one.
 ///
 /// # Errors
 ///
@@ -74,13 +75,18 @@ fn come_around(alloc: Global, machine: &mut Machine<'_>) -> Result<(), AllocErro
 pub fn client_step(
     alloc: Global,
     machine: &mut Machine<'_>,
+    rounds: Rounds,
     next: Move,
 ) -> Result<Option<Event>, AllocError>
     requires { IsFeasible machine.old next }
-    ensures step { IfOk result (λ event. RoundStep machine.old next machine.new event) }
+    ensures step { IfOk result (λ event.
+        RoundStep rounds machine.old next machine.new event) }
     ensures range { IfOk result (λ event. IfSome event IsEventInRange) }
 {
     let event = machine.step(next);
-    come_around(alloc, machine)?;
+    match rounds {
+        Rounds::One => {}
+        Rounds::Any => come_around(alloc, machine)?,
+    }
     Ok(event)
 }

@@ -1,7 +1,7 @@
 //! That a verdict is found: no clause says so.
 
 use lu_always::{Verdict, find_verdict};
-use lu_answers::AnswerTable;
+use lu_answers::{AnswerTable, Rounds};
 use lu_fixtures::fixture_of;
 use lu_history::SerialOutcome;
 use std::process::Abort;
@@ -68,7 +68,7 @@ return 0
 end
 ";
 
-/// The verdict on two threads that invert the bit, with this limit of nodes.
+/// The verdict on any number of rounds of two threads that invert the bit, with this limit of nodes.
 fn verdict_on(
     rt: &(impl AllocGlobal + Abort),
     matrix: &[u8],
@@ -81,7 +81,36 @@ fn verdict_on(
     rows.push([first, first, None, None, None, None, None, None])?;
     rows.push([second, second, None, None, None, None, None, None])?;
     let table = AnswerTable::new(rows);
-    Ok(find_verdict(rt.alloc(), &case.component, &case.matrix, &table, most)?)
+    Ok(find_verdict(
+        rt.alloc(),
+        &case.component,
+        &case.matrix,
+        &table,
+        Rounds::Any,
+        most,
+    )?)
+}
+
+/// The verdict on one round of two threads that invert the bit.
+fn verdict_on_one_round(rt: &(impl AllocGlobal + Abort), matrix: &[u8]) -> Result<Verdict, Fail> {
+    let case = fixture_of(rt, BIT, matrix)?;
+    let first = Some((SerialOutcome::Ret(0), 1));
+    let second = Some((SerialOutcome::Ret(0), 2));
+    let mut rows = Vec::new(rt.alloc());
+    rows.push([first, second, None, None, None, None, None, None])?;
+    let last = Some((SerialOutcome::Ret(1), 3));
+    rows.push([None, last, None, None, None, None, None, None])?;
+    rows.push([last, None, None, None, None, None, None, None])?;
+    rows.push([None, None, None, None, None, None, None, None])?;
+    let table = AnswerTable::new(rows);
+    Ok(find_verdict(
+        rt.alloc(),
+        &case.component,
+        &case.matrix,
+        &table,
+        Rounds::One,
+        1000,
+    )?)
 }
 
 /// The verdict on two threads that set flags. All their calls return 0.
@@ -91,7 +120,14 @@ fn verdict_on_flags(rt: &(impl AllocGlobal + Abort), matrix: &[u8]) -> Result<Ve
     let mut rows = Vec::new(rt.alloc());
     rows.push([zero, zero, None, None, None, None, None, None])?;
     let table = AnswerTable::new(rows);
-    Ok(find_verdict(rt.alloc(), &case.component, &case.matrix, &table, 1000)?)
+    Ok(find_verdict(
+        rt.alloc(),
+        &case.component,
+        &case.matrix,
+        &table,
+        Rounds::Any,
+        1000,
+    )?)
 }
 
 /// The number of moves of the schedule that fails, if the verdict is that one does.
@@ -144,6 +180,20 @@ fn a_bit_with_a_lock_is_always_linearizable(rt: HostRuntime) -> Result<(), Fail>
 #[test]
 fn a_bit_without_a_lock_fails(rt: HostRuntime) -> Result<(), Fail> {
     let verdict = verdict_on(&rt, b"thread flip\nthread flip\n", 1000)?;
+    assert!(rt; moves_in(verdict) == Some(10));
+    Ok(())
+}
+
+#[test]
+fn one_round_of_a_bit_with_a_lock_is_linearizable(rt: HostRuntime) -> Result<(), Fail> {
+    let verdict = verdict_on_one_round(&rt, b"thread safe\nthread safe\n")?;
+    assert!(rt; is_always_linearizable(verdict));
+    Ok(())
+}
+
+#[test]
+fn one_round_of_a_bit_without_a_lock_fails(rt: HostRuntime) -> Result<(), Fail> {
+    let verdict = verdict_on_one_round(&rt, b"thread flip\nthread flip\n")?;
     assert!(rt; moves_in(verdict) == Some(10));
     Ok(())
 }

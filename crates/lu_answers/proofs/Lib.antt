@@ -1,3 +1,4 @@
+pub mod Lines
 pub mod ReadSerially
 pub mod Closed
 pub mod Mapped

@@ -1,5 +1,5 @@
 -- What is asked of the positions of a stage is what its next calls answer.
-use Rattle.std.proofs.Common.{arith, ◌≡◌, ◌≢◌, ℕ, ◌<◌, ◌+◌, ◌%◌, ◌⊎◌, List, length, map, Some, slice_get, slice_index, slice_set, refl, sym, ◌∙◌, ap, subst, inl, inr}
+use Rattle.std.proofs.Common.{arith, ◌≡◌, ◌≢◌, ℕ, ◌<◌, ◌+◌, ◌⊎◌, List, length, map, Some, slice_get, slice_index, slice_set, refl, sym, ◌∙◌, ap, subst, inl, inr}
 use Rattle.std.proofs.lemmas.Bool.{lt-ltb}
 use Rattle.std.proofs.lemmas.Option.{get_or_from_slice_get, slice_get-get_or, slice_get_within}
 use Rattle.lu_component.specs.Component.{Component}
@@ -18,11 +18,13 @@ use Rattle.lu_client.proofs.OneCalls.{within_some}
 use Rattle.lu_serial_graph.specs.declared.answering.Answer.{Answer}
 use Rattle.lu_serial_graph.specs.Playing.{IsAmong, state_at}
 use Rattle.lu_serial_graph.specs.Answers.{IsAnswer, LastsSomewhere, MayCall, TwoOutcomes}
+use Rattle.lu_answers.specs.declared.rounds.Rounds.{Rounds}
 use Rattle.lu_answers.specs.declared.stage.StoredStage.{StoredStage}
 use Rattle.lu_answers.specs.Asking.{BlocksAlways, HasOffence, IsNextFrom, ReturnsTo}
-use Rattle.lu_answers.specs.Stored.{HasNextCall, IsStored, places_after, rest_at, stage_of}
+use Rattle.lu_answers.specs.Stored.{HasNextCall, IsStored, next_place, places_after, rest_at, stage_of}
 use Rattle.lu_answers.specs.Tables.{EndsOnlyAs}
 use Rattle.lu_answers.proofs.Alone.{answers_comes, comes_answers, comes_plays, lasts_overruns, overruns_lasts, plays_comes}
+use Rattle.lu_answers.proofs.Lines.{call_there, next_from, place_after}
 use Rattle.lu_answers.proofs.Mapped.{in_mapped, mapped_at, out_mapped, unmapped_at}
 
 -- ---- idle threads
@@ -53,22 +55,22 @@ module _ (c : Component) (matrix : Matrix) (places : List ℕ) (p : Position) (t
 place_of : (places : List ℕ) (t place : ℕ) → slice_get places t ≡ Some place → slice_index places t ≡ place
 place_of places t place is = get_or_from_slice_get places t place 0 is
 
-module _ (c : Component) (matrix : Matrix) (stored : StoredStage) (is : IsStored c matrix stored) (t : ℕ) where
+module _ (c : Component) (rounds : Rounds) (matrix : Matrix) (stored : StoredStage) (is : IsStored c matrix stored) (t : ℕ) where
   abbrev stage : Stage
   stage = stage_of stored
 
   -- there is one
-  pub some_next : t < length stored.places.items → HasNextCall matrix stored.places.items t → (place : ℕ) × (call : ACall) × IsNextFrom matrix stage t place call
+  pub some_next : t < length stored.places.items → HasNextCall matrix stored.places.items t → (place : ℕ) × (call : ACall) × IsNextFrom rounds matrix stage t place call
   some_next there has =
       let place = slice_index stored.places.items t in
       let call = within_some (calls_of matrix t) place has in
-      (place, call.0, record { stands = slice_get-get_or stored.places.items t 0 there; is = call.1 })
+      (place, call.0, next_from rounds matrix stage t place call.0 (slice_get-get_or stored.places.items t 0 there) call.1)
 
-  pub none_next : (HasNextCall matrix stored.places.items t → ⊥) → (bound : ℕ) → BlocksAlways c matrix bound stage t
+  pub none_next : (HasNextCall matrix stored.places.items t → ⊥) → (bound : ℕ) → BlocksAlways c rounds matrix bound stage t
   none_next none bound place call next =
       absurd (none (
       let here = place_of stored.places.items t place next.stands in
-      let within = slice_get_within (calls_of matrix t) place call next.is in
+      let within = slice_get_within (calls_of matrix t) place call (call_there rounds matrix stage t place call next) in
       omega (arith, here, within)
       ))
 
@@ -80,12 +82,12 @@ module _ (c : Component) (matrix : Matrix) (stored : StoredStage) (is : IsStored
       )
 
   -- what the next call answers
-  module _ (place : ℕ) (call : ACall) (next : IsNextFrom matrix stage t place call) (bound : ℕ) where
+  module _ (place : ℕ) (call : ACall) (next : IsNextFrom rounds matrix stage t place call) (bound : ℕ) where
     before : (p : Position) → IsAmong p stored.rests.items → IsBefore (state_at c matrix p) t call
-    before p at = before_at c matrix stored.places.items p (is.threads p at) t place call next.stands next.is
+    before p at = before_at c matrix stored.places.items p (is.threads p at) t place call next.stands (call_there rounds matrix stage t place call next)
 
     -- why there is no answer
-    pub offends : LastsSomewhere c matrix stored.rests.items t (bound + 1) ⊎ TwoOutcomes c matrix stored.rests.items t → HasOffence c matrix bound stage
+    pub offends : LastsSomewhere c matrix stored.rests.items t (bound + 1) ⊎ TwoOutcomes c matrix stored.rests.items t → HasOffence c rounds matrix bound stage
     offends (inl (p, at, lasts)) = (t, place, call, next, inl (rest_at p, in_mapped rest_at stored.rests.items p at, lasts_overruns (state_at c matrix p) t call (before p at) bound lasts))
     offends (inr two) = (
       t,
@@ -115,7 +117,7 @@ module _ (c : Component) (matrix : Matrix) (stored : StoredStage) (is : IsStored
                 answers.one p.0 other comes.0 p.1 comes.1)),
           )
 
-      pub returns_to : answer.outcome ≢ Stuck → (new : StoredStage) → new.places.items ≡ places_after matrix stored.places.items t → map rest_at new.rests.items ≡ map rest_at answer.rests.items → ReturnsTo c matrix bound stage t answer.outcome (stage_of new)
+      pub returns_to : answer.outcome ≢ Stuck → (new : StoredStage) → new.places.items ≡ places_after rounds matrix stored.places.items t → map rest_at new.rests.items ≡ map rest_at answer.rests.items → ReturnsTo c rounds matrix bound stage t answer.outcome (stage_of new)
       returns_to free new places rests = record {
         place = place;
         call = call;
@@ -123,7 +125,10 @@ module _ (c : Component) (matrix : Matrix) (stored : StoredStage) (is : IsStored
         free = free;
         only = only_one;
         follows = record {
-          places = places ∙ ap (λ k. slice_set stored.places.items t ((k + 1) % length (calls_of matrix t))) (place_of stored.places.items t place next.stands);
+          places =
+              places
+              ∙ (ap (λ k. slice_set stored.places.items t (next_place rounds (length (calls_of matrix t)) k)) (place_of stored.places.items t place next.stands)
+              ∙ ap (slice_set stored.places.items t) (place_after rounds matrix t place));
           rests = λ rest after outcome there plays.
               (let p = out_mapped rest_at stored.rests.items rest there in
               let comes = plays_comes (state_at c matrix p.0) t call (before p.0 p.1) outcome after (subst (λ r. Plays c r t call outcome after) (sym p.2) plays) in
@@ -138,6 +143,6 @@ module _ (c : Component) (matrix : Matrix) (stored : StoredStage) (is : IsStored
       }
 
 -- where it is stuck, it blocks
-pub always_blocks : (c : Component) (matrix : Matrix) (stored : StoredStage) → IsStored c matrix stored → (t bound : ℕ) (answer : Answer) → IsAnswer c matrix stored.rests.items t (bound + 1) answer → answer.outcome ≡ Stuck → BlocksAlways c matrix bound (stage_of stored) t
-always_blocks c matrix stored is t bound answer answers stuck place call next =
-    subst (EndsOnlyAs c bound (stage_of stored) t call) stuck (only_one c matrix stored is t place call next bound answer answers)
+pub always_blocks : (c : Component) (rounds : Rounds) (matrix : Matrix) (stored : StoredStage) → IsStored c matrix stored → (t bound : ℕ) (answer : Answer) → IsAnswer c matrix stored.rests.items t (bound + 1) answer → answer.outcome ≡ Stuck → BlocksAlways c rounds matrix bound (stage_of stored) t
+always_blocks c rounds matrix stored is t bound answer answers stuck place call next =
+    subst (EndsOnlyAs c bound (stage_of stored) t call) stuck (only_one c rounds matrix stored is t place call next bound answer answers)

@@ -9,9 +9,9 @@ use Rattle.lu_history.specs.declared.serial.SerialOutcome.{SerialOutcome}
 use Rattle.lu_history.specs.declared.serial.SerialOutcome.TheVariants.{Stuck}
 use Rattle.lu_serial.specs.Offences.{NoOffence}
 use Rattle.lu_client.specs.Rounds.{IsUnrolledFrom}
-use Rattle.lu_client.specs.Rounds.Way.{InOrder}
 use Rattle.lu_client.specs.Alone.{Answers, Overruns, Plays, Rest}
 use Rattle.lu_client.specs.Stages.{Follows, IsCallAt, IsIn, Stage}
+use Rattle.lu_answers.specs.declared.rounds.Rounds.{Rounds}
 use Rattle.lu_answers.specs.declared.stop.Stop.{Stop}
 use Rattle.lu_answers.specs.declared.stop.Stop.TheVariants.{Offends, TooMany, Memory}
 use Rattle.lu_answers.specs.declared.finding.Tabled.{Tabled}
@@ -19,10 +19,11 @@ use Rattle.lu_answers.specs.declared.finding.Tabled.TheVariants.{Table as Made, 
 use Rattle.lu_answers.specs.declared.stage.StoredStage.{StoredStage}
 use Rattle.lu_answers.specs.Stored.{stage_of, stages_of, IsStored}
 use Rattle.lu_answers.specs.Tables.{EndsOnlyAs, IsAnswer, IsTableFrom, Rows}
+use Rattle.lu_answers.specs.Ways.{way_of}
 
--- a next call of thread t, where lines are made in order and rounds have no limit
-abbrev pub IsNextFrom : Matrix → Stage → ℕ → ℕ → Call → Type 0
-IsNextFrom matrix stage t place call = IsCallAt (InOrder None) matrix stage t place call
+-- a next call of thread t, where lines are made this often
+abbrev pub IsNextFrom : Rounds → Matrix → Stage → ℕ → ℕ → Call → Type 0
+IsNextFrom rounds matrix stage t place call = IsCallAt (way_of rounds) matrix stage t place call
 
 -- ---- a call that returns
 
@@ -33,39 +34,42 @@ LeadsToEach c stage t call outcome next =
     → (rest : Rest) × IsIn stage.rests rest × Plays c rest t call outcome after
 
 -- A next call of the stage leads to each rest of `next`.
-pub record LeadsOn (c : Component) (matrix : Matrix) (stage next : Stage) : Type 0 where
+pub record LeadsOn (c : Component) (rounds : Rounds) (matrix : Matrix) (stage next : Stage)
+    : Type 0 where
   pub t : ℕ
   pub place : ℕ
   pub call : Call
   pub outcome : SerialOutcome
-  pub is_next : IsNextFrom matrix stage t place call
-  pub follows : Follows c (InOrder None) matrix stage t place call next
+  pub is_next : IsNextFrom rounds matrix stage t place call
+  pub follows : Follows c (way_of rounds) matrix stage t place call next
   pub each : LeadsToEach c stage t call outcome next
 
 -- Thread t's next call returns with this outcome, from each rest of the stage, within the bound; and
 -- the rests of `next` are those to which it leads.
-pub record ReturnsTo (c : Component) (matrix : Matrix) (bound : ℕ) (stage : Stage) (t : ℕ)
-    (outcome : SerialOutcome) (next : Stage) : Type 0 where
+pub record ReturnsTo (c : Component) (rounds : Rounds) (matrix : Matrix) (bound : ℕ) (stage : Stage)
+    (t : ℕ) (outcome : SerialOutcome) (next : Stage) : Type 0 where
   pub place : ℕ
   pub call : Call
-  pub is_next : IsNextFrom matrix stage t place call
+  pub is_next : IsNextFrom rounds matrix stage t place call
   pub free : outcome ≢ Stuck
   pub only : EndsOnlyAs c bound stage t call outcome
-  pub follows : Follows c (InOrder None) matrix stage t place call next
+  pub follows : Follows c (way_of rounds) matrix stage t place call next
   pub each : LeadsToEach c stage t call outcome next
 
 -- thread t's next call, if it has one, blocks from each rest of the stage, within the bound
-abbrev pub BlocksAlways : Component → Matrix → ℕ → Stage → ℕ → Type 0
-BlocksAlways c matrix bound stage t =
-    (place : ℕ) (call : Call) → IsNextFrom matrix stage t place call
+abbrev pub BlocksAlways : Component → Rounds → Matrix → ℕ → Stage → ℕ → Type 0
+BlocksAlways c rounds matrix bound stage t =
+    (place : ℕ) (call : Call) → IsNextFrom rounds matrix stage t place call
     → EndsOnlyAs c bound stage t call Stuck
 
 -- what thread t's next call answers from the stage, with the component and the matrix of s: none where
 -- it blocks, or there is none
-abbrev pub IsReply : State → ℕ → StoredStage → ℕ → Option (SerialOutcome × StoredStage) → Type 0
-IsReply s bound stored t None = BlocksAlways s.component s.matrix bound (stage_of stored) t
-IsReply s bound stored t (Some (outcome, next)) =
-    ReturnsTo s.component s.matrix bound (stage_of stored) t outcome (stage_of next)
+abbrev pub IsReply : Rounds → State → ℕ → StoredStage → ℕ → Option (SerialOutcome × StoredStage)
+    → Type 0
+IsReply rounds s bound stored t None =
+    BlocksAlways s.component rounds s.matrix bound (stage_of stored) t
+IsReply rounds s bound stored t (Some (outcome, next)) =
+    ReturnsTo s.component rounds s.matrix bound (stage_of stored) t outcome (stage_of next)
 
 -- the stage to which the call leads, if it returns, is stored
 abbrev pub IsReplyStored : State → Option (SerialOutcome × StoredStage) → Type 0
@@ -92,9 +96,9 @@ OverrunsFrom c bound stage t call =
     (rest : Rest) × IsIn stage.rests rest × Overruns c bound rest t call
 
 -- a next call of the stage takes more moves than the bound, or has two outcomes
-abbrev pub HasOffence : Component → Matrix → ℕ → Stage → Type 0
-HasOffence c matrix bound stage =
-    (t place : ℕ) × (call : Call) × IsNextFrom matrix stage t place call
+abbrev pub HasOffence : Component → Rounds → Matrix → ℕ → Stage → Type 0
+HasOffence c rounds matrix bound stage =
+    (t place : ℕ) × (call : Call) × IsNextFrom rounds matrix stage t place call
     × (OverrunsFrom c bound stage t call ⊎ HasTwoOutcomes c stage t call)
 
 -- the fact holds where it stopped at a call that offends
@@ -104,9 +108,9 @@ IfOffends TooMany fact = Unit {0}
 IfOffends Memory fact = Unit {0}
 
 -- if it stopped there, a next call of the stage offends
-abbrev pub StopsFrom : State → ℕ → StoredStage → Stop → Type 0
-StopsFrom s bound stored stop =
-    IfOffends stop (HasOffence s.component s.matrix bound (stage_of stored))
+abbrev pub StopsFrom : Rounds → State → ℕ → StoredStage → Stop → Type 0
+StopsFrom rounds s bound stored stop =
+    IfOffends stop (HasOffence s.component rounds s.matrix bound (stage_of stored))
 
 -- ---- rows
 
@@ -115,61 +119,66 @@ abbrev pub Step : Type 0
 Step = Option (SerialOutcome × ℕ)
 
 -- thread t's next call from stage x, if it has one, has this answer
-abbrev pub IsRightAt : Component → Matrix → ℕ → List Stage → ℕ → ℕ → Step → Type 0
-IsRightAt c matrix bound all x t step =
+abbrev pub IsRightAt : Component → Rounds → Matrix → ℕ → List Stage → ℕ → ℕ → Step → Type 0
+IsRightAt c rounds matrix bound all x t step =
     (stage : Stage) (place : ℕ) (call : Call) → slice_get all x ≡ Some stage
-    → IsNextFrom matrix stage t place call
-    → IsAnswer c (InOrder None) matrix bound all stage t place call step
+    → IsNextFrom rounds matrix stage t place call
+    → IsAnswer c (way_of rounds) matrix bound all stage t place call step
 
 -- the row has the answers of all threads from stage x
-abbrev pub IsRow : Component → Matrix → ℕ → List StoredStage → ℕ → List Step → Type 0
-IsRow c matrix bound all x row =
-    (t : ℕ) → IsRightAt c matrix bound (stages_of all) x t (get_or row t None)
+abbrev pub IsRow : Component → Rounds → Matrix → ℕ → List StoredStage → ℕ → List Step → Type 0
+IsRow c rounds matrix bound all x row =
+    (t : ℕ) → IsRightAt c rounds matrix bound (stages_of all) x t (get_or row t None)
 
 -- each new stage is an old one, or a next call of stage x leads to it
-abbrev pub AddsFrom : Component → Matrix → List StoredStage → ℕ → List StoredStage → Type 0
-AddsFrom c matrix old x new =
+abbrev pub AddsFrom : Component → Rounds → Matrix → List StoredStage → ℕ → List StoredStage → Type 0
+AddsFrom c rounds matrix old x new =
     (stage next : Stage) → slice_get (stages_of old) x ≡ Some stage → IsIn (stages_of new) next
-    → IsIn (stages_of old) next ⊎ LeadsOn c matrix stage next
+    → IsIn (stages_of old) next ⊎ LeadsOn c rounds matrix stage next
 
 -- a next call of stage x offends
-abbrev pub HasOffenceAt : Component → Matrix → ℕ → List StoredStage → ℕ → Type 0
-HasOffenceAt c matrix bound all x =
-    (stage : Stage) × (slice_get (stages_of all) x ≡ Some stage) × HasOffence c matrix bound stage
+abbrev pub HasOffenceAt : Component → Rounds → Matrix → ℕ → List StoredStage → ℕ → Type 0
+HasOffenceAt c rounds matrix bound all x =
+    (stage : Stage) × (slice_get (stages_of all) x ≡ Some stage)
+    × HasOffence c rounds matrix bound stage
 
 -- the same for the component and the matrix of s
-abbrev pub IsStepFor : State → ℕ → List StoredStage → ℕ → ℕ → Step → Type 0
-IsStepFor s bound all x t step = IsRightAt s.component s.matrix bound (stages_of all) x t step
+abbrev pub IsStepFor : Rounds → State → ℕ → List StoredStage → ℕ → ℕ → Step → Type 0
+IsStepFor rounds s bound all x t step =
+    IsRightAt s.component rounds s.matrix bound (stages_of all) x t step
 
-abbrev pub IsRowFor : State → ℕ → List StoredStage → ℕ → List Step → Type 0
-IsRowFor s bound all x row = IsRow s.component s.matrix bound all x row
+abbrev pub IsRowFor : Rounds → State → ℕ → List StoredStage → ℕ → List Step → Type 0
+IsRowFor rounds s bound all x row = IsRow s.component rounds s.matrix bound all x row
 
-abbrev pub AddsFor : State → List StoredStage → ℕ → List StoredStage → Type 0
-AddsFor s old x new = AddsFrom s.component s.matrix old x new
+abbrev pub AddsFor : Rounds → State → List StoredStage → ℕ → List StoredStage → Type 0
+AddsFor rounds s old x new = AddsFrom s.component rounds s.matrix old x new
 
-abbrev pub StopsAt : State → ℕ → List StoredStage → ℕ → Stop → Type 0
-StopsAt s bound all x stop = IfOffends stop (HasOffenceAt s.component s.matrix bound all x)
+abbrev pub StopsAt : Rounds → State → ℕ → List StoredStage → ℕ → Stop → Type 0
+StopsAt rounds s bound all x stop =
+    IfOffends stop (HasOffenceAt s.component rounds s.matrix bound all x)
 
 -- ---- the table
 
 -- A matrix unrolled from this one has a serial run that offends within the bound.
-pub record SomeOffends (c : Component) (matrix : Matrix) (bound : ℕ) : Type 0 where
+pub record SomeOffends (c : Component) (rounds : Rounds) (matrix : Matrix) (bound : ℕ)
+    : Type 0 where
   pub big : Matrix
-  pub unrolled : IsUnrolledFrom (InOrder None) matrix big
+  pub unrolled : IsUnrolledFrom (way_of rounds) matrix big
   pub start : State
   pub is_start : IsStart c big start
   pub offends : NoOffence start bound → ⊥
 
 -- if it stopped at a call that offends, one of them does so
-abbrev pub StopsSo : Component → Matrix → ℕ → Stop → Type 0
-StopsSo c matrix bound stop = IfOffends stop (SomeOffends c matrix bound)
+abbrev pub StopsSo : Component → Rounds → Matrix → ℕ → Stop → Type 0
+StopsSo c rounds matrix bound stop = IfOffends stop (SomeOffends c rounds matrix bound)
 
 -- this is the table of the serial histories of all unrolled matrices, with some stages
-abbrev pub IsFoundTable : Component → Matrix → ℕ → Rows → Type 0
-IsFoundTable c matrix bound rows = (stages : List Stage) × IsTableFrom c matrix rows stages bound
+abbrev pub IsFoundTable : Component → Rounds → Matrix → ℕ → Rows → Type 0
+IsFoundTable c rounds matrix bound rows =
+    (stages : List Stage) × IsTableFrom c rounds matrix rows stages bound
 
 -- the table; or some unrolled matrix offends; or the table has too many stages
-abbrev pub IsTabled : Component → Matrix → ℕ → Tabled → Type 0
-IsTabled c matrix bound (Made table) = IsFoundTable c matrix bound table
-IsTabled c matrix bound SomeOffend = SomeOffends c matrix bound
-IsTabled c matrix bound TooManyStages = Unit {0}
+abbrev pub IsTabled : Component → Rounds → Matrix → ℕ → Tabled → Type 0
+IsTabled c rounds matrix bound (Made table) = IsFoundTable c rounds matrix bound table
+IsTabled c rounds matrix bound SomeOffend = SomeOffends c rounds matrix bound
+IsTabled c rounds matrix bound TooManyStages = Unit {0}

@@ -10,6 +10,8 @@ use Rattle.lu_client.specs.Alone.{Rest, rest_of}
 use Rattle.lu_client.specs.Stages.{IsIn, Stage, first_stage}
 use Rattle.lu_serial_graph.specs.Playing.{IsAmong}
 use Rattle.lu_serial_graph.specs.Answers.{RestsStand}
+use Rattle.lu_answers.specs.declared.rounds.Rounds.{Rounds}
+use Rattle.lu_answers.specs.declared.rounds.Rounds.TheVariants.{Any, One}
 use Rattle.lu_answers.specs.declared.stage.StoredStage.{StoredStage}
 
 -- the cells and locks of the position
@@ -74,14 +76,21 @@ Grows old new = (more : List StoredStage) × (new ≡ old ++ more)
 abbrev pub HasNextCall : Matrix → List ℕ → ℕ → Type 0
 HasNextCall matrix places t = slice_index places t < length (calls_of matrix t)
 
--- the places after it: after the last call of its line a thread is at the first one again
-abbrev pub places_after : Matrix → List ℕ → ℕ → List ℕ
-places_after matrix places t =
-    slice_set places t ((slice_index places t + 1) % length (calls_of matrix t))
+-- the place after this one in a line of so many calls: where lines are made over and over, the first
+-- one follows the last
+abbrev pub next_place : Rounds → ℕ → ℕ → ℕ
+next_place One many place = place + 1
+next_place Any many place = (place + 1) % many
+
+-- the places after it
+abbrev pub places_after : Rounds → Matrix → List ℕ → ℕ → List ℕ
+places_after rounds matrix places t =
+    slice_set places t (next_place rounds (length (calls_of matrix t)) (slice_index places t))
 
 -- the stage has these places
-abbrev pub HasPlacesAfter : Matrix → List ℕ → ℕ → StoredStage → Type 0
-HasPlacesAfter matrix places t next = next.places.items ≡ places_after matrix places t
+abbrev pub HasPlacesAfter : Rounds → Matrix → List ℕ → ℕ → StoredStage → Type 0
+HasPlacesAfter rounds matrix places t next =
+    next.places.items ≡ places_after rounds matrix places t
 
 -- the threads are idle, as many as the matrix has
 abbrev pub AreIdle : Matrix → List Thread → Type 0

@@ -8,9 +8,10 @@ use Rattle.lu_history.specs.declared.serial.SerialOutcome.{SerialOutcome}
 use Rattle.lu_history.specs.declared.serial.SerialOutcome.TheVariants.{Stuck}
 use Rattle.lu_history.specs.declared.serial.SerialOp.{SerialOp}
 use Rattle.lu_client.specs.Rounds.{Way}
-use Rattle.lu_client.specs.Rounds.Way.{InOrder}
 use Rattle.lu_client.specs.Alone.{Answers, Overruns, Rest, rest_of}
 use Rattle.lu_client.specs.Stages.{Follows, IsCallAt, IsIn, Stage, first_stage}
+use Rattle.lu_answers.specs.declared.rounds.Rounds.{Rounds}
+use Rattle.lu_answers.specs.Ways.{way_of}
 
 -- The stages. For each stage and thread, the outcome of the thread's next call, and the stage to
 -- which it leads; none where the call blocks.
@@ -71,7 +72,7 @@ pub record IsTableOf (c : Component) (way : Way) (matrix : Matrix) (bound : ℕ)
       → IsAnswer c way matrix bound table.stages stage t place call (table.answer x t)
 
 -- these rows, with some stages, are the table of the serial histories
-abbrev pub IsTableFrom : Component → Matrix → Rows → List Stage → ℕ → Type 0
-IsTableFrom c matrix rows stages bound =
+abbrev pub IsTableFrom : Component → Rounds → Matrix → Rows → List Stage → ℕ → Type 0
+IsTableFrom c rounds matrix rows stages bound =
     FromEachStart c matrix
-    (λ s. IsTableOf c (InOrder None) matrix bound (rest_of s) (table_of stages rows))
+    (λ s. IsTableOf c (way_of rounds) matrix bound (rest_of s) (table_of stages rows))

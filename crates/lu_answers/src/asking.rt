@@ -6,8 +6,9 @@ ghost use Rattle.lu_machine.specs.Changes.{idle};
 ghost use Rattle.lu_machine.specs.Positions.{CanStandAt};
 ghost use Rattle.lu_test.specs.Matrix.{thread_count};
 ghost use Rattle.lu_answers.specs.Asking.{IsReply, IsReplyStored, StopsFrom};
-ghost use Rattle.lu_answers.specs.Stored.{AllStandSo, AreIdle, HasNextCall, HasPlacesAfter, IsStored, RestsStandFor, places_after, rest_at};
+ghost use Rattle.lu_answers.specs.Stored.{AllStandSo, AreIdle, HasNextCall, HasPlacesAfter, IsStored, RestsStandFor, next_place, places_after, rest_at};
 
+use crate::rounds::Rounds;
 use crate::stage::StoredStage;
 use crate::stop::Stop;
 use lu_history::SerialOutcome;
@@ -23,20 +24,33 @@ fn has_next(machine: &Machine<'_>, places: &[u8], thread: u8) -> bool
     places[usize::from(thread)] < machine.matrix().calls(thread)
 }
 
+/// The place after this one in a line of this many calls.
+fn next_place(rounds: Rounds, calls: u8, place: u8) -> u8
+    requires { place < calls }
+    ensures { result ≡ next_place rounds calls place }
+{
+    match rounds {
+        Rounds::One => place + 1,
+        Rounds::Any => (place + 1) % calls,
+    }
+}
+
 /// The places after the thread's next call.
 fn places_after(
     alloc: Global,
     machine: &Machine<'_>,
+    rounds: Rounds,
     places: &[u8],
     thread: u8,
 ) -> Result<Vec<u8>, AllocError>
     requires there { thread < length places.now }
     requires next { HasNextCall machine.now.matrix places.now thread }
-    ensures { IfOk result (λ new. new.items ≡ places_after machine.now.matrix places.now thread) }
+    ensures { IfOk result (λ new.
+        new.items ≡ places_after rounds machine.now.matrix places.now thread) }
 {
     let calls = machine.matrix().calls(thread);
     let mut after = Vec::from_slice(alloc, places)?;
-    after[usize::from(thread)] = (places[usize::from(thread)] + 1) % calls;
+    after[usize::from(thread)] = next_place(rounds, calls, places[usize::from(thread)]);
     Ok(after)
 }
 
@@ -101,6 +115,7 @@ fn all_at_rest(
 fn next_stage(
     alloc: Global,
     machine: &mut Machine<'_>,
+    rounds: Rounds,
     places: &[u8],
     thread: u8,
     positions: &[Position],
@@ -112,12 +127,12 @@ fn next_stage(
     requires next { HasNextCall machine.old.matrix places.now thread }
     ensures component { OnOk result (machine.new.component ≡ machine.old.component) }
     ensures matrix { OnOk result (machine.new.matrix ≡ machine.old.matrix) }
-    ensures places { IfOk result (HasPlacesAfter machine.old.matrix places.now thread) }
+    ensures places { IfOk result (HasPlacesAfter rounds machine.old.matrix places.now thread) }
     ensures rests { IfOk result (λ next.
         map rest_at next.rests.items ≡ map rest_at positions.now) }
     ensures stored { IfOk result (IsStored machine.old.component machine.old.matrix) }
 {
-    let places = places_after(alloc, machine, places, thread)?;
+    let places = places_after(alloc, machine, rounds, places, thread)?;
     let threads = idle_threads(alloc, &places)?;
     let rests = all_at_rest(alloc, machine, &threads, positions)?;
     Ok(StoredStage { places, rests })
@@ -133,6 +148,7 @@ fn next_stage(
 pub(crate) fn ask_next(
     alloc: Global,
     machine: &mut Machine<'_>,
+    rounds: Rounds,
     stage: &StoredStage,
     thread: u8,
     bound: u16,
@@ -142,9 +158,9 @@ pub(crate) fn ask_next(
     requires few { bound ≤ MOST_MOVES }
     ensures component { OnOk result (machine.new.component ≡ machine.old.component) }
     ensures matrix { OnOk result (machine.new.matrix ≡ machine.old.matrix) }
-    ensures reply { IfOk result (IsReply machine.old bound stage.now thread) }
+    ensures reply { IfOk result (IsReply rounds machine.old bound stage.now thread) }
     ensures stored { IfOk result (IsReplyStored machine.old) }
-    ensures stop { IfErr result (StopsFrom machine.old bound stage.now) }
+    ensures stop { IfErr result (StopsFrom rounds machine.old bound stage.now) }
 {
     if !has_next(machine, &stage.places, thread) {
         return Ok(None);
@@ -155,7 +171,7 @@ pub(crate) fn ask_next(
     match answer.outcome {
         SerialOutcome::Stuck => Ok(None),
         outcome => {
-            let next = next_stage(alloc, machine, &stage.places, thread, &answer.rests)?;
+            let next = next_stage(alloc, machine, rounds, &stage.places, thread, &answer.rests)?;
             Ok(Some((outcome, next)))
         }
     }

@@ -8,6 +8,7 @@ ghost use Rattle.lu_answers.specs.Asking.{AddsFor, IsFoundTable, IsRowFor, IsSte
 ghost use Rattle.lu_answers.specs.Stored.{AllStoredFor, Grows};
 
 use crate::asking::ask_next;
+use crate::rounds::Rounds;
 use crate::stage::{Stages, first_stage, number_of};
 use crate::stop::Stop;
 use crate::table::AnswerTable;
@@ -39,6 +40,7 @@ type Step = Option<(SerialOutcome, u32)>;
 fn step_of(
     alloc: Global,
     machine: &mut Machine<'_>,
+    rounds: Rounds,
     stages: &mut Stages,
     index: usize,
     thread: u8,
@@ -52,12 +54,12 @@ fn step_of(
     ensures matrix { OnOk result (machine.new.matrix ≡ machine.old.matrix) }
     ensures grows { OnOk result (Grows stages.old.keys stages.new.keys) }
     ensures stored { OnOk result (AllStoredFor machine.old stages.new.keys) }
-    ensures adds { OnOk result (AddsFor machine.old stages.old.keys index stages.new.keys) }
-    ensures step { IfOk result (IsStepFor machine.old bound stages.new.keys index thread) }
-    ensures stop { IfErr result (StopsAt machine.old bound stages.old.keys index) }
+    ensures adds { OnOk result (AddsFor rounds machine.old stages.old.keys index stages.new.keys) }
+    ensures step { IfOk result (IsStepFor rounds machine.old bound stages.new.keys index thread) }
+    ensures stop { IfErr result (StopsAt rounds machine.old bound stages.old.keys index) }
 {
     let stage = stages.get_index(index).unwrap();
-    let Some((outcome, next)) = ask_next(alloc, machine, stage, thread, bound)? else {
+    let Some((outcome, next)) = ask_next(alloc, machine, rounds, stage, thread, bound)? else {
         return Ok(None);
     };
     match number_of(stages, next)? {
@@ -71,6 +73,7 @@ fn step_of(
 fn row_of(
     alloc: Global,
     machine: &mut Machine<'_>,
+    rounds: Rounds,
     stages: &mut Stages,
     index: usize,
     bound: u16,
@@ -82,13 +85,13 @@ fn row_of(
     ensures matrix { OnOk result (machine.new.matrix ≡ machine.old.matrix) }
     ensures grows { OnOk result (Grows stages.old.keys stages.new.keys) }
     ensures stored { OnOk result (AllStoredFor machine.old stages.new.keys) }
-    ensures adds { OnOk result (AddsFor machine.old stages.old.keys index stages.new.keys) }
-    ensures row { IfOk result (IsRowFor machine.old bound stages.new.keys index) }
-    ensures stop { IfErr result (StopsAt machine.old bound stages.old.keys index) }
+    ensures adds { OnOk result (AddsFor rounds machine.old stages.old.keys index stages.new.keys) }
+    ensures row { IfOk result (IsRowFor rounds machine.old bound stages.new.keys index) }
+    ensures stop { IfErr result (StopsAt rounds machine.old bound stages.old.keys index) }
 {
     let mut row = [None; 8];
     for thread in 0..machine.matrix().threads() {
-        let step = step_of(alloc, machine, stages, index, thread, bound)?;
+        let step = step_of(alloc, machine, rounds, stages, index, thread, bound)?;
         row[usize::from(thread)] = step;
     }
     Ok(row)
@@ -104,13 +107,14 @@ fn make_table(
     alloc: Global,
     component: &Component,
     matrix: &Matrix,
+    rounds: Rounds,
     bound: u16,
     most: usize,
 ) -> Result<AnswerTable, Stop>
     requires of { CanRun component.now matrix.now }
     requires few { bound ≤ MOST_MOVES }
-    ensures table { IfOk result (IsFoundTable component.now matrix.now bound) }
-    ensures stop { IfErr result (StopsSo component.now matrix.now bound) }
+    ensures table { IfOk result (IsFoundTable component.now rounds matrix.now bound) }
+    ensures stop { IfErr result (StopsSo component.now rounds matrix.now bound) }
 {
     let mut machine = Machine::start(alloc, component, matrix)?;
     let mut stages = IndexSet::new(alloc);
@@ -121,16 +125,18 @@ fn make_table(
         if index >= most {
             return Err(Stop::TooMany);
         }
-        let row = row_of(alloc, &mut machine, &mut stages, index, bound)?;
+        let row = row_of(alloc, &mut machine, rounds, &mut stages, index, bound)?;
         rows.push(row)?;
         index += 1;
     }
     Ok(AnswerTable::new(rows))
 }
 
-/// The table of the serial histories of all matrices that are unrolled from this one, where lines
-/// are made in order and rounds have no limit. `bound`, at most 256, is the number of moves that a
-/// call may take after its first. The table has no more than `most` stages.
+/// The table of the serial histories of all matrices that are unrolled from this one. `rounds` says
+/// how often each thread makes its line of calls; it may stop before any call.
+///
+/// `bound`, at most 256, is the number of moves that a call may take after its first. The table has
+/// no more than `most` stages.
 ///
 /// A matrix offends where a call of a serial run takes more moves than that, or has two outcomes
 /// after the same calls (Burckhardt, Dern, Musuvathi and Tan, 2010).
@@ -142,14 +148,15 @@ pub fn find_table(
     alloc: Global,
     component: &Component,
     matrix: &Matrix,
+    rounds: Rounds,
     bound: u16,
     most: usize,
 ) -> Result<Tabled, AllocError>
     requires of { CanRun component.now matrix.now }
     requires few { bound ≤ MOST_MOVES }
-    ensures { IfOk result (IsTabled component.now matrix.now bound) }
+    ensures { IfOk result (IsTabled component.now rounds matrix.now bound) }
 {
-    match make_table(alloc, component, matrix, bound, most) {
+    match make_table(alloc, component, matrix, rounds, bound, most) {
         Ok(table) => Ok(Tabled::Table(table)),
         Err(Stop::Offends) => Ok(Tabled::Offends),
         Err(Stop::TooMany) => Ok(Tabled::TooMany),

@@ -3,9 +3,11 @@
 
 mod asking;
 mod finding;
+mod rounds;
 mod stage;
 mod stop;
 mod table;
 
 pub use finding::{Tabled, find_table};
+pub use rounds::Rounds;
 pub use table::AnswerTable;

@@ -2,4 +2,4 @@
 use Rattle.lu_forever.specs.Certified.{LinearizableNeverOffends}
 
 pub never_offends : LinearizableNeverOffends
-never_offends c matrix bound always some = some.offends (always some.big some.unrolled some.start some.is_start).0
+never_offends c rounds matrix bound always some = some.offends (always some.big some.unrolled some.start some.is_start).0

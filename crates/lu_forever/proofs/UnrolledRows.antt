@@ -1,16 +1,18 @@
 -- Unrolled lines and matrices.
-use Rattle.std.proofs.Common.{◌≡◌, ◌++◌, ◌≤◌, ◌<◌, ℕ, zero, suc, ◌+◌, ◌*◌, List, [], ◌∷◌, Some, None, refl, sym, ◌∙◌, ap, subst, length, take, drop, arith, slice_get}
-use Rattle.std.specs.Prelude.{All, sum_by, unwrap_or}
-use Rattle.std.proofs.lemmas.List.{append_assoc, append-nil, take-append-drop, take_all}
+use Rattle.std.proofs.Common.{◌≡◌, ◌++◌, ◌≤◌, ℕ, zero, suc, ◌+◌, ◌*◌, List, [], ◌∷◌, Option, Some, None, refl, sym, ◌∙◌, ap, subst, length, map, take, drop, arith, slice_get}
+use Rattle.std.specs.Prelude.{All, sum_by}
+use Rattle.std.proofs.lemmas.List.{append_assoc, append-nil, length-map, take-append-drop, take_all}
 use Rattle.std.proofs.lemmas.List.Elements.{All-append, All-nil, All-cons, All-take}
 use Rattle.std.proofs.lemmas.List.Sums.{sum_by-cons}
 use Rattle.lu_component.specs.Component.{Component}
 use Rattle.lu_test.specs.declared.matrix.Call.{Call}
-use Rattle.lu_test.specs.Matrix.{AreArguments, AreThreads, IsCallOf, IsMatrix, IsOf, Matrix, calls_of, row_of}
+use Rattle.lu_test.specs.Matrix.{AreArguments, AreThreads, IsCallOf, IsMatrix, IsOf, Matrix, row_of}
 use Rattle.lu_machine.specs.Starts.{CanRun}
-use Rattle.lu_client.specs.Rounds.{AreRounds, IsUnrolledFrom, repeated}
-use Rattle.lu_client.specs.Rounds.Way.{InOrder}
-use Rattle.lu_forever.specs.Unrolled.{count_at, first_of_rounds, rows_from, unrolled}
+use Rattle.lu_client.specs.Rounds.{AreRounds, IsUnrolledFrom, repeated, times}
+use Rattle.lu_answers.specs.declared.rounds.Rounds.{Rounds}
+use Rattle.lu_answers.specs.declared.rounds.Rounds.TheVariants.{Any, One}
+use Rattle.lu_answers.specs.Ways.{way_of}
+use Rattle.lu_forever.specs.Unrolled.{AreWithin, count_at, first_of_rounds, rows_from, unrolled}
 
 -- one round more, at the end
 round_more : (n : ℕ) (line : List Call) → repeated n line ++ line ≡ repeated (suc n) line
@@ -29,19 +31,48 @@ rows_length counts (line ∷ lines) t = ap suc (rows_length counts lines (t + 1)
 rounds_first : (line : List Call) (n : ℕ) → AreRounds None line (first_of_rounds line n)
 rounds_first line n = record { many = n; allowed = tt; more = drop n (repeated n line); begins = sym (take-append-drop n (repeated n line)) }
 
-no_rounds : AreRounds None [] []
-no_rounds = record { many = 0; allowed = tt; more = []; begins = refl }
+no_rounds : (limit : Option ℕ) → AreRounds limit [] []
+no_rounds None = record { many = 0; allowed = tt; more = []; begins = refl }
+no_rounds (Some n) = record { many = 0; allowed = omega arith; more = []; begins = refl }
 
-pub each_row : (counts : List ℕ) (lines : List (List Call)) (t k : ℕ) → AreRounds None (row_of lines k) (row_of (rows_from counts lines t) k)
-each_row counts [] t k = no_rounds
+each_row : (counts : List ℕ) (lines : List (List Call)) (t k : ℕ) → AreRounds None (row_of lines k) (row_of (rows_from counts lines t) k)
+each_row counts [] t k = no_rounds None
 each_row counts (line ∷ lines) t zero = rounds_first line (count_at counts t)
 each_row counts (line ∷ lines) t (suc k) = each_row counts lines (t + 1) k
 
-pub is_unrolled : (matrix : Matrix) (counts : List ℕ) → IsUnrolledFrom (InOrder None) matrix (unrolled matrix counts)
-is_unrolled matrix counts = record {
+-- no more than the line has are its first
+take_first : (line rest : List Call) (n : ℕ) → n ≤ length line → take n (line ++ rest) ≡ take n line
+take_first line rest zero few = refl
+take_first [] rest (suc n) few = absurd (omega (arith, few))
+take_first (call ∷ line) rest (suc n) few = ap (λ (x : List Call). call ∷ x) (take_first line rest n (omega (arith, few)))
+
+first_once : (line : List Call) (n : ℕ) → n ≤ length line → first_of_rounds line n ≡ take n line
+first_once line zero few = refl
+first_once line (suc n) few = take_first line (repeated n line) (suc n) few
+
+once_first : (line : List Call) (n : ℕ) → n ≤ length line → AreRounds (Some 1) line (first_of_rounds line n)
+once_first line n few = record {
+  many = 1;
+  allowed = omega arith;
+  more = drop n line;
+  begins = append-nil line ∙ (sym (take-append-drop n line) ∙ ap (λ (x : List Call). x ++ drop n line) (sym (first_once line n few)));
+}
+
+each_row_once : (counts : List ℕ) (lines : List (List Call)) (t k : ℕ) → ((j : ℕ) → count_at counts (t + j) ≤ length (row_of lines j)) → AreRounds (Some 1) (row_of lines k) (row_of (rows_from counts lines t) k)
+each_row_once counts [] t k few = no_rounds (Some 1)
+each_row_once counts (line ∷ lines) t zero few = once_first line (count_at counts t) (subst (λ n. count_at counts n ≤ length line) (omega arith) (few 0))
+each_row_once counts (line ∷ lines) t (suc k) few = each_row_once counts lines (t + 1) k (λ j. subst (λ n. count_at counts n ≤ length (row_of lines j)) (omega arith) (few (suc j)))
+
+pub is_unrolled : (rounds : Rounds) (matrix : Matrix) (counts : List ℕ) → AreWithin rounds counts matrix → IsUnrolledFrom (way_of rounds) matrix (unrolled matrix counts)
+is_unrolled Any matrix counts within = record {
   setup = refl;
   many = rows_length counts matrix.threads 0;
   each = λ t. each_row counts matrix.threads 0 t;
+}
+is_unrolled One matrix counts within = record {
+  setup = refl;
+  many = rows_length counts matrix.threads 0;
+  each = λ t. each_row_once counts matrix.threads 0 t (λ j. subst (λ n. count_at counts n ≤ length (row_of matrix.threads j)) (omega arith) (within j));
 }
 
 -- what holds of each call of the lines holds of those of the rows
@@ -97,3 +128,26 @@ next_row counts lines k line is =
 
 pub all_rows : (counts : List ℕ) (lines : List (List Call)) (t k : ℕ) → length lines ≤ k → take k (rows_from counts lines t) ≡ rows_from counts lines t
 all_rows counts lines t k h = take_all k (rows_from counts lines t) (omega (arith, rows_length counts lines t))
+
+-- ---- the whole matrix a number of times
+
+times_all : (P : Call → Type 0) (n : ℕ) (lines : List (List Call)) → All (λ line. All P line) lines → All (λ row. All P row) (map (repeated n) lines)
+times_all P n [] all = All-nil (λ row. All P row)
+times_all P n (line ∷ lines) all =
+    All-cons (λ row. All P row) (repeated n line) (map (repeated n) lines)
+    (repeated_all P n line (all 0 [] (omega arith)))
+    (times_all P n lines (λ k d h. all (suc k) d (omega arith)))
+
+pub times_runs : (c : Component) (matrix : Matrix) (n : ℕ) → CanRun c matrix → CanRun c (times n matrix)
+times_runs c matrix n can = record {
+  of = (can.of.0, times_all (λ call. IsCallOf c call) n matrix.threads can.of.1);
+  settles = can.settles;
+}
+
+pub times_limits : (matrix : Matrix) (n : ℕ) → IsMatrix matrix → All (λ (row : List Call). length row ≤ 8) (map (repeated n) matrix.threads) → sum_by length (map (repeated n) matrix.threads) ≤ 16 → AreThreads (map (repeated n) matrix.threads)
+times_limits matrix n sound short few = record {
+  few = omega (arith, length-map matrix.threads (repeated n), sound.limits.few);
+  each = short;
+  calls = few;
+  arguments = times_all (λ call. AreArguments call.args) n matrix.threads sound.limits.arguments;
+}

@@ -3,10 +3,10 @@
 ghost use Rattle.std.specs.Prelude.{◌≤◌, IfOk};
 ghost use Rattle.lu_machine.specs.declared.TheConstants.{MOST_MOVES};
 ghost use Rattle.lu_machine.specs.Starts.{CanRun};
-ghost use Rattle.lu_forever.specs.Certified.{IsForever};
+ghost use Rattle.lu_forever.specs.Certified.{IsRoundsVerdict};
 
 use lu_always::{Verdict, find_verdict};
-use lu_answers::{Tabled, find_table};
+use lu_answers::{Rounds, Tabled, find_table};
 use lu_component::Component;
 use lu_test::{Matrix, Move};
 use std::alloc::{AllocError, Global};
@@ -17,7 +17,7 @@ const MOST_STAGES: usize = 65_536;
 
 /// Whether all matrices that are unrolled from one are linearizable, and none has a livelock.
 #[derive(Drop)]
-pub enum Forever {
+pub enum RoundsVerdict {
     /// All are: each ended schedule, of any length, is good for the serial histories of its matrix.
     /// None has a livelock: wherever a schedule leads, some schedule ends.
     Linearizable,
@@ -38,41 +38,44 @@ pub enum Forever {
     Undecided,
 }
 
-/// Whether all matrices that are unrolled from this one without a limit of rounds are linearizable,
-/// and none has a livelock. Each thread repeats its line of calls any number of times, and may stop
-/// anywhere. `serial_bound`, at most 256, is the number of moves that a call of a serial run may take
-/// after its first. The table of the serial histories has no more than `most` stages, and no more
-/// than 65,536. No more than `most` nodes are searched.
+/// Whether all matrices that are unrolled from this one are linearizable, and none has a livelock.
+/// `rounds` says how often each thread makes its line of calls; it may stop before any call.
+///
+/// `serial_bound`, at most 256, is the number of moves that a call of a serial run may take after its
+/// first. The table of the serial histories has no more than `most` stages, and no more than 65,536.
+/// No more than `most` nodes and `most` states are searched.
 ///
 /// # Errors
 ///
 /// Out of memory.
-pub fn certify_forever(
+pub fn certify_rounds(
     alloc: Global,
     component: &Component,
     matrix: &Matrix,
+    rounds: Rounds,
     serial_bound: u16,
     most: usize,
-) -> Result<Forever, AllocError>
+) -> Result<RoundsVerdict, AllocError>
     requires of { CanRun component.now matrix.now }
     requires few { serial_bound ≤ MOST_MOVES }
-    ensures { IfOk result (IsForever component.now matrix.now serial_bound) }
+    ensures { IfOk result (IsRoundsVerdict component.now rounds matrix.now serial_bound) }
 {
     let table = match find_table(
         alloc,
         component,
         matrix,
+        rounds,
         serial_bound,
         most.min(MOST_STAGES),
     )? {
         Tabled::Table(table) => table,
-        Tabled::Offends => return Ok(Forever::Offends),
-        Tabled::TooMany => return Ok(Forever::Undecided),
+        Tabled::Offends => return Ok(RoundsVerdict::Offends),
+        Tabled::TooMany => return Ok(RoundsVerdict::Undecided),
     };
-    match find_verdict(alloc, component, matrix, &table, most)? {
-        Verdict::AlwaysLinearizable => Ok(Forever::Linearizable),
-        Verdict::Fails(moves) => Ok(Forever::NotLinearizable(moves)),
-        Verdict::Livelock(moves) => Ok(Forever::Livelock(moves)),
-        Verdict::Undecided => Ok(Forever::Undecided),
+    match find_verdict(alloc, component, matrix, &table, rounds, most)? {
+        Verdict::AlwaysLinearizable => Ok(RoundsVerdict::Linearizable),
+        Verdict::Fails(moves) => Ok(RoundsVerdict::NotLinearizable(moves)),
+        Verdict::Livelock(moves) => Ok(RoundsVerdict::Livelock(moves)),
+        Verdict::Undecided => Ok(RoundsVerdict::Undecided),
     }
 }

@@ -1,12 +1,13 @@
 //! The unrolled matrix whose calls are made in some moves.
 
-ghost use Rattle.std.specs.Prelude.{IfOk, IfSome, None};
+ghost use Rattle.std.specs.Prelude.{IfOk, IfSome};
 ghost use Rattle.lu_machine.specs.Starts.{CanRun};
 ghost use Rattle.lu_client.specs.Rounds.{IsUnrolledFrom};
-ghost use Rattle.lu_client.specs.Rounds.Way.{InOrder};
+ghost use Rattle.lu_answers.specs.Ways.{way_of};
 
-use crate::unrolling::unroll;
+use crate::unrolling::{are_within, unroll};
 use lu_always::client_step;
+use lu_answers::Rounds;
 use lu_component::Component;
 use lu_machine::{Event, Machine};
 use lu_test::{Matrix, Move};
@@ -17,6 +18,7 @@ use std::alloc::{AllocError, Global};
 fn calls_made(
     alloc: Global,
     machine: &mut Machine<'_>,
+    rounds: Rounds,
     moves: &[Move],
 ) -> Result<[u8; 8], AllocError> {
     let mut counts = [0; 8];
@@ -24,7 +26,7 @@ fn calls_made(
         if !machine.feasible(*next) {
             return Ok(counts);
         }
-        if let Some(Event::Call { t, .. }) = client_step(alloc, machine, *next)? {
+        if let Some(Event::Call { t, .. }) = client_step(alloc, machine, rounds, *next)? {
             if let Some(count) = counts.get_mut(usize::from(t)) {
                 *count = count.saturating_add(1);
             }
@@ -35,7 +37,7 @@ fn calls_made(
 
 /// The matrix that is unrolled from this one, in which each thread makes as many calls as in these
 /// moves. None where these are too many for a matrix. For the moves that
-/// [`certify_forever`](crate::certify_forever) gives, it is meant to be the matrix of which they are
+/// [`certify_rounds`](crate::certify_rounds) gives, it is meant to be the matrix of which they are
 /// a schedule; that it is so is not proved, so whoever relies on it certifies the matrix.
 ///
 /// # Errors
@@ -45,14 +47,18 @@ pub fn unroll_for(
     alloc: Global,
     component: &Component,
     matrix: &Matrix,
+    rounds: Rounds,
     moves: &[Move],
 ) -> Result<Option<Matrix>, AllocError>
     requires { CanRun component.now matrix.now }
     ensures unrolled { IfOk result
-        (λ m. IfSome m (λ big. IsUnrolledFrom (InOrder None) matrix.now big)) }
+        (λ m. IfSome m (λ big. IsUnrolledFrom (way_of rounds) matrix.now big)) }
     ensures runs { IfOk result (λ m. IfSome m (λ big. CanRun component.now big)) }
 {
     let mut machine = Machine::start(alloc, component, matrix)?;
-    let counts = calls_made(alloc, &mut machine, moves)?;
-    unroll(alloc, component, matrix, &counts)
+    let counts = calls_made(alloc, &mut machine, rounds, moves)?;
+    if !are_within(matrix, rounds, &counts) {
+        return Ok(None);
+    }
+    unroll(alloc, component, matrix, rounds, &counts)
 }

@@ -1,13 +1,13 @@
-//! Certificates for any number of rounds: whether all matrices that are unrolled from one are
-//! linearizable, and none has a livelock.
+//! Certificates for one round, or any number of rounds: whether all matrices that are unrolled from
+//! one are linearizable, and none has a livelock.
 //!
 //! ```text
-//! match certify_forever(alloc, &component, &matrix, 40, 1 << 20)? {
-//!     Forever::Linearizable => ..,
-//!     Forever::NotLinearizable(moves) => ..,
-//!     Forever::Livelock(moves) => ..,
-//!     Forever::Offends => ..,
-//!     Forever::Undecided => ..,
+//! match certify_rounds(alloc, &component, &matrix, Rounds::Any, 40, 1 << 20)? {
+//!     RoundsVerdict::Linearizable => ..,
+//!     RoundsVerdict::NotLinearizable(moves) => ..,
+//!     RoundsVerdict::Livelock(moves) => ..,
+//!     RoundsVerdict::Offends => ..,
+//!     RoundsVerdict::Undecided => ..,
 //! }
 //! ```
 #![tactic(auto)]
@@ -15,9 +15,11 @@
 mod certifying;
 mod counting;
 mod laws;
+mod repeating;
 mod unrolling;
 
-pub use certifying::{Forever, certify_forever};
+pub use certifying::{RoundsVerdict, certify_rounds};
 pub use counting::unroll_for;
 pub use laws::forever_laws;
+pub use repeating::with_rounds;
 pub use unrolling::unroll;

@@ -1,17 +1,23 @@
 //! Unrolled matrices.
 
-ghost use Rattle.std.specs.Prelude.{◌≡◌, ◌++◌, ◌≤◌, ◌↔◌, All, IfOk, IfSome, IsTrue, None, OnOk, length, sum_by};
+ghost use Rattle.std.specs.Prelude.{◌≡◌, ◌++◌, ◌≤◌, ◌↔◌, All, IfOk, IfSome, IsTrue, OnOk, length, sum_by};
 ghost use Rattle.lu_machine.specs.Starts.{CanRun};
+ghost use Rattle.lu_answers.specs.declared.rounds.Rounds.TheVariants.{One};
 ghost use Rattle.lu_client.specs.Rounds.{IsUnrolledFrom};
-ghost use Rattle.lu_client.specs.Rounds.Way.{InOrder};
-ghost use Rattle.lu_forever.specs.Unrolled.{count_at, first_of_rounds, rows_from, unrolled};
+ghost use Rattle.lu_answers.specs.Ways.{way_of};
+ghost use Rattle.lu_forever.specs.Unrolled.{AreWithin, count_at, first_of_rounds, rows_from, unrolled};
 
+use lu_answers::Rounds;
 use lu_component::Component;
 use lu_test::{Call, Calls, MOST_CALLS, MOST_CALLS_OF_THREAD, Matrix, copy_call, copy_calls};
 use std::alloc::{AllocError, Global};
 
 /// Adds copies of the calls.
-fn push_all(alloc: Global, line: &[Call], calls: &mut Vec<Call>) -> Result<(), AllocError>
+pub(crate) fn push_all(
+    alloc: Global,
+    line: &[Call],
+    calls: &mut Vec<Call>,
+) -> Result<(), AllocError>
     ensures { OnOk result (calls.new.items ≡ calls.old.items ++ line.now) }
 {
     for call in line {
@@ -68,12 +74,34 @@ fn total_of(rows: &[Calls]) -> usize
 }
 
 /// Whether a matrix may have these rows.
-fn fit(rows: &[Calls]) -> bool
+pub(crate) fn fit(rows: &[Calls]) -> bool
     requires { length rows.now ≤ 8 }
     ensures short { IsTrue result → All (λ calls. length calls ≤ 8) rows.now }
     ensures few { IsTrue result → sum_by length rows.now ≤ 16 }
 {
     are_short(rows) && total_of(rows) <= MOST_CALLS
+}
+
+/// Whether no thread makes more calls than its line has.
+fn are_few(matrix: &Matrix, counts: &[u8; 8]) -> bool
+    ensures { IsTrue result → AreWithin One counts.now matrix.now }
+{
+    for t in 0..8u8 {
+        if counts[usize::from(t)] > matrix.calls(t) {
+            return false;
+        }
+    }
+    true
+}
+
+/// Whether threads may make this many calls of their lines.
+pub(crate) fn are_within(matrix: &Matrix, rounds: Rounds, counts: &[u8; 8]) -> bool
+    ensures { IsTrue result → AreWithin rounds counts.now matrix.now }
+{
+    match rounds {
+        Rounds::One => are_few(matrix, counts),
+        Rounds::Any => true,
+    }
 }
 
 /// The matrix in which thread t makes the first `counts[t]` calls of its line, made over and over,
@@ -87,12 +115,14 @@ pub fn unroll(
     alloc: Global,
     component: &Component,
     matrix: &Matrix,
+    rounds: Rounds,
     counts: &[u8],
 ) -> Result<Option<Matrix>, AllocError>
-    requires { CanRun component.now matrix.now }
+    requires runs { CanRun component.now matrix.now }
+    requires within { AreWithin rounds counts.now matrix.now }
     ensures made { IfOk result (λ m. IfSome m (λ big. big ≡ unrolled matrix.now counts.now)) }
     ensures unrolled { IfOk result
-        (λ m. IfSome m (λ big. IsUnrolledFrom (InOrder None) matrix.now big)) }
+        (λ m. IfSome m (λ big. IsUnrolledFrom (way_of rounds) matrix.now big)) }
     ensures runs { IfOk result (λ m. IfSome m (λ big. CanRun component.now big)) }
 {
     let rows = rows_of(alloc, matrix.as_slice(), counts)?;

@@ -111,19 +111,19 @@ aside_picks s f (Jump target) is = refl
 aside_picks s f (JumpIfZero v target) is = refl
 aside_picks s f (Return v) is = refl
 
-one_pick : (s : State) (t : ℕ) → IsAside s t → picks_of s t ≡ 1
+pub one_pick : (s : State) (t : ℕ) → IsAside s t → picks_of s t ≡ 1
 one_pick s t x = picks_at s t x.done x.frame x.instr x.stands x.at ∙ aside_picks s x.frame x.instr x.aside
 
-busy : (s : State) (t : ℕ) → IsAside s t → (k : ℕ) → slice_get s.threads t ≡ Some (idle k) → ⊥
+pub busy : (s : State) (t : ℕ) → IsAside s t → (k : ℕ) → slice_get s.threads t ≡ Some (idle k) → ⊥
 busy s t x k stands = (let same : Open x.frame ≡ Idle = ap (λ (z : Thread). z.activity) (same_Some (at_work x.done x.frame) (idle k) (sym x.stands ∙ stands)) in cc)
 
 -- where it is so, nothing has ended
-never_ended : (s : State) (t : ℕ) → IsAside s t → IsEnded s → ⊥
+pub never_ended : (s : State) (t : ℕ) → IsAside s t → IsEnded s → ⊥
 never_ended s t is (inl complete) = let one = one_pick s t is in let none = complete_no_move s complete t in absurd (omega (arith, one, none))
 never_ended s t is (inr stuck) = let one = one_pick s t is in let none = stuck.1 t in absurd (omega (arith, one, none))
 
 -- it stands there still, as others move
-stays_aside : (s : State) (x : Move) (next : State) (event : Option Event) (t : ℕ) → (x.thread ≡ t → ⊥) → Step s x next event → IsAside s t → IsAside next t
+pub stays_aside : (s : State) (x : Move) (next : State) (event : Option Event) (t : ℕ) → (x.thread ≡ t → ⊥) → Step s x next event → IsAside s t → IsAside next t
 stays_aside s x next event t differ step is =
     let stays = other_stands s x next event t differ step in
     let moved = step_moved s x next event step in
@@ -308,19 +308,19 @@ goes_aside s mid end x m other event owned is differ one two =
     }
 
 -- the same event before both
-event_before : (e : Option Event) (h k : List Event) → AreReordered h k → AreReordered (with_event e h) (with_event e k)
+pub event_before : (e : Option Event) (h k : List Event) → AreReordered h k → AreReordered (with_event e h) (with_event e k)
 event_before None h k re = re
 event_before (Some e) h k re = reordered_after e h k re
 
 -- two events in the other order
-events_turned : (e f : Option Event) (k : List Event) → AreUnordered e f → AreReordered (with_event e (with_event f k)) (with_event f (with_event e k))
+pub events_turned : (e f : Option Event) (k : List Event) → AreUnordered e f → AreReordered (with_event e (with_event f k)) (with_event f (with_event e k))
 events_turned None f k un = reordered_same (with_event f k)
 events_turned (Some a) None k un = reordered_same (a ∷ k)
 events_turned (Some a) (Some b) k un = exchanged_once (a ∷ b ∷ k) (b ∷ a ∷ k) (record { front = []; back = k; first = a; second = b; may = un; before = refl; after = refl })
 
 -- ---- it goes first
 
-record InFront (s : State) (t moves : ℕ) (end : State) (history : List Event) : Type 0 where
+pub record InFront (s : State) (t moves : ℕ) (end : State) (history : List Event) : Type 0 where
   pub m : Move
   pub is : m.thread ≡ t
   pub now : State
@@ -366,7 +366,7 @@ front_other s t x w end next e rest h owned other unseen step joined r =
       reordered = reordered_both (with_event r.event (with_event e r.behind)) (with_event e (with_event r.event r.behind)) h turned on;
     }
 
-in_front : (s : State) (t : ℕ) (u : List Move) (end : State) (h : List Event) → IsOwned s → IsAside s t → Leads s u end h → IsEnded end → InFront s t (length u) end h
+pub in_front : (s : State) (t : ℕ) (u : List Move) (end : State) (h : List Event) → IsOwned s → IsAside s t → Leads s u end h → IsEnded end → InFront s t (length u) end h
 in_front s t [] end h owned unseen leads ended = absurd (never_ended s t unseen (subst IsEnded leads.0 ended))
 in_front s t (x ∷ w) end h owned unseen (next, e, rest, step, leads, joined) ended = elim (cases_eq x.thread t) as (λ _. InFront s t (length (x ∷ w)) end h) [
   | inl same ↦ front_own s t x w end next e rest h same step leads joined
@@ -394,7 +394,7 @@ least p (suc n) = elim (least p n) as (λ _. ((t : ℕ) × (p t ≡ true) × ((u
 pub none_past : (s : State) (t : ℕ) → length s.threads ≤ t → IsAside s t → ⊥
 none_past s t past is = let none = slice_get_past s.threads t past in let some = is.stands in absurd (cc)
 
-first_or_none : (s : State) (guarded : List Bool) → TellsGuarded s.component guarded → ((t : ℕ) × IsFirstAside s t) ⊎ ((t : ℕ) → IsAside s t → ⊥)
+pub first_or_none : (s : State) (guarded : List Bool) → TellsGuarded s.component guarded → ((t : ℕ) × IsFirstAside s t) ⊎ ((t : ℕ) → IsAside s t → ⊥)
 first_or_none s guarded told = elim (least (is_aside_at guarded s) (length s.threads)) as (λ _. ((t : ℕ) × IsFirstAside s t) ⊎ ((t : ℕ) → IsAside s t → ⊥)) [
   | inl found ↦ inl (found.0, record { aside = is_told s guarded told found.0 found.1; first = λ u lt. not_told s guarded told u (found.2 u lt) })
   | inr none ↦ inr (λ t. elim (cases_lt t (length s.threads)) as (λ _. IsAside s t → ⊥) [ inl lt ↦ not_told s guarded told t (none t lt) | inr past ↦ none_past s t past ])
@@ -426,7 +426,7 @@ abbrev pub FirstTells : State → Type 0
 FirstTells s = (u : List Move) (end : State) (h : List Event) → Leads s u end h → IsEnded end → LeadsFirst s (length u) end h
 
 -- a move leaves which arrays are guarded
-told_on : (guarded : List Bool) (s : State) (m : Move) (next : State) (event : Option Event) → Step s m next event → TellsGuarded s.component guarded → TellsGuarded next.component guarded
+pub told_on : (guarded : List Bool) (s : State) (m : Move) (next : State) (event : Option Event) → Step s m next event → TellsGuarded s.component guarded → TellsGuarded next.component guarded
 told_on guarded s m next event step told = subst (λ (c : Component). TellsGuarded c guarded) (sym (step_moved s m next event step).component) told
 
 tells : (n : ℕ) (guarded : List Bool) (s : State) (u : List Move) (end : State) (h : List Event) → TellsGuarded s.component guarded → IsOwned s → length u ≡ n → Leads s u end h → IsEnded end → LeadsFirst s n end h

@@ -1,11 +1,11 @@
-mod Apart
-mod Guarded
+pub mod Apart
+pub mod Guarded
 mod Critical
 mod Sectioned
-mod Aside
-mod First
-mod Turns
-mod StatesAlike
+pub mod Aside
+pub mod First
+mod TakenTurns
+pub mod StatesAlike
 mod Closing
 mod ForEver
 mod StayAlive

@@ -71,17 +71,20 @@ fn is_aside_at(machine: &Machine<'_>, thread: u8, guards: &Guards) -> bool
     }
 }
 
-/// The threads whose moves go first: from `first` to before `end`.
+/// The threads whose moves go first.
 #[derive(Clone, Copy)]
-pub(crate) struct Turns {
-    pub(crate) first: u8,
-    pub(crate) end: u8,
+pub struct Turns {
+    /// The first of them.
+    pub first: u8,
+
+    /// The thread after the last of them.
+    pub end: u8,
 }
 
-/// The threads whose moves go first where the machine stands: the first thread that is at an
-/// instruction which stands aside, or else all. What the others do meanwhile is the same, and where
-/// a return comes earlier, a history only has more precedence.
-pub(crate) fn turns_at(machine: &Machine<'_>, guards: &Guards) -> Turns
+/// The threads whose moves go first in this state: the first thread that is at a left mover (Lipton,
+/// 1975), or all threads if none is. What the others do meanwhile is the same, and where a return
+/// comes earlier, a history only has more precedence.
+pub fn turns_at(machine: &Machine<'_>, guards: &Guards) -> Turns
     requires { TellsGuarded machine.now.component guards.now }
     ensures { TakeTurns machine.now result.first result.end }
 {

@@ -215,9 +215,9 @@ fn is_guarded(alloc: Global, component: &Component, array: u8) -> Result<bool, A
     Ok(false)
 }
 
-/// Of each array of a component, whether it is guarded by a lock.
+/// Whether each array of a component is guarded by a lock.
 #[derive(Drop)]
-pub(crate) struct Guards {
+pub struct Guards {
     arrays: Vec<bool>,
 }
 
@@ -230,8 +230,12 @@ impl Model for Guards {
 }
 
 impl Guards {
-    /// Those of the component's arrays.
-    pub(crate) fn new(alloc: Global, component: &Component) -> Result<Guards, AllocError>
+    /// Finds out which of the component's arrays are guarded.
+    ///
+    /// # Errors
+    ///
+    /// Out of memory.
+    pub fn new(alloc: Global, component: &Component) -> Result<Guards, AllocError>
         ensures { IfOk result (TellsGuarded component.now) }
     {
         let mut arrays = Vec::new(alloc);

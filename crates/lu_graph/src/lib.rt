@@ -61,6 +61,8 @@ mod traversal;
 pub use ending::Ending;
 pub use expanders::{Alone, ByThreads, Expanders, Helpers};
 pub use exploring::{ends_well, ends_well_watched};
+pub use growing::{Turns, turns_at};
+pub use guards::Guards;
 pub use halted::{Halted, unhalted};
 pub use laws::{alike_laws, first_law, guard_law, hopeless_law, precedence_law};
 pub use losing::{first_lost, first_lost_watched};

@@ -6,30 +6,30 @@ pub stand_at-requires : goal.stand_at-requires
 stand_at-requires c =
     let a = c.args.machine.now in
     let b = c.client_step.new.machine in
-    base_stand a b c.args.home.now (moved_base a c.args.next b c.in_ok-event.event c.in_ok-event.ensures.step) c.requires.stands
+    base_stand a b c.args.home.now (moved_base c.args.given.rounds a c.args.arrival.by b c.in_ok-event.event c.in_ok-event.ensures.step) c.requires.stands
 
 pub returns-clause-home : goal.returns-clause-home
 returns-clause-home c =
     let a = c.args.machine.now in
     let b = c.client_step.new.machine in
-    home_again a b c.stand_at.new.self c.args.home.now (moved_base a c.args.next b c.in_ok-event.event c.in_ok-event.ensures.step) c.requires.here c.stand_at.ensures
+    home_again a b c.stand_at.new.self c.args.home.now (moved_base c.args.given.rounds a c.args.arrival.by b c.in_ok-event.event c.in_ok-event.ensures.step) c.requires.here c.stand_at.ensures
 
 pub returns-clause-grows : goal.returns-clause-grows
 returns-clause-grows c =
     let a = c.args.machine.now in
     let b = c.client_step.new.machine in
-    base_grows a b c.args.all.now c.store.new.all (moved_base a c.args.next b c.in_ok-event.event c.in_ok-event.ensures.step) c.in_ok-to.ensures.grows
+    base_grows a b c.args.all.now c.store.new.all (moved_base c.args.given.rounds a c.args.arrival.by b c.in_ok-event.event c.in_ok-event.ensures.step) c.in_ok-to.ensures.grows
 
 pub returns-clause-next : goal.returns-clause-next
 returns-clause-next c =
-    next_made c.args.table.now c.args.machine.now c.args.next c.client_step.new.machine c.in_ok-event.event c.store.new.all c.in_ok-to.to c.args.monitor.now c.in_ok-after.after
+    next_made c.args.given.rounds c.args.given.table.now c.args.machine.now c.args.arrival.by c.client_step.new.machine c.in_ok-event.event c.store.new.all c.in_ok-to.to c.args.monitor.now c.in_ok-after.after
     c.in_ok-event.ensures.step c.in_ok-to.ensures.there c.in_ok-after.ensures
 
 pub returns-clause-new : goal.returns-clause-new
 returns-clause-new c =
-    adds_made c.args.table.now c.args.machine.now c.args.next c.client_step.new.machine c.in_ok-event.event c.args.at c.args.all.now c.store.new.all c.args.monitor.now c.in_ok-after.after
+    adds_made c.args.given.rounds c.args.given.table.now c.args.machine.now c.args.arrival c.client_step.new.machine c.in_ok-event.event c.args.all.now c.store.new.all c.args.monitor.now c.in_ok-after.after
     c.in_ok-event.ensures.step c.in_ok-after.ensures c.in_ok-to.ensures.only
 
 pub returns-clause-leads : goal.returns-clause-leads
 returns-clause-leads c =
-    moves_made c.args.machine.now c.args.next c.client_step.new.machine c.in_ok-event.event c.store.new.all c.in_ok-to.to c.in_ok-after.after c.in_ok-event.ensures.step c.in_ok-to.ensures.there
+    moves_made c.args.given.rounds c.args.machine.now c.args.arrival.by c.client_step.new.machine c.in_ok-event.event c.store.new.all c.in_ok-to.to c.in_ok-after.after c.in_ok-event.ensures.step c.in_ok-to.ensures.there

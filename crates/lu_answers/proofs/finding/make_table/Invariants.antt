@@ -7,7 +7,7 @@ invariant-loop-index l = record {
   component : l.machine.component ≡ l.component;
   matrix : l.machine.matrix ≡ l.matrix;
   few : l.index ≤ l.most;
-  filled : AreFilled l.component l.matrix l.bound l.initial.machine l.index l.stages.keys l.rows.items;
+  filled : AreFilled l.component l.rounds l.matrix l.bound l.initial.machine l.index l.stages.keys l.rows.items;
 }
 
 abbrev pub decreases-loop-index : goal.decreases-loop-index

@@ -6,5 +6,5 @@ abbrev pub invariant-loop-thread : goal.invariant-loop-thread
 invariant-loop-thread l = record {
   component : l.machine.component ≡ l.fn.machine.component;
   matrix : l.machine.matrix ≡ l.fn.machine.matrix;
-  row : IsRowBefore l.fn.machine.component l.fn.machine.matrix l.bound l.fn.stages.keys l.index l.stages.keys l.row l.thread;
+  row : IsRowBefore l.fn.machine.component l.rounds l.fn.machine.matrix l.bound l.fn.stages.keys l.index l.stages.keys l.row l.thread;
 }

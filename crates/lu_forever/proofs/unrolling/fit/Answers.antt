@@ -1,4 +1,4 @@
-use Rattle.std.proofs.Common.{◌≤◌, arith}
+use Rattle.std.proofs.Common.{arith}
 use Rattle.lu_forever.proofs.UnrolledRows.{total_few}
 use Rattle.lu_forever.proofs.unrolling.fit.Goals as goal
 

@@ -1,4 +1,4 @@
-use Rattle.std.proofs.Common.{◌≡◌, ◌∙◌, ◌++◌, List, ap}
+use Rattle.std.proofs.Common.{◌∙◌, ◌++◌, List, ap}
 use Rattle.lu_test.specs.declared.matrix.Call.{Call}
 use Rattle.lu_forever.proofs.UnrolledRows.{next_round}
 use Rattle.lu_forever.proofs.unrolling.rounds_of.Goals as goal

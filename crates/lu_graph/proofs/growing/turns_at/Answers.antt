@@ -1,6 +1,6 @@
 use Rattle.std.proofs.Common.{arith, sym, ◌∙◌, subst}
 use Rattle.lu_graph.specs.Growing.{TakeTurns}
-use Rattle.lu_graph.proofs.Turns.{none_more, turns_all, turns_one}
+use Rattle.lu_graph.proofs.TakenTurns.{none_more, turns_all, turns_one}
 use Rattle.lu_graph.proofs.growing.turns_at.Goals as goal
 
 pub returns-then-is_aside_at : goal.returns-then-is_aside_at

@@ -1,0 +1,10 @@
+pub mod Calls
+pub mod Ahead
+pub mod Resting
+pub mod Blocked
+pub mod Steps
+pub mod Told
+pub mod Begun
+pub mod Alone
+pub mod Judged
+pub mod Enough
