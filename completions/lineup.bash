@@ -14,13 +14,14 @@ _lineup() {
         --depth) options="$(seq 0 8)" ;;
         --local) options="$(seq 0 16)" ;;
         --nodes) options='8388608 16777216' ;;            # 1 to 4294967295
+        --rounds) options="$(seq 8)" ;;                   # 1 to 65535
         --threads | --calls) options="$(seq 8)" ;;
         --from | --upto) return ;;                        # numbers of matrices
         --install) compopt -o dirnames; return ;;
         *)
             case "${COMP_WORDS[1]}" in
                 check) options='--bound --serial --workers --depth --spec --marks' ;;
-                certify | test) options='--bound --serial --workers --depth --local --nodes --forever' ;;
+                certify | test) options='--bound --serial --workers --depth --local --nodes --rounds --forever' ;;
                 serial | shrink) options='--bound --serial' ;;
                 witness) options='--bound --serial --spec --marks' ;;
                 conform) options='--show' ;;

@@ -1,7 +1,7 @@
 -- How much stack a command takes.
 use Rattle.std.specs.Prelude.{ℕ, ◌+◌, ◌*◌, max}
 use Rattle.lu_cli.specs.declared.request.BundleCommand.{BundleCommand}
-use Rattle.lu_cli.specs.declared.request.BundleCommand.TheVariants.{Replay, Trace, Draw, DrawExplained, Explain, ExplainAgainst, Serial, Witness, WitnessAgainst, Conform, Spec, Check, CheckAgainst, Certify, CertifyForever, Refute, Shrink, Campaign, CampaignAgainst, Compile}
+use Rattle.lu_cli.specs.declared.request.BundleCommand.TheVariants.{Replay, Trace, Draw, DrawExplained, Explain, ExplainAgainst, Serial, Witness, WitnessAgainst, Conform, Spec, Check, CheckAgainst, Certify, CertifyUnrolled, Refute, Shrink, Campaign, CampaignAgainst, Compile}
 use Rattle.lu_cli.specs.declared.request.Request.{Request}
 use Rattle.lu_cli.specs.declared.request.Request.TheVariants.{Commands, Lint, Bundle, BundleWithSource}
 use Rattle.lu_report.specs.Limits.{most_moves}
@@ -28,7 +28,7 @@ stack_of_command Spec = stack_within 0 0
 stack_of_command (Check choice) = stack_within choice.bound choice.serial
 stack_of_command (CheckAgainst choice marks) = stack_within choice.bound 0
 stack_of_command (Certify asked) = stack_within most_moves asked.options.serial
-stack_of_command (CertifyForever asked) = stack_within most_moves asked.options.serial
+stack_of_command (CertifyUnrolled asked repetition) = stack_within most_moves asked.options.serial
 stack_of_command Refute = stack_within most_moves most_moves
 stack_of_command (Shrink limits) = stack_within limits.bound limits.serial
 stack_of_command (Campaign options) = stack_within most_moves options.bounds.serial

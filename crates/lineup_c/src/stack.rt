@@ -35,7 +35,7 @@ fn stack_of_command(command: &BundleCommand) -> usize
         }
         BundleCommand::Check(options) => stack_within(options.bound(), options.serial()),
         BundleCommand::CheckAgainst(options, _) => stack_within(options.bound(), 0),
-        BundleCommand::Certify(asked) | BundleCommand::CertifyForever(asked) => {
+        BundleCommand::Certify(asked) | BundleCommand::CertifyUnrolled(asked, _) => {
             stack_within(MOST_MOVES, asked.options.serial())
         }
         BundleCommand::Shrink(bounds) => stack_within(bounds.bound(), bounds.serial()),

@@ -61,7 +61,7 @@ use Rattle.lu_cli.specs.declared.request.LintRequest.{LintRequest}
 use Rattle.lu_cli.specs.declared.request.Request.{Request}
 use Rattle.lu_cli.specs.declared.request.Request.TheVariants.{Commands, Lint, Bundle, BundleWithSource}
 use Rattle.lu_cli.specs.declared.request.BundleCommand.{BundleCommand}
-use Rattle.lu_cli.specs.declared.request.BundleCommand.TheVariants.{Replay, Trace, Draw, DrawExplained, Explain, ExplainAgainst, Serial, Witness, WitnessAgainst, Conform, Spec, Check, CheckAgainst, Certify, CertifyForever, Refute, Shrink, Campaign as Campaigning, CampaignAgainst, Compile}
+use Rattle.lu_cli.specs.declared.request.BundleCommand.TheVariants.{Replay, Trace, Draw, DrawExplained, Explain, ExplainAgainst, Serial, Witness, WitnessAgainst, Conform, Spec, Check, CheckAgainst, Certify, CertifyUnrolled, Refute, Shrink, Campaign as Campaigning, CampaignAgainst, Compile}
 use Rattle.lu_trace.specs.declared.wording.Wording.{Wording}
 use Rattle.lu_source_text.specs.Begins.{is_source}
 use Rattle.lu_source_text.specs.declared.fault.SourceFaultKind.{SourceFaultKind}
@@ -102,9 +102,12 @@ use Rattle.lu_cli.specs.declared.failing.RunView.{RunView}
 use Rattle.lu_cli.specs.declared.failing.RunView.TheVariants as run
 use Rattle.lu_cli.specs.Campaign.{IsCheckedPart, IsAnswerToTrial, IsCheckedWhole, IsCampaignOfMatrix, IsCertifiedPart, IsCertifiedNumbers, IsCountAnswer, IsCheckedNumbers, IsListsAnswer, IsSurveyedNumbers, IsSurveyedPart, ShowsCertified, ToAlike, ToLists, asked_with, found_answer, survey_status}
 use Rattle.lu_cli.specs.Certify.{IsCertified}
-use Rattle.lu_cli.specs.Forever.{IsCertifiedForever, ShowsBySchedule, ShowsForever}
-use Rattle.lu_forever.specs.declared.certifying.Forever.{Forever}
-use Rattle.lu_forever.specs.declared.certifying.Forever.TheVariants as forever
+use Rattle.lu_cli.specs.Unrolled.{IsCertifiedUnrolled, ShowsBySchedule, ShowsVerdict}
+use Rattle.lu_cli.specs.declared.request.Repetition.{Repetition}
+use Rattle.lu_cli.specs.declared.request.Repetition.TheVariants.{Forever, UpTo}
+use Rattle.lu_client.specs.Rounds.{times}
+use Rattle.lu_forever.specs.declared.certifying.RoundsVerdict.{RoundsVerdict}
+use Rattle.lu_forever.specs.declared.certifying.RoundsVerdict.TheVariants as verdicts
 use Rattle.lu_cli.specs.Check.{IsCheckedAgainstText, IsAnswerToCheckAgainst, IsChecked, IsCheckedAgainst}
 use Rattle.lu_cli.specs.Commands.{IsAnswerToCommand}
 use Rattle.lu_cli.specs.CampaignAgainst.{IsAnswerToCampaignAgainst, IsComparedLists, IsComparedMatrix, IsComparedPart, IsComparedNumbers, ToTrusted, comparison_answer}
@@ -259,17 +262,22 @@ certified_else : (c : Component) (m : Matrix) (asked : CertifyOptions) (answer :
 certified_else c m asked answer (inl is) = shown_else c is.0 answer is.2
 certified_else c m asked answer (inr is) = text_else answer 75 (ap (byte_of 8) is.1) (λ e. omega arith)
 
-by_schedule_else : (c : Component) (m : Matrix) (asked : CertifyOptions) (words : List ℕ) (u : List Move) (answer : Answer) → ShowsBySchedule c m asked words u answer → IsElse answer
-by_schedule_else c m asked words u answer (inl is) = shown_else c is.certificate answer is.shown
-by_schedule_else c m asked words u answer (inr (inl is)) = status_else answer 1 (ap (λ (a : Answer). a.status) is) (λ e. omega arith)
-by_schedule_else c m asked words u answer (inr (inr is)) = status_else answer 1 (ap (λ (a : Answer). a.status) is) (λ e. omega arith)
+by_schedule_else : (c : Component) (m : Matrix) (asked : CertifyOptions) (repetition : Repetition) (words : List ℕ) (u : List Move) (answer : Answer) → ShowsBySchedule c m asked repetition words u answer → IsElse answer
+by_schedule_else c m asked repetition words u answer (inl is) = shown_else c is.certificate answer is.shown
+by_schedule_else c m asked repetition words u answer (inr (inl is)) = status_else answer 1 (ap (λ (a : Answer). a.status) is) (λ e. omega arith)
+by_schedule_else c m asked repetition words u answer (inr (inr is)) = status_else answer 1 (ap (λ (a : Answer). a.status) is) (λ e. omega arith)
 
-forever_else : (c : Component) (m : Matrix) (asked : CertifyOptions) (found : Forever) (answer : Answer) → ShowsForever c m asked found answer → IsElse answer
-forever_else c m asked forever.Linearizable answer is = status_else answer 0 (ap (λ (a : Answer). a.status) is) (λ e. omega arith)
-forever_else c m asked (forever.NotLinearizable moves) answer is = by_schedule_else c m asked (codes "not linearizable") moves.items answer is
-forever_else c m asked (forever.Livelock moves) answer is = by_schedule_else c m asked (codes "livelock") moves.items answer is
-forever_else c m asked forever.Offends answer is = status_else answer 3 (ap (λ (a : Answer). a.status) is) (λ e. omega arith)
-forever_else c m asked forever.Undecided answer is = status_else answer 3 (ap (λ (a : Answer). a.status) is) (λ e. omega arith)
+verdict_else : (c : Component) (m : Matrix) (asked : CertifyOptions) (repetition : Repetition) (found : RoundsVerdict) (answer : Answer) → ShowsVerdict c m asked repetition found answer → IsElse answer
+verdict_else c m asked repetition verdicts.Linearizable answer is = status_else answer 0 (ap (λ (a : Answer). a.status) is) (λ e. omega arith)
+verdict_else c m asked repetition (verdicts.NotLinearizable moves) answer is = by_schedule_else c m asked repetition (codes "not linearizable") moves.items answer is
+verdict_else c m asked repetition (verdicts.Livelock moves) answer is = by_schedule_else c m asked repetition (codes "livelock") moves.items answer is
+verdict_else c m asked repetition verdicts.Offends answer is = status_else answer 3 (ap (λ (a : Answer). a.status) is) (λ e. omega arith)
+verdict_else c m asked repetition verdicts.Undecided answer is = status_else answer 3 (ap (λ (a : Answer). a.status) is) (λ e. omega arith)
+
+unrolled_else : (c : Component) (m : Matrix) (asked : CertifyOptions) (repetition : Repetition) (answer : Answer) → IsCertifiedUnrolled c m asked repetition answer → IsElse answer
+unrolled_else c m asked Forever answer is = verdict_else c m asked Forever is.0 answer is.2
+unrolled_else c m asked (UpTo n) answer (inl is) = verdict_else c (times n m) asked (UpTo n) is.0 answer is.2
+unrolled_else c m asked (UpTo n) answer (inr is) = status_else answer 3 (ap (λ (a : Answer). a.status) is) (λ e. omega arith)
 
 value_else : {Kind A : Type 0} (code : Kind → List ℕ) (r : Result A (Fault Kind)) (IsAnswer : A → Answer → Type 0) (answer : Answer) → ((x : A) → IsAnswer x answer → IsElse answer) → ToValue code r IsAnswer answer → IsElse answer
 value_else code (Ok x) IsAnswer answer h is = h x is
@@ -649,7 +657,7 @@ command_else Spec parts answer is = collected_parts_else parts answer is
 command_else (Check choice) parts answer is = two_else parts (λ c m. IsChecked c m choice) answer (λ c m more. checked_else c m choice answer more) is
 command_else (CheckAgainst choice marks) parts answer is = spec_parts_else choice marks parts answer is
 command_else (Certify asked) parts answer is = two_else parts (λ c m. IsCertified c m asked) answer (λ c m more. certified_else c m asked answer more) is
-command_else (CertifyForever asked) parts answer is = two_else parts (λ c m. IsCertifiedForever c m asked) answer (λ c m more. forever_else c m asked more.0 answer more.2) is
+command_else (CertifyUnrolled asked repetition) parts answer is = two_else parts (λ c m a. IsCertifiedUnrolled c m asked repetition a) answer (λ c m more. unrolled_else c m asked repetition answer more) is
 command_else Refute parts answer is = four_else parts answer is
 command_else (Shrink limits) parts answer is = two_else parts (λ c m. ShowsShrunk c m limits) answer (λ c m more. shrink_else c m limits answer more) is
 command_else Compile parts answer is = compile_else parts answer is

@@ -20,12 +20,14 @@ use Rattle.lu_cli.specs.declared.request.CampaignThreads.TheVariants.{Alike, Own
 use Rattle.lu_cli.specs.declared.request.CampaignTrial.{CampaignTrial}
 use Rattle.lu_cli.specs.declared.request.CampaignTrial.TheVariants.{Checked, Certified, Surveyed}
 use Rattle.lu_cli.specs.declared.request.CertifyOptions.{CertifyOptions}
+use Rattle.lu_cli.specs.declared.request.Repetition.{Repetition}
+use Rattle.lu_cli.specs.declared.request.Repetition.TheVariants.{Forever, UpTo}
 use Rattle.lu_cli.specs.declared.request.Request.{Request}
 use Rattle.lu_cli.specs.declared.request.Showing.TheVariants as showing
 use Rattle.lu_cli.specs.declared.request.TraceStart.TheVariants.{FirstMove, Setup}
 use Rattle.lu_cli.specs.declared.request.Request.TheVariants.{Commands, Lint, Bundle, BundleWithSource}
 use Rattle.lu_cli.specs.declared.request.BundleCommand.{BundleCommand}
-use Rattle.lu_cli.specs.declared.request.BundleCommand.TheVariants.{Replay, Trace, Draw, DrawExplained, Explain, ExplainAgainst, Serial, Witness, WitnessAgainst, Conform, Spec, Check, CheckAgainst, Certify, CertifyForever, Refute, Shrink, Campaign, CampaignAgainst, Compile}
+use Rattle.lu_cli.specs.declared.request.BundleCommand.TheVariants.{Replay, Trace, Draw, DrawExplained, Explain, ExplainAgainst, Serial, Witness, WitnessAgainst, Conform, Spec, Check, CheckAgainst, Certify, CertifyUnrolled, Refute, Shrink, Campaign, CampaignAgainst, Compile}
 use Rattle.lu_cli.specs.declared.table.CommandRow.{CommandRow}
 use Rattle.lu_cli.specs.declared.table.Kind.{Kind}
 use Rattle.lu_cli.specs.declared.table.Kind.TheVariants.{Flag, Number, Long}
@@ -206,11 +208,17 @@ abbrev pub certify_options_in : List Row → Option CertifyOptions
 certify_options_in rows =
     certify_with (choice_in rows) (number_named (codes "local") rows) (nodes_in rows)
 
+-- how often threads make their lines, where that is asked
+abbrev pub repetition_in : List Row → Option Repetition
+repetition_in rows =
+    if flag_in (codes "forever") rows then Some Forever
+    else option_map UpTo (number_named (codes "rounds") rows)
+
 -- a certificate of a matrix, or of all matrices that are unrolled from it
 abbrev pub certify_in : List Row → Option BundleCommand
 certify_in rows =
     option_map
-    (λ asked. if flag_in (codes "forever") rows then CertifyForever asked else Certify asked)
+    (λ asked. option_map_or (CertifyUnrolled asked) (repetition_in rows) (Certify asked))
     (certify_options_in rows)
 
 -- a judgement by the serial runs, or one by a specification

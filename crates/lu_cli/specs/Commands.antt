@@ -8,7 +8,7 @@ use Rattle.lu_cli.specs.Conform.{IsAnswerToConform}
 use Rattle.lu_cli.specs.Outcomes.{Answer}
 use Rattle.lu_cli.specs.Campaign.{IsAnswerToCampaign}
 use Rattle.lu_cli.specs.Certify.{IsAnswerToCertify}
-use Rattle.lu_cli.specs.Forever.{IsAnswerToCertifyForever}
+use Rattle.lu_cli.specs.Unrolled.{IsAnswerToCertifyUnrolled}
 use Rattle.lu_cli.specs.Check.{IsAnswerToCheck, IsAnswerToCheckAgainst}
 use Rattle.lu_cli.specs.CampaignAgainst.{IsAnswerToCampaignAgainst}
 use Rattle.lu_cli.specs.Refute.{IsAnswerToRefute}
@@ -19,7 +19,7 @@ use Rattle.lu_cli.specs.Shrink.{IsAnswerToShrink}
 use Rattle.lu_cli.specs.Spec.{IsAnswerToSpec}
 use Rattle.lu_cli.specs.declared.explanation.Presentation.TheVariants.{Words, Picture}
 use Rattle.lu_cli.specs.declared.request.BundleCommand.{BundleCommand}
-use Rattle.lu_cli.specs.declared.request.BundleCommand.TheVariants.{Replay, Trace, Draw, DrawExplained, Explain, ExplainAgainst, Serial, Witness, WitnessAgainst, Conform, Spec, Check, CheckAgainst, Certify, CertifyForever, Refute, Shrink, Campaign as Campaigning, CampaignAgainst, Compile}
+use Rattle.lu_cli.specs.declared.request.BundleCommand.TheVariants.{Replay, Trace, Draw, DrawExplained, Explain, ExplainAgainst, Serial, Witness, WitnessAgainst, Conform, Spec, Check, CheckAgainst, Certify, CertifyUnrolled, Refute, Shrink, Campaign as Campaigning, CampaignAgainst, Compile}
 
 -- the answer to a command and the parts of the bundle
 abbrev pub IsAnswerToCommand : BundleCommand → List (List ℕ) → Answer → Type 0
@@ -38,7 +38,8 @@ IsAnswerToCommand (Check choice) parts = IsAnswerToCheck choice parts
 IsAnswerToCommand (CheckAgainst choice marks) parts =
     IsAnswerToCheckAgainst choice marks parts
 IsAnswerToCommand (Certify asked) parts = IsAnswerToCertify asked parts
-IsAnswerToCommand (CertifyForever asked) parts = IsAnswerToCertifyForever asked parts
+IsAnswerToCommand (CertifyUnrolled asked repetition) parts =
+    IsAnswerToCertifyUnrolled asked repetition parts
 IsAnswerToCommand Refute parts = IsAnswerToRefute parts
 IsAnswerToCommand (Shrink limits) parts = IsAnswerToShrink limits parts
 IsAnswerToCommand (Campaigning options) parts = IsAnswerToCampaign options parts

@@ -1,7 +1,7 @@
 pub mod Args
 pub mod Campaign
 pub mod Certify
-pub mod Forever
+pub mod Unrolled
 pub mod Check
 pub mod Commands
 pub mod CampaignAgainst

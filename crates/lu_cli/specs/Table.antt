@@ -110,7 +110,10 @@ options =
     (codes "minimum number of local instructions that run with a move")
     (codes "certify" ∷ [])
     ∷ number (codes "nodes") (codes "N") (Number 1 4294967295) (Some (codes "8388608"))
-    (codes "maximum number of nodes in the graph of a cut, or with --forever in all")
+    (codes "maximum number of nodes in the graph of a cut, or with --rounds or --forever in all")
+    (codes "certify" ∷ [])
+    ∷ number (codes "rounds") (codes "N") (Number 1 65535) None
+    (codes "each thread makes its line of calls up to N times")
     (codes "certify" ∷ [])
     ∷ flag (codes "forever") (codes "each thread makes its line of calls any number of times")
     (codes "certify" ∷ [])

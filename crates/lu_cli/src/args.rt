@@ -9,7 +9,7 @@ ghost use Rattle.lu_cli.specs.Table.{option_said};
 
 use crate::request::{
     ArgsFault, BundleCommand, CampaignOptions, CampaignPart, CampaignThreads, CampaignTrial,
-    CertifyOptions, LintRequest, Request, Showing, TraceStart,
+    CertifyOptions, LintRequest, Repetition, Request, Showing, TraceStart,
 };
 use crate::table::{CommandRow, Kind, OptionRow, commands, options};
 use clap::builder::ValueParser;
@@ -314,15 +314,24 @@ fn certify_options_in(given: &ArgMatches<'_>) -> Option<CertifyOptions>
     })
 }
 
+/// How often threads make their lines, where that is asked.
+fn repetition_in(given: &ArgMatches<'_>) -> Option<Repetition>
+    ensures { result ≡ spec.repetition_in (rows_of (found_of given.now)) }
+{
+    if flag_in(given, "forever") {
+        return Some(Repetition::Forever);
+    }
+    number_named(given, "rounds").map(Repetition::UpTo)
+}
+
 /// A certificate of a matrix, or of all matrices that are unrolled from it.
 fn certify_in(given: &ArgMatches<'_>) -> Option<BundleCommand>
     ensures { result ≡ spec.certify_in (rows_of (found_of given.now)) }
 {
     let asked = certify_options_in(given)?;
-    if flag_in(given, "forever") {
-        Some(BundleCommand::CertifyForever(asked))
-    } else {
-        Some(BundleCommand::Certify(asked))
+    match repetition_in(given) {
+        Some(repetition) => Some(BundleCommand::CertifyUnrolled(asked, repetition)),
+        None => Some(BundleCommand::Certify(asked)),
     }
 }
 

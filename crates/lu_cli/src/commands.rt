@@ -16,7 +16,6 @@ use crate::conform::answer_conform;
 use crate::explain::{answer_explain, answer_explain_against};
 use crate::explanation::Presentation;
 use crate::failing::RunView;
-use crate::forever::answer_certify_forever;
 use crate::refusal::Refusal;
 use crate::refute::answer_refute;
 use crate::replay::answer_replay;
@@ -25,6 +24,7 @@ use crate::serial::answer_serial;
 use crate::shown::answer_shown;
 use crate::shrink::answer_shrink;
 use crate::spec::answer_spec;
+use crate::unrolled::answer_certify_unrolled;
 use crate::witness::{answer_witness, answer_witness_against};
 use lu_certify::Progress;
 use std::alloc::Global;
@@ -59,7 +59,9 @@ pub(crate) fn carry_out_alone(
             answer_check_against_alone(alloc, options, marks, parts)
         },
         BundleCommand::Certify(asked) => answer_certify_alone(alloc, asked, parts),
-        BundleCommand::CertifyForever(asked) => answer_certify_forever(alloc, asked, parts),
+        BundleCommand::CertifyUnrolled(asked, repetition) => {
+            answer_certify_unrolled(alloc, asked, repetition, parts)
+        }
         BundleCommand::Refute => answer_refute(alloc, parts),
         BundleCommand::Shrink(bounds) => answer_shrink(alloc, bounds, parts),
         BundleCommand::Campaign(options) => answer_campaign(alloc, options, parts),

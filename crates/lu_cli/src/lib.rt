@@ -15,7 +15,6 @@ mod counted;
 mod explain;
 mod explanation;
 mod failing;
-mod forever;
 mod help;
 mod input;
 mod lint;
@@ -36,6 +35,7 @@ mod table;
 mod terminal;
 mod texts;
 mod trace;
+mod unrolled;
 mod witness;
 mod worded;
 
@@ -49,7 +49,7 @@ pub use lu_wording::hint_on;
 pub use program::{answer_alone, answer_request, run, run_with_progress};
 pub use request::{
     ArgsFault, BundleCommand, CampaignOptions, CampaignPart, CampaignThreads, CertifyOptions,
-    LintRequest, Request, Showing, TraceStart,
+    LintRequest, Repetition, Request, Showing, TraceStart,
 };
 pub use table::{CommandRow, Kind, OptionRow, commands as command_rows, options as option_rows};
 pub use terminal::Terminal;

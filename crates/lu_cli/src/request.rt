@@ -115,6 +115,17 @@ pub enum Request {
     BundleWithSource(BundleCommand),
 }
 
+/// How often each thread makes its line of calls, where one verdict covers all matrices that are
+/// unrolled so. It may stop anywhere.
+#[derive(Clone, Copy, Debug, PartialEq, Eq)]
+pub enum Repetition {
+    /// `--rounds N`: up to this many times.
+    UpTo(u16),
+
+    /// `--forever`: any number of times.
+    Forever,
+}
+
 /// A command over the parts of a bundle, with its options.
 #[derive(Clone, Copy, Debug, PartialEq, Eq)]
 pub enum BundleCommand {
@@ -165,9 +176,10 @@ pub enum BundleCommand {
     /// `lineup certify`: decide whether a component is linearizable on a matrix.
     Certify(CertifyOptions),
 
-    /// `lineup certify --forever`: decide whether a component is linearizable on all matrices that
-    /// are unrolled from one. Of the options, the bound on serial runs and the number of nodes count.
-    CertifyForever(CertifyOptions),
+    /// `lineup certify --rounds`, `lineup certify --forever`: decide whether a component is
+    /// linearizable on all matrices that are unrolled from one. Of the options, the bound on serial
+    /// runs and the number of nodes count.
+    CertifyUnrolled(CertifyOptions, Repetition),
 
     /// `lineup refute`: show where a component that fails does not meet a specification.
     Refute,

@@ -131,7 +131,7 @@ static COMMANDS: [CommandRow; 16] = [
     },
 ];
 
-static OPTIONS: [OptionRow; 28] = [
+static OPTIONS: [OptionRow; 29] = [
     OptionRow {
         name: "bound",
         letter: "N",
@@ -232,7 +232,18 @@ static OPTIONS: [OptionRow; 28] = [
             most: 4_294_967_295,
         },
         default: Some("8388608"),
-        words: "maximum number of nodes in the graph of a cut, or with --forever in all",
+        words: "maximum number of nodes in the graph of a cut, or with --rounds or --forever in all",
+        commands: &["certify"],
+    },
+    OptionRow {
+        name: "rounds",
+        letter: "N",
+        kind: Kind::Number {
+            least: 1,
+            most: 65535,
+        },
+        default: None,
+        words: "each thread makes its line of calls up to N times",
         commands: &["certify"],
     },
     OptionRow {
