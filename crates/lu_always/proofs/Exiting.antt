@@ -7,11 +7,12 @@ use Rattle.lu_component.specs.Component.{Component}
 use Rattle.lu_test.specs.declared.schedule.Move.{Move}
 use Rattle.lu_test.specs.Matrix.{Matrix}
 use Rattle.lu_machine.specs.declared.event.Event.{Event}
-use Rattle.lu_machine.specs.Positions.{at_position}
 use Rattle.lu_machine.specs.Starts.{IsStart}
 use Rattle.lu_machine.specs.States.{State}
 use Rattle.lu_machine.specs.Steps.{IsFeasible, picks_of}
+use Rattle.lu_machine.proofs.Starting.{start_component}
 use Rattle.lu_machine.proofs.StepLaws.{step_feasible}
+use Rattle.lu_horizon.specs.Dead.{DeadTable, IsDeadTable}
 use Rattle.lu_history.proofs.Events.{at_push, kept_at, last_at}
 use Rattle.lu_serial.specs.Serial.{HasOpen}
 use Rattle.lu_client.specs.Clients.{AllBlocked, ClientStep, client_matrix}
@@ -19,7 +20,11 @@ use Rattle.lu_client.specs.Livelock.{MayEnd, OpenLeads}
 use Rattle.lu_client.specs.Stages.{IsIn}
 use Rattle.lu_client.proofs.Clients.{moves_in_order}
 use Rattle.lu_client.proofs.OneCalls.{within_some}
+use Rattle.lu_tree.specs.Alike.{AreAlike}
+use Rattle.lu_tree.proofs.Alike.{alike_itself}
+use Rattle.lu_tree.proofs.AlikeRuns.{alike_back}
 use Rattle.lu_always.specs.declared.stored.StoredNode.{StoredNode}
+use Rattle.lu_always.specs.Clearing.{IsCleared}
 use Rattle.lu_always.specs.Exits.{AreExits, MovesTo}
 use Rattle.lu_always.specs.Searching.{AreExitsOfFirst, AreSearched, Grows, HoldsOf, IsLivelockIfAny, IsNodeAt, node_at, node_of}
 use Rattle.lu_always.specs.Livelocks.{HasLivelockBy, NeverLivelocks}
@@ -31,42 +36,41 @@ use Rattle.lu_answers.specs.Tables.{Rows, table_of}
 use Rattle.lu_answers.specs.Ways.{limit_of, way_of}
 use Rattle.lu_answers.proofs.Lines.{same_matrix}
 use Rattle.lu_always.specs.Ways.{IsWayToLivelock}
-use Rattle.lu_always.proofs.Decided.{none_dead}
-use Rattle.lu_always.proofs.Endings.{lost_node_livelocks, nodes_never_livelock}
-use Rattle.lu_always.proofs.Keeping.{IsBelow, base_at, from, moved_base, nodes, old_at, way_there}
-use Rattle.lu_always.proofs.Likeness.{in_order_once}
+use Rattle.lu_always.proofs.Endings.{lost_node_livelocks, may_end_alike, nodes_never_livelock, step_component}
+use Rattle.lu_always.proofs.Keeping.{IsBelow, from, nodes, old_at, stored_alike, way_there}
+use Rattle.lu_always.proofs.Likeness.{alike_on, alike_open, blocked_alike, client_alike, in_order_once}
 use Rattle.lu_always.proofs.Marked.{nothing_in}
+use Rattle.lu_always.proofs.Stood.{open_same}
 
 -- ---- one move
 
 pub client_feasible : (rounds : Rounds) (s : State) (m : Move) (b : State) (event : Option Event) → ClientStep (way_of rounds) s m b event → IsFeasible s m
 client_feasible rounds s m b event step = let it = (moves_in_order (limit_of rounds) s m b event).0 step in step_feasible s m it.0 event it.1
 
--- the node that is stored where the move leads
-pub moves_made : (rounds : Rounds) (s : State) (m : Move) (b : State) (event : Option Event) (all : List StoredNode) (index : ℕ) (monitor : _) → ClientStep (way_of rounds) s m b event → IsNodeAt all index (node_at b monitor) → MovesTo rounds all s m index
-moves_made rounds s m b event all index monitor step is =
-    let here : at_position s is.0.position ≡ b = sym (base_at s b is.0.position (moved_base rounds s m b event step)) ∙ is.2.0 in
-    (is.0, event, is.1, subst (λ x. ClientStep (way_of rounds) s m x event) (sym here) step)
+-- the node that is stored for the state to which the move leads
+pub moves_made : (dead : DeadTable) (rounds : Rounds) (s : State) (m : Move) (b : State) (event : Option Event) (cleared : State) (all : List StoredNode) (index : ℕ) (monitor : _) → ClientStep (way_of rounds) s m b event → IsCleared dead b cleared → IsNodeAt all index (node_at cleared monitor) → MovesTo dead rounds all s m index
+moves_made dead rounds s m b event cleared all index monitor step clear is =
+    (is.0, b, event, is.1, step, stored_alike dead rounds s m b event cleared is.0.position step clear is.2.0)
 
-pub moves_more : (rounds : Rounds) (base : State) (old new : List StoredNode) → Grows base old new → (s : State) (m : Move) (index : ℕ) → MovesTo rounds old s m index → MovesTo rounds new s m index
-moves_more rounds base old new grows s m index (to, event, at, step) =
-    (to, event, ap (λ (x : List StoredNode). slice_get x index) grows.parts ∙ kept_at old grows.more to index at, step)
+pub moves_more : (dead : DeadTable) (rounds : Rounds) (base : State) (old new : List StoredNode) → Grows base old new → (s : State) (m : Move) (index : ℕ) → MovesTo dead rounds old s m index → MovesTo dead rounds new s m index
+moves_more dead rounds base old new grows s m index (to, b, event, at, step, alike) =
+    (to, b, event, ap (λ (x : List StoredNode). slice_get x index) grows.parts ∙ kept_at old grows.more to index at, step, alike)
 
-pub exits_more : (rounds : Rounds) (base : State) (old new : List StoredNode) → Grows base old new → (exits : List ℕ) (s : State) → AreExits rounds old exits s → AreExits rounds new exits s
-exits_more rounds base old new grows exits s are = record {
-  moves = λ index is. (let it = are.moves index is in (it.0, it.1, moves_more rounds base old new grows s it.0 index it.2));
-  each = λ m busy can. (let it = are.each m busy can in (it.0, it.1, moves_more rounds base old new grows s m it.0 it.2));
+pub exits_more : (dead : DeadTable) (rounds : Rounds) (base : State) (old new : List StoredNode) → Grows base old new → (exits : List ℕ) (s : State) → AreExits dead rounds old exits s → AreExits dead rounds new exits s
+exits_more dead rounds base old new grows exits s are = record {
+  moves = λ index is. (let it = are.moves index is in (it.0, it.1, moves_more dead rounds base old new grows s it.0 index it.2));
+  each = λ m busy can. (let it = are.each m busy can in (it.0, it.1, moves_more dead rounds base old new grows s m it.0 it.2));
 }
 
 -- ---- all moves
 
 -- the exits by moves of threads before this one, and of this thread by picks before this one
-pub record AreExitsBelow (rounds : Rounds) (s : State) (all : List StoredNode) (exits : List ℕ) (t p : ℕ) : Type 0 where
-  pub moves : (index : ℕ) → IsIn exits index → (m : Move) × HasOpen s m.thread × MovesTo rounds all s m index
-  pub each : (m : Move) → IsBelow t p m → HasOpen s m.thread → IsFeasible s m → (index : ℕ) × IsIn exits index × MovesTo rounds all s m index
+pub record AreExitsBelow (dead : DeadTable) (rounds : Rounds) (s : State) (all : List StoredNode) (exits : List ℕ) (t p : ℕ) : Type 0 where
+  pub moves : (index : ℕ) → IsIn exits index → (m : Move) × HasOpen s m.thread × MovesTo dead rounds all s m index
+  pub each : (m : Move) → IsBelow t p m → HasOpen s m.thread → IsFeasible s m → (index : ℕ) × IsIn exits index × MovesTo dead rounds all s m index
 
-module _ (rounds : Rounds) (s : State) where
-  pub below_none : (all : List StoredNode) → AreExitsBelow rounds s all [] 0 0
+module _ (dead : DeadTable) (rounds : Rounds) (s : State) where
+  pub below_none : (all : List StoredNode) → AreExitsBelow dead rounds s all [] 0 0
   below_none all = record {
     moves = λ index is. absurd (nothing_in is.0 index is.1);
     each = λ m below busy can. elim below [ inl lt ↦ absurd (omega (arith, lt)) | inr at ↦ (let lt = at.1 in absurd (omega (arith, lt))) ];
@@ -85,42 +89,42 @@ module _ (rounds : Rounds) (s : State) where
             ])
       ]
 
-  pub below_open : (all new : List StoredNode) (exits : List ℕ) (t p index : ℕ) → Grows s all new → HasOpen s t → MovesTo rounds new s (record { thread = t; pick = p }) index → AreExitsBelow rounds s all exits t p → AreExitsBelow rounds s new (exits ++ index ∷ []) t (p + 1)
+  pub below_open : (all new : List StoredNode) (exits : List ℕ) (t p index : ℕ) → Grows s all new → HasOpen s t → MovesTo dead rounds new s (record { thread = t; pick = p }) index → AreExitsBelow dead rounds s all exits t p → AreExitsBelow dead rounds s new (exits ++ index ∷ []) t (p + 1)
   below_open all new exits t p index grows busy leads are =
       let one : Move = record { thread = t; pick = p } in
       record {
         moves = λ i is.
-            elim (at_push exits index i is.0 is.1) as (λ _. (m : Move) × HasOpen s m.thread × MovesTo rounds new s m i) [
-              | inl before ↦ (let it = are.moves i (is.0, before.1) in (it.0, it.1, moves_more rounds s all new grows s it.0 i it.2))
-              | inr last ↦ (one, busy, subst (MovesTo rounds new s one) (sym last.1) leads)
+            elim (at_push exits index i is.0 is.1) as (λ _. (m : Move) × HasOpen s m.thread × MovesTo dead rounds new s m i) [
+              | inl before ↦ (let it = are.moves i (is.0, before.1) in (it.0, it.1, moves_more dead rounds s all new grows s it.0 i it.2))
+              | inr last ↦ (one, busy, subst (MovesTo dead rounds new s one) (sym last.1) leads)
             ];
         each = λ m below busy can.
-            elim (below_next t p m below) as (λ _. (i : ℕ) × IsIn (exits ++ index ∷ []) i × MovesTo rounds new s m i) [
+            elim (below_next t p m below) as (λ _. (i : ℕ) × IsIn (exits ++ index ∷ []) i × MovesTo dead rounds new s m i) [
               | inl before ↦
                   (let it = are.each m before busy can in
-                  (it.0, (it.1.0, kept_at exits (index ∷ []) it.0 it.1.0 it.1.1), moves_more rounds s all new grows s m it.0 it.2))
+                  (it.0, (it.1.0, kept_at exits (index ∷ []) it.0 it.1.0 it.1.1), moves_more dead rounds s all new grows s m it.0 it.2))
               | inr here ↦
                   (let same : m ≡ one = ap (λ (x : ℕ). let y : Move = record { thread = x; pick = m.pick } in y) here.0 ∙ ap (λ (x : ℕ). let y : Move = record { thread = t; pick = x } in y) here.1 in
-                  (index, (length exits, last_at exits [] index), subst (λ x. MovesTo rounds new s x index) (sym same) leads))
+                  (index, (length exits, last_at exits [] index), subst (λ x. MovesTo dead rounds new s x index) (sym same) leads))
             ];
       }
 
-  pub below_idle : (all new : List StoredNode) (exits : List ℕ) (t p : ℕ) → Grows s all new → (HasOpen s t → ⊥) → AreExitsBelow rounds s all exits t p → AreExitsBelow rounds s new exits t (p + 1)
+  pub below_idle : (all new : List StoredNode) (exits : List ℕ) (t p : ℕ) → Grows s all new → (HasOpen s t → ⊥) → AreExitsBelow dead rounds s all exits t p → AreExitsBelow dead rounds s new exits t (p + 1)
   below_idle all new exits t p grows idle are = record {
-    moves = λ i is. (let it = are.moves i is in (it.0, it.1, moves_more rounds s all new grows s it.0 i it.2));
+    moves = λ i is. (let it = are.moves i is in (it.0, it.1, moves_more dead rounds s all new grows s it.0 i it.2));
     each = λ m below busy can.
-        elim (below_next t p m below) as (λ _. (i : ℕ) × IsIn exits i × MovesTo rounds new s m i) [
-          | inl before ↦ (let it = are.each m before busy can in (it.0, it.1, moves_more rounds s all new grows s m it.0 it.2))
+        elim (below_next t p m below) as (λ _. (i : ℕ) × IsIn exits i × MovesTo dead rounds new s m i) [
+          | inl before ↦ (let it = are.each m before busy can in (it.0, it.1, moves_more dead rounds s all new grows s m it.0 it.2))
           | inr here ↦ absurd (idle (subst (HasOpen s) here.0 busy))
         ];
   }
 
-  pub below_turn : (all : List StoredNode) (exits : List ℕ) (t p : ℕ) → picks_of s t ≤ p → AreExitsBelow rounds s all exits t p → AreExitsBelow rounds s all exits (t + 1) 0
+  pub below_turn : (all : List StoredNode) (exits : List ℕ) (t p : ℕ) → picks_of s t ≤ p → AreExitsBelow dead rounds s all exits t p → AreExitsBelow dead rounds s all exits (t + 1) 0
   below_turn all exits t p over are = record {
     moves = are.moves;
     each = λ m below busy can.
-        elim below as (λ _. (i : ℕ) × IsIn exits i × MovesTo rounds all s m i) [
-          | inl lt ↦ elim (cases_lt m.thread t) as (λ _. (i : ℕ) × IsIn exits i × MovesTo rounds all s m i) [
+        elim below as (λ _. (i : ℕ) × IsIn exits i × MovesTo dead rounds all s m i) [
+          | inl lt ↦ elim (cases_lt m.thread t) as (λ _. (i : ℕ) × IsIn exits i × MovesTo dead rounds all s m i) [
             | inl less ↦ are.each m (inl less) busy can
             | inr past ↦
                 (let same : m.thread ≡ t = omega (arith, lt, past) in
@@ -131,7 +135,7 @@ module _ (rounds : Rounds) (s : State) where
         ];
   }
 
-  pub below_all : (all : List StoredNode) (exits : List ℕ) (t p : ℕ) → length s.threads ≤ t → AreExitsBelow rounds s all exits t p → AreExits rounds all exits s
+  pub below_all : (all : List StoredNode) (exits : List ℕ) (t p : ℕ) → length s.threads ≤ t → AreExitsBelow dead rounds s all exits t p → AreExits dead rounds all exits s
   below_all all exits t p past are = record {
     moves = are.moves;
     each = λ m busy can.
@@ -141,25 +145,25 @@ module _ (rounds : Rounds) (s : State) where
 
 -- ---- node after node
 
-pub exits_none : (rounds : Rounds) (s : State) (all : List StoredNode) (exits : Graph) → exits ≡ [] → AreExitsOfFirst rounds s all exits
-exits_none rounds s all exits none i its at = absurd (nothing_in i its (ap (λ (x : Graph). slice_get x i) (sym none) ∙ at))
+pub exits_none : (dead : DeadTable) (rounds : Rounds) (s : State) (all : List StoredNode) (exits : Graph) → exits ≡ [] → AreExitsOfFirst dead rounds s all exits
+exits_none dead rounds s all exits none i its at = absurd (nothing_in i its (ap (λ (x : Graph). slice_get x i) (sym none) ∙ at))
 
-pub exits_next : (rounds : Rounds) (s : State) (old new : List StoredNode) (exits more : Graph) (its : Vec ℕ) → more ≡ exits ++ its ∷ [] → length exits < length old → Grows s old new → AreExitsOfFirst rounds s old exits → HoldsOf s old (length exits) (λ node. AreExits rounds new its.items node.state) → AreExitsOfFirst rounds s new more
-exits_next rounds s old new exits more its is within grows are here i some at kept stored =
-    elim (at_push exits its some i (ap (λ (x : Graph). slice_get x i) (sym is) ∙ at)) as (λ _. AreExits rounds new some.items (node_of s kept).state) [
+pub exits_next : (dead : DeadTable) (rounds : Rounds) (s : State) (old new : List StoredNode) (exits more : Graph) (its : Vec ℕ) → more ≡ exits ++ its ∷ [] → length exits < length old → Grows s old new → AreExitsOfFirst dead rounds s old exits → HoldsOf s old (length exits) (λ node. AreExits dead rounds new its.items node.state) → AreExitsOfFirst dead rounds s new more
+exits_next dead rounds s old new exits more its is within grows are here i some at kept stored =
+    elim (at_push exits its some i (ap (λ (x : Graph). slice_get x i) (sym is) ∙ at)) as (λ _. AreExits dead rounds new some.items (node_of s kept).state) [
       | inl before ↦
           (let lt = before.0 in
           let old_kept = old_at old grows.more i kept (omega (arith, lt, within)) (sym (ap (λ (x : List StoredNode). slice_get x i) grows.parts) ∙ stored) in
-          exits_more rounds s old new grows some.items (node_of s kept).state (are i some before.1 kept old_kept))
+          exits_more dead rounds s old new grows some.items (node_of s kept).state (are i some before.1 kept old_kept))
       | inr last ↦
           (let same = last.0 in
           let old_kept = old_at old grows.more i kept (omega (arith, same, within)) (sym (ap (λ (x : List StoredNode). slice_get x i) grows.parts) ∙ stored) in
-          subst (λ (x : Vec ℕ). AreExits rounds new x.items (node_of s kept).state) (sym last.1) (here kept (ap (slice_get old) (sym same) ∙ old_kept)))
+          subst (λ (x : Vec ℕ). AreExits dead rounds new x.items (node_of s kept).state) (sym last.1) (here kept (ap (slice_get old) (sym same) ∙ old_kept)))
     ]
 
 -- ---- where exits lead
 
-module _ (rounds : Rounds) (s : State) (all : List StoredNode) (exits : Graph) (are : AreExitsOfFirst rounds s all exits) where
+module _ (c : Component) (dead : DeadTable) (sound : IsDeadTable c dead) (rounds : Rounds) (s : State) (is_of : s.component ≡ c) (all : List StoredNode) (exits : Graph) (are : AreExitsOfFirst dead rounds s all exits) where
   -- where there is no exit, all open operations are blocked
   none_blocked : (i : ℕ) (kept : StoredNode) → slice_get all i ≡ Some kept → IsSink exits i → AllBlocked (node_of s kept).state
   none_blocked i kept at (its, here, none) t busy = by (picks_of (node_of s kept).state t) refl
@@ -180,7 +184,7 @@ module _ (rounds : Rounds) (s : State) (all : List StoredNode) (exits : Graph) (
       by [] is = is
       by (x ∷ xs) is =
           let it = (are i its here kept at).moves x (0, ap (λ (ys : List ℕ). slice_get ys 0) is) in
-          let can = client_feasible rounds (node_of s kept).state it.0 _ it.2.1 it.2.3 in
+          let can = client_feasible rounds (node_of s kept).state it.0 it.2.1 it.2.2 it.2.4 in
           let none = blocked it.0.thread it.1 in
           absurd (omega (arith, can, none))
 
@@ -188,56 +192,65 @@ module _ (rounds : Rounds) (s : State) (all : List StoredNode) (exits : Graph) (
   path_ends : (path : List ℕ) (i k : ℕ) (kept : StoredNode) → slice_get all i ≡ Some kept → PathLeads exits i path k → IsSink exits k → MayEnd (way_of rounds) (node_of s kept).state
   path_ends [] i k kept at leads sink = ([], (node_of s kept).state, refl, none_blocked i kept at (subst (IsSink exits) leads sink))
   path_ends (j ∷ path) i k kept at ((its, here, is), leads) sink =
-      let (m, busy, (to, event, there, step)) = (are i its here kept at).moves j is in
-      let rest = path_ends path j k to there leads sink in
-      (m ∷ rest.0, rest.1, ((node_of s to).state, event, busy, step, rest.2), rest.3)
+      let (m, busy, (to, b, event, there, step, alike)) = (are i its here kept at).moves j is in
+      let rest = may_end_alike c (way_of rounds) dead sound (node_of s to).state b is_of (alike_back dead b (node_of s to).state alike) (path_ends path j k to there leads sink) in
+      (m ∷ rest.0, rest.1, (b, event, busy, step, rest.2), rest.3)
 
   module _ (many : length exits ≡ length all) where
     row : (i : ℕ) (kept : StoredNode) → slice_get all i ≡ Some kept → (its : Vec ℕ) × (slice_get exits i ≡ Some its)
     row i kept at = let lt = slice_get_within all i kept at in within_some exits i (omega (arith, lt, many))
 
-    -- and the end of open operations is such a path
-    ends_path : (u : List Move) (i : ℕ) (kept : StoredNode) (end : State) → slice_get all i ≡ Some kept → OpenLeads (way_of rounds) (node_of s kept).state u end → AllBlocked end → ReachesSink exits i
-    ends_path [] i kept end at is blocked =
+    -- and the end of open operations, from a state that the node represents, is such a path
+    ends_path : (u : List Move) (i : ℕ) (kept : StoredNode) (r end : State) → slice_get all i ≡ Some kept → r.component ≡ c → AreAlike dead r (node_of s kept).state → OpenLeads (way_of rounds) r u end → AllBlocked end → ReachesSink exits i
+    ends_path [] i kept r end at of alike is blocked =
         let here = row i kept at in
-        ([], i, refl, (here.0, here.1, blocked_none i kept at here.0 here.1 (subst AllBlocked is blocked)))
-    ends_path (m ∷ u) i kept end at (next, event, busy, step, rest) blocked =
+        let known : IsDeadTable r.component dead = subst (λ x. IsDeadTable x dead) (sym of) sound in
+        ([], i, refl, (here.0, here.1, blocked_none i kept at here.0 here.1 (blocked_alike dead (way_of rounds) r (node_of s kept).state known alike (subst AllBlocked is blocked))))
+    ends_path (m ∷ u) i kept r end at of alike (next, event, busy, step, rest) blocked =
+        let node : State = (node_of s kept).state in
         let here = row i kept at in
-        let can = client_feasible rounds (node_of s kept).state m next event step in
-        let it = (are i here.0 here.1 kept at).each m busy can in
+        let known : IsDeadTable r.component dead = subst (λ x. IsDeadTable x dead) (sym of) sound in
+        let also = client_alike dead (way_of rounds) r node known alike m next event step in
+        let busy_there = open_same r node (λ t. sym (alike_open dead r node alike t)) m.thread busy in
+        let it = (are i here.0 here.1 kept at).each m busy_there (client_feasible rounds node m also.0 event also.1) in
         let to = it.2.0 in
-        let same = (in_order_once (limit_of rounds) (node_of s kept).state m next (node_of s to).state event it.2.1 step it.2.3).0 in
-        let on = ends_path u it.0 to end it.2.2 (subst (λ x. OpenLeads (way_of rounds) x u end) same rest) blocked in
+        let same = (in_order_once (limit_of rounds) node m also.0 it.2.1 event it.2.2 also.1 it.2.4).0 in
+        let there = alike_on dead next it.2.1 (node_of s to).state (subst (AreAlike dead next) same also.2) it.2.5 in
+        let on = ends_path u it.0 to next end it.2.3 (step_component c (way_of rounds) r m next event of step) there rest blocked in
         (it.0 ∷ on.0, on.1, ((here.0, here.1, it.1), on.2), on.3)
 
     pub sink_may_end : (i : ℕ) (kept : StoredNode) → slice_get all i ≡ Some kept → ReachesSink exits i → MayEnd (way_of rounds) (node_of s kept).state
     sink_may_end i kept at (path, k, leads, sink) = path_ends path i k kept at leads sink
 
     pub may_end_sink : (i : ℕ) (kept : StoredNode) → slice_get all i ≡ Some kept → MayEnd (way_of rounds) (node_of s kept).state → ReachesSink exits i
-    may_end_sink i kept at (u, end, path, blocked) = ends_path u i kept end at path blocked
+    may_end_sink i kept at (u, end, path, blocked) =
+        ends_path u i kept (node_of s kept).state end at is_of (alike_itself dead (node_of s kept).state) path blocked
 
 -- ---- where all were searched
 
-module _ (c : Component) (rounds : Rounds) (matrix : Matrix) (rows : Rows) (first_monitor : List Shown) (s : State) (is : IsStart c matrix s) (place : ℕ) (all : List StoredNode) (past : length all ≤ place) (are : AreSearched rounds rows first_monitor s place all) (exits : Graph) (many : length exits ≡ length all) (each : AreExitsOfFirst rounds s all exits) where
+module _ (c : Component) (dead : DeadTable) (sound : IsDeadTable c dead) (rounds : Rounds) (matrix : Matrix) (rows : Rows) (first_monitor : List Shown) (s : State) (is : IsStart c matrix s) (place : ℕ) (all : List StoredNode) (past : length all ≤ place) (are : AreSearched dead rounds rows first_monitor s place all) (exits : Graph) (many : length exits ≡ length all) (each : AreExitsOfFirst dead rounds s all exits) where
   is_client : IsStart c (client_matrix (way_of rounds) matrix) s
   is_client = subst (λ (m : Matrix). IsStart c m s) (sym (same_matrix rounds matrix)) is
 
+  is_of : s.component ≡ c
+  is_of = start_component c matrix s is
+
   pub shows_never : IsFirstWithoutSink exits None → NeverLivelocks c matrix (way_of rounds)
   shows_never all_reach =
-      nodes_never_livelock c (way_of rounds) matrix s [] (table_of [] rows) (map (node_of s) all) is_client (none_dead c) (nodes rounds rows first_monitor s place all past are)
+      nodes_never_livelock c (way_of rounds) matrix s dead (table_of [] rows) (map (node_of s) all) is_client sound (nodes dead rounds rows first_monitor s place all past are)
       (λ node among.
       (let f = from s all node among in
       let lt = slice_get_within all f.i f.kept f.at in
       subst (λ (x : Node). MayEnd (way_of rounds) x.state) f.is_node
-      (sink_may_end rounds s all exits each many f.i f.kept f.at (all_reach f.i (omega (arith, lt, many))))))
+      (sink_may_end c dead sound rounds s is_of all exits each many f.i f.kept f.at (all_reach f.i (omega (arith, lt, many))))))
 
   pub shows_livelock : (moves : Vec Move) → IsWayToLivelock all exits (Some moves) → HasLivelockBy c matrix (way_of rounds) moves.items
   shows_livelock moves (index, first, to) =
       let lt = first.0 in
       let kept = within_some all index (omega (arith, lt, many)) in
-      let way = way_there rounds rows first_monitor s all are.arrivals index moves.items to kept.0 kept.1 in
-      lost_node_livelocks c (way_of rounds) matrix s [] (table_of [] rows) way.first moves.items (node_of s kept.0) is_client (none_dead c) way.state way.lead
-      (λ may. first.1 (may_end_sink rounds s all exits each many index kept.0 kept.1 may))
+      let way = way_there dead rounds rows first_monitor s all are.arrivals index moves.items to kept.0 kept.1 in
+      lost_node_livelocks c (way_of rounds) matrix s dead (table_of [] rows) way.first moves.items (node_of s kept.0) is_client sound way.state way.lead
+      (λ may. first.1 (may_end_sink c dead sound rounds s is_of all exits each many index kept.0 kept.1 may))
 
   pub shows_if_any : (found : Option (Vec Move)) → IsWayToLivelock all exits found → IsLivelockIfAny c rounds matrix found
   shows_if_any None none = shows_never none

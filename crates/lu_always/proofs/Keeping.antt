@@ -14,6 +14,7 @@ use Rattle.lu_machine.specs.Steps.{picks_of}
 use Rattle.lu_machine.proofs.Keeping.{step_moved}
 use Rattle.lu_machine.proofs.Positions.{HaveSame, position_eq, same_position}
 use Rattle.lu_machine.proofs.StepLaws.{step_feasible}
+use Rattle.lu_horizon.specs.Dead.{DeadTable}
 use Rattle.lu_history.proofs.Events.{at_push, kept_at}
 use Rattle.lu_linearization.specs.declared.configuration.Configuration.{Configuration as Shown}
 use Rattle.lu_tree.specs.Alike.{AreAlike}
@@ -24,6 +25,7 @@ use Rattle.lu_client.specs.Stages.{IsIn, Stage}
 use Rattle.lu_client.proofs.OneCalls.{within_some}
 use Rattle.lu_always.specs.declared.stored.Arrival.{Arrival}
 use Rattle.lu_always.specs.declared.stored.StoredNode.{StoredNode}
+use Rattle.lu_always.specs.Clearing.{IsCleared}
 use Rattle.lu_always.specs.Searching.{AddsAt, AddsBy, AddsFrom, AddsOnly, AllCanStand, AreArrivals, AreSearched, ComesFrom, Grows, HasAllNext, HasNext, HoldsOf, IsArrival, IsNodeAt, IsStoredFor, Leads, arrived, moves_of, node_at, node_of}
 use Rattle.lu_always.specs.Ways.{AreBack, HasParentsBefore, IsWayTo, all_moves, arrival_at}
 use Rattle.lu_always.specs.Livelocks.{AreAllNodes}
@@ -31,6 +33,7 @@ use Rattle.lu_always.specs.Nodes.{IsAfterMove, IsMove, MovesLead, Node, Represen
 use Rattle.lu_answers.specs.declared.rounds.Rounds.{Rounds}
 use Rattle.lu_answers.specs.Tables.{Rows, Table, table_of}
 use Rattle.lu_answers.specs.Ways.{limit_of, way_of}
+use Rattle.lu_always.proofs.Cleared.{cleared_alike}
 use Rattle.lu_always.proofs.Likeness.{in_order_once}
 
 stands_same : (s : State) (p q : Position) → HaveSame p q → at_position s p ≡ at_position s q
@@ -71,8 +74,8 @@ longer s old new grows index within =
     let parts : length new ≡ length old + length grows.more = ap (λ (x : List StoredNode). length x) grows.parts ∙ length-append old grows.more in
     omega (arith, parts, within)
 
-pub next_more : (rounds : Rounds) (rows : Rows) (s : State) (old new : List StoredNode) → Grows s old new → (node : Node) (m : Move) → HasNext rounds rows old node m → HasNext rounds rows new node m
-next_more rounds rows s old new grows node m next b event step = let x = next b event step in (x.0, in_more s old new grows x.0 x.1, x.2, x.3)
+pub next_more : (dead : DeadTable) (rounds : Rounds) (rows : Rows) (s : State) (old new : List StoredNode) → Grows s old new → (node : Node) (m : Move) → HasNext dead rounds rows old node m → HasNext dead rounds rows new node m
+next_more dead rounds rows s old new grows node m next b event step = let x = next b event step in (x.0, in_more s old new grows x.0 x.1, x.2, x.3)
 
 -- ---- one move
 
@@ -110,32 +113,42 @@ base_grows a b old new same grows = record {
 pub home_again : (a b new : State) (home : Position) → SameBase a b → at_position a home ≡ a → new ≡ at_position b home → new ≡ a
 home_again a b new home same here is = is ∙ (base_at a b home same ∙ here)
 
-pub next_made : (rounds : Rounds) (rows : Rows) (a : State) (m : Move) (b : State) (event : Option Event) (all : List StoredNode) (j : ℕ) (monitor after : List Shown) → ClientStep (way_of rounds) a m b event → IsNodeAt all j (node_at b after) → IsAfterMove (table_of [] rows) b event monitor after → HasNext rounds rows all (node_at a monitor) m
-next_made rounds rows a m b event all j monitor after made keeps is other others step =
+-- the state whose dead registers are cleared after the move
+pub cleared_base : (dead : DeadTable) (rounds : Rounds) (a : State) (m : Move) (b : State) (event : Option Event) (cleared : State) → ClientStep (way_of rounds) a m b event → IsCleared dead b cleared → SameBase a cleared
+cleared_base dead rounds a m b event cleared step is =
+    let moved = moved_base rounds a m b event step in
+    let alike = cleared_alike dead b cleared is in
+    record { component = alike.component ∙ moved.component; matrix_is = alike.matrix_is ∙ moved.matrix_is }
+
+-- what is stored of it represents the state after the move
+pub stored_alike : (dead : DeadTable) (rounds : Rounds) (a : State) (m : Move) (b : State) (event : Option Event) (cleared : State) (p : Position) → ClientStep (way_of rounds) a m b event → IsCleared dead b cleared → at_position cleared p ≡ cleared → AreAlike dead b (at_position a p)
+stored_alike dead rounds a m b event cleared p step is here =
+    subst (AreAlike dead b) (sym here ∙ base_at a cleared p (cleared_base dead rounds a m b event cleared step is)) (cleared_alike dead b cleared is)
+
+pub next_made : (dead : DeadTable) (rounds : Rounds) (rows : Rows) (a : State) (m : Move) (b : State) (event : Option Event) (cleared : State) (all : List StoredNode) (j : ℕ) (monitor after : List Shown) → ClientStep (way_of rounds) a m b event → IsCleared dead b cleared → IsNodeAt all j (node_at cleared after) → IsAfterMove (table_of [] rows) b event monitor after → HasNext dead rounds rows all (node_at a monitor) m
+next_made dead rounds rows a m b event cleared all j monitor after made clear keeps is other others step =
     let same = in_order_once (limit_of rounds) a m b other event others made step in
-    let one : b ≡ other = same.0 in
     let now : IsAfterMove (table_of [] rows) b event monitor keeps.0.monitor = subst (λ x. IsAfterMove (table_of [] rows) b event monitor x) (sym keeps.2.1) is in (
       keeps.0,
       (j, keeps.1),
-      sym (base_at a b keeps.0.position (moved_base rounds a m b event made)) ∙ (keeps.2.0 ∙ one),
-      subst (λ e. IsAfterMove (table_of [] rows) other e monitor keeps.0.monitor) same.1 (subst (λ x. IsAfterMove (table_of [] rows) x event monitor keeps.0.monitor) one now),
+      subst (λ x. AreAlike dead x (at_position a keeps.0.position)) same.0 (stored_alike dead rounds a m b event cleared keeps.0.position made clear keeps.2.0),
+      subst (λ e. IsAfterMove (table_of [] rows) other e monitor keeps.0.monitor) same.1 (subst (λ x. IsAfterMove (table_of [] rows) x event monitor keeps.0.monitor) same.0 now),
     )
 
--- each new node is the one to which the move of the arrival leads
-pub adds_made : (rounds : Rounds) (rows : Rows) (a : State) (one : Arrival) (b : State) (event : Option Event) (old new : List StoredNode) (monitor after : List Shown) → ClientStep (way_of rounds) a one.by b event → IsAfterMove (table_of [] rows) b event monitor after → AddsOnly b after (Some one) old new → AddsBy rounds rows a monitor one old new
-adds_made rounds rows a one b event old new monitor after step is only kept at =
-    elim (only kept at) as (λ _. IsIn old kept ⊎ ((kept.arrival ≡ Some one) × Leads rounds rows (node_at a monitor) (one.by ∷ []) (node_of a kept))) [
+-- each new node is one to which the move of the arrival leads
+pub adds_made : (dead : DeadTable) (rounds : Rounds) (rows : Rows) (a : State) (one : Arrival) (b : State) (event : Option Event) (cleared : State) (old new : List StoredNode) (monitor after : List Shown) → ClientStep (way_of rounds) a one.by b event → IsCleared dead b cleared → IsAfterMove (table_of [] rows) b event monitor after → AddsOnly cleared after (Some one) old new → AddsBy dead rounds rows a monitor one old new
+adds_made dead rounds rows a one b event cleared old new monitor after step clear is only kept at =
+    elim (only kept at) as (λ _. IsIn old kept ⊎ ((kept.arrival ≡ Some one) × Leads dead rounds rows (node_at a monitor) (one.by ∷ []) (node_of a kept))) [
       | inl before ↦ inl before
       | inr mine ↦
-          (let here : at_position a kept.position ≡ b = sym (base_at a b kept.position (moved_base rounds a one.by b event step)) ∙ mine.0.0 in
-          let move : IsMove [] (table_of [] rows) (way_of rounds) (node_at a monitor) one.by event (node_of a kept) = (b, step, subst (AreAlike [] b) (sym here) (alike_itself [] b), subst (λ x. IsAfterMove (table_of [] rows) b event monitor x) (sym mine.0.1) is) in
+          (let move : IsMove dead (table_of [] rows) (way_of rounds) (node_at a monitor) one.by event (node_of a kept) = (b, step, stored_alike dead rounds a one.by b event cleared kept.position step clear mine.0.0, subst (λ x. IsAfterMove (table_of [] rows) b event monitor x) (sym mine.0.1) is) in
           inr (mine.1, (node_of a kept, event, move, refl)))
     ]
 
 -- a move alone
-pub adds_one : (rounds : Rounds) (rows : Rows) (a : State) (monitor : List Shown) (index : ℕ) (m : Move) (old new : List StoredNode) → AddsBy rounds rows a monitor (arrived index m) old new → AddsFrom rounds rows a index (node_at a monitor) old new
-adds_one rounds rows a monitor index m old new adds kept at =
-    elim (adds kept at) as (λ _. IsIn old kept ⊎ ComesFrom rounds rows a index (node_at a monitor) kept) [
+pub adds_one : (dead : DeadTable) (rounds : Rounds) (rows : Rows) (a : State) (monitor : List Shown) (index : ℕ) (m : Move) (old new : List StoredNode) → AddsBy dead rounds rows a monitor (arrived index m) old new → AddsFrom dead rounds rows a index (node_at a monitor) old new
+adds_one dead rounds rows a monitor index m old new adds kept at =
+    elim (adds kept at) as (λ _. IsIn old kept ⊎ ComesFrom dead rounds rows a index (node_at a monitor) kept) [
       | inl before ↦ inl before
       | inr mine ↦ inr (arrived index m, mine.0, refl, mine.1)
     ]
@@ -153,58 +166,58 @@ only_one For all new one is for kept at =
 abbrev pub IsBelow : ℕ → ℕ → Move → Type 0
 IsBelow t p m = (m.thread < t) ⊎ ((m.thread ≡ t) × (m.pick < p))
 
-pub record SoFar (rounds : Rounds) (rows : Rows) (s : State) (monitor : List Shown) (index : ℕ) (old : List StoredNode) (machine : State) (all : List StoredNode) (t p : ℕ) : Type 0 where
+pub record SoFar (dead : DeadTable) (rounds : Rounds) (rows : Rows) (s : State) (monitor : List Shown) (index : ℕ) (old : List StoredNode) (machine : State) (all : List StoredNode) (t p : ℕ) : Type 0 where
   pub machine_is : machine ≡ s
   pub grows : Grows s old all
-  pub below : (m : Move) → IsBelow t p m → HasNext rounds rows all (node_at s monitor) m
-  pub adds : AddsFrom rounds rows s index (node_at s monitor) old all
+  pub below : (m : Move) → IsBelow t p m → HasNext dead rounds rows all (node_at s monitor) m
+  pub adds : AddsFrom dead rounds rows s index (node_at s monitor) old all
 
-module _ (rounds : Rounds) (rows : Rows) (s : State) (monitor : List Shown) (index : ℕ) (old : List StoredNode) where
-  pub far_none : SoFar rounds rows s monitor index old s old 0 0
+module _ (dead : DeadTable) (rounds : Rounds) (rows : Rows) (s : State) (monitor : List Shown) (index : ℕ) (old : List StoredNode) where
+  pub far_none : SoFar dead rounds rows s monitor index old s old 0 0
   far_none = record { machine_is = refl; grows = grows_none s old; below = λ m below. elim below [ inl lt ↦ absurd (omega (arith, lt)) | inr at ↦ (let lt = at.1 in absurd (omega (arith, lt))) ]; adds = λ kept at. inl at }
 
-  pub far_more : (machine next : State) (all new : List StoredNode) (t p : ℕ) → SoFar rounds rows s monitor index old machine all t p → next ≡ machine → Grows machine all new → HasNext rounds rows new (node_at machine monitor) (record { thread = t; pick = p }) → AddsFrom rounds rows machine index (node_at machine monitor) all new → SoFar rounds rows s monitor index old next new t (p + 1)
+  pub far_more : (machine next : State) (all new : List StoredNode) (t p : ℕ) → SoFar dead rounds rows s monitor index old machine all t p → next ≡ machine → Grows machine all new → HasNext dead rounds rows new (node_at machine monitor) (record { thread = t; pick = p }) → AddsFrom dead rounds rows machine index (node_at machine monitor) all new → SoFar dead rounds rows s monitor index old next new t (p + 1)
   far_more machine next all new t p far home grows keeps adds =
       let more : Grows s all new = subst (λ x. Grows x all new) far.machine_is grows in
-      let here : HasNext rounds rows new (node_at s monitor) (record { thread = t; pick = p }) = subst (λ x. HasNext rounds rows new (node_at x monitor) (record { thread = t; pick = p })) far.machine_is keeps in
+      let here : HasNext dead rounds rows new (node_at s monitor) (record { thread = t; pick = p }) = subst (λ x. HasNext dead rounds rows new (node_at x monitor) (record { thread = t; pick = p })) far.machine_is keeps in
       record {
         machine_is = home ∙ far.machine_is;
         grows = grows_on s old all new far.grows more;
         below = λ m below.
-            elim below as (λ _. HasNext rounds rows new (node_at s monitor) m) [
-              | inl lt ↦ next_more rounds rows s all new more (node_at s monitor) m (far.below m (inl lt))
-              | inr at ↦ elim (cases_lt m.pick p) as (λ _. HasNext rounds rows new (node_at s monitor) m) [
-                | inl less ↦ next_more rounds rows s all new more (node_at s monitor) m (far.below m (inr (at.0, less)))
+            elim below as (λ _. HasNext dead rounds rows new (node_at s monitor) m) [
+              | inl lt ↦ next_more dead rounds rows s all new more (node_at s monitor) m (far.below m (inl lt))
+              | inr at ↦ elim (cases_lt m.pick p) as (λ _. HasNext dead rounds rows new (node_at s monitor) m) [
+                | inl less ↦ next_more dead rounds rows s all new more (node_at s monitor) m (far.below m (inr (at.0, less)))
                 | inr past ↦
                     (let lt = at.1 in
                     let pick : m.pick ≡ p = omega (arith, lt, past) in
                     let one : Move = record { thread = t; pick = p } in
                     let same : m ≡ one = ap (λ (x : ℕ). let y : Move = record { thread = x; pick = m.pick } in y) at.0 ∙ ap (λ (x : ℕ). let y : Move = record { thread = t; pick = x } in y) pick in
-                    subst (HasNext rounds rows new (node_at s monitor)) (sym same) here)
+                    subst (HasNext dead rounds rows new (node_at s monitor)) (sym same) here)
               ]
             ];
         adds = λ kept at.
-            elim (subst (λ x. AddsFrom rounds rows x index (node_at x monitor) all new) far.machine_is adds kept at) as (λ _. IsIn old kept ⊎ ComesFrom rounds rows s index (node_at s monitor) kept) [
+            elim (subst (λ x. AddsFrom dead rounds rows x index (node_at x monitor) all new) far.machine_is adds kept at) as (λ _. IsIn old kept ⊎ ComesFrom dead rounds rows s index (node_at s monitor) kept) [
               | inl before ↦ far.adds kept before
               | inr mine ↦ inr mine
             ];
       }
 
-  never : (all : List StoredNode) (m : Move) → picks_of s m.thread ≤ m.pick → HasNext rounds rows all (node_at s monitor) m
+  never : (all : List StoredNode) (m : Move) → picks_of s m.thread ≤ m.pick → HasNext dead rounds rows all (node_at s monitor) m
   never all m past b event step = let it = (moves_in_order (limit_of rounds) s m b event).0 step in let lt = step_feasible s m it.0 event it.1 in absurd (omega (arith, lt, past))
 
-  pub far_turn : (machine : State) (all : List StoredNode) (t p : ℕ) → picks_of s t ≤ p → SoFar rounds rows s monitor index old machine all t p → SoFar rounds rows s monitor index old machine all (t + 1) 0
+  pub far_turn : (machine : State) (all : List StoredNode) (t p : ℕ) → picks_of s t ≤ p → SoFar dead rounds rows s monitor index old machine all t p → SoFar dead rounds rows s monitor index old machine all (t + 1) 0
   far_turn machine all t p over far =
       record {
         machine_is = far.machine_is;
         grows = far.grows;
         below = λ m below.
-            elim below as (λ _. HasNext rounds rows all (node_at s monitor) m) [
-              | inl lt ↦ elim (cases_lt m.thread t) as (λ _. HasNext rounds rows all (node_at s monitor) m) [
+            elim below as (λ _. HasNext dead rounds rows all (node_at s monitor) m) [
+              | inl lt ↦ elim (cases_lt m.thread t) as (λ _. HasNext dead rounds rows all (node_at s monitor) m) [
                 | inl less ↦ far.below m (inl less)
                 | inr same ↦
                     (let here : m.thread ≡ t = omega (arith, lt, same) in
-                    elim (cases_lt m.pick p) as (λ _. HasNext rounds rows all (node_at s monitor) m) [
+                    elim (cases_lt m.pick p) as (λ _. HasNext dead rounds rows all (node_at s monitor) m) [
                       | inl less ↦ far.below m (inr (here, less))
                       | inr more ↦ never all m (let few : picks_of s m.thread ≤ p = subst (λ x. picks_of s x ≤ p) (sym here) over in omega (arith, few, more))
                     ])
@@ -217,18 +230,14 @@ module _ (rounds : Rounds) (rows : Rows) (s : State) (monitor : List Shown) (ind
   picks_past : (t : ℕ) → length s.threads ≤ t → picks_of s t ≡ 0
   picks_past t past = rw (slice_get_past s.threads t past) refl
 
-  pub far_all : (machine : State) (all : List StoredNode) (t p : ℕ) → length s.threads ≤ t → SoFar rounds rows s monitor index old machine all t p → HasAllNext rounds rows all (node_at s monitor)
+  pub far_all : (machine : State) (all : List StoredNode) (t p : ℕ) → length s.threads ≤ t → SoFar dead rounds rows s monitor index old machine all t p → HasAllNext dead rounds rows all (node_at s monitor)
   far_all machine all t p past far m =
-      elim (cases_lt m.thread t) as (λ _. HasNext rounds rows all (node_at s monitor) m) [
+      elim (cases_lt m.thread t) as (λ _. HasNext dead rounds rows all (node_at s monitor) m) [
         | inl less ↦ far.below m (inl less)
         | inr over ↦ never all m (let zero_picks = picks_past m.thread (omega (arith, past, over)) in omega (arith, zero_picks))
       ]
 
 -- ---- node after node
-
-pub moves_on : (rounds : Rounds) (table : Table) (u : List Move) (first node next : Node) (m : Move) (event : Option Event) → MovesLead [] table (way_of rounds) first u node → IsMove [] table (way_of rounds) node m event next → MovesLead [] table (way_of rounds) first (u ++ m ∷ []) next
-moves_on rounds table [] first node next m event path move = (next, event, subst (λ (x : Node). IsMove [] table (way_of rounds) x m event next) path move, refl)
-moves_on rounds table (o ∷ u) first node next m event path move = (path.0, path.1, path.2, moves_on rounds table u path.0 node next m event path.3 move)
 
 pub base_node : (s machine : State) (kept : StoredNode) → SameBase s machine → node_of machine kept ≡ node_of s kept
 base_node s machine kept same = ap (λ (x : State). node_at x kept.monitor) (base_at s machine kept.position same)
@@ -241,17 +250,17 @@ here_node machine new items xs ys number d e kept monitor first second same is a
     ap (λ x. node_at x monitor) (is ∙ ap (λ (x : StoredNode). at_position machine x.position) other)
     ∙ ap (λ m. node_at (at_position machine kept.position) m) (same ∙ ap (λ (x : StoredNode). x.monitor) mine)
 
-pub adds_here : (rounds : Rounds) (rows : Rows) (machine new : State) (index : ℕ) (node here : Node) (old all : List StoredNode) → SameBase machine new → node ≡ here → AddsFrom rounds rows new index node old all → AddsFrom rounds rows machine index here old all
-adds_here rounds rows machine new index node here old all same is adds kept at =
-    elim (adds kept at) as (λ _. IsIn old kept ⊎ ComesFrom rounds rows machine index here kept) [
+pub adds_here : (dead : DeadTable) (rounds : Rounds) (rows : Rows) (machine new : State) (index : ℕ) (node here : Node) (old all : List StoredNode) → SameBase machine new → node ≡ here → AddsFrom dead rounds rows new index node old all → AddsFrom dead rounds rows machine index here old all
+adds_here dead rounds rows machine new index node here old all same is adds kept at =
+    elim (adds kept at) as (λ _. IsIn old kept ⊎ ComesFrom dead rounds rows machine index here kept) [
       | inl before ↦ inl before
       | inr (a, by, from, leads) ↦
           inr (
             a,
             by,
             from,
-            subst (λ (x : Node). Leads rounds rows x (moves_of a) (node_of machine kept)) is
-                (subst (λ (x : Node). Leads rounds rows node (moves_of a) x) (base_node machine new kept same) leads),
+            subst (λ (x : Node). Leads dead rounds rows x (moves_of a) (node_of machine kept)) is
+                (subst (λ (x : Node). Leads dead rounds rows node (moves_of a) x) (base_node machine new kept same) leads),
           )
     ]
 
@@ -265,26 +274,26 @@ old_at all more i kept lt at =
 -- ---- arrivals
 
 -- an arrival stays one as the list grows, for any later index too
-arrival_more : (rounds : Rounds) (rows : Rows) (first_monitor : List Shown) (s : State) (all new : List StoredNode) → Grows s all new → (kept : StoredNode) (i j : ℕ) → i ≤ j → (a : Option Arrival) → IsArrival rounds rows first_monitor s all i kept a → IsArrival rounds rows first_monitor s new j kept a
-arrival_more rounds rows first_monitor s all new grows kept i j le None is = is
-arrival_more rounds rows first_monitor s all new grows kept i j le (Some a) (before, parent, at, leads) =
+arrival_more : (dead : DeadTable) (rounds : Rounds) (rows : Rows) (first_monitor : List Shown) (s : State) (all new : List StoredNode) → Grows s all new → (kept : StoredNode) (i j : ℕ) → i ≤ j → (a : Option Arrival) → IsArrival dead rounds rows first_monitor s all i kept a → IsArrival dead rounds rows first_monitor s new j kept a
+arrival_more dead rounds rows first_monitor s all new grows kept i j le None is = is
+arrival_more dead rounds rows first_monitor s all new grows kept i j le (Some a) (before, parent, at, leads) =
     (omega (arith, before, le), parent, ap (λ (x : List StoredNode). slice_get x a.parent) grows.parts ∙ kept_at all grows.more parent a.parent at, leads)
 
-pub arrivals_more : (rounds : Rounds) (rows : Rows) (first_monitor : List Shown) (s : State) (n : ℕ) (all new : List StoredNode) → n < length all → AreArrivals rounds rows first_monitor s all → Grows s all new → AddsAt rounds rows s n all new → AreArrivals rounds rows first_monitor s new
-arrivals_more rounds rows first_monitor s n all new within are grows adds i kept at =
+pub arrivals_more : (dead : DeadTable) (rounds : Rounds) (rows : Rows) (first_monitor : List Shown) (s : State) (n : ℕ) (all new : List StoredNode) → n < length all → AreArrivals dead rounds rows first_monitor s all → Grows s all new → AddsAt dead rounds rows s n all new → AreArrivals dead rounds rows first_monitor s new
+arrivals_more dead rounds rows first_monitor s n all new within are grows adds i kept at =
     let here = within_some all n within in
-    elim (cases_lt i (length all)) as (λ _. IsArrival rounds rows first_monitor s new i kept kept.arrival) [
+    elim (cases_lt i (length all)) as (λ _. IsArrival dead rounds rows first_monitor s new i kept kept.arrival) [
       | inl less ↦
           (let old = old_at all grows.more i kept less (sym (ap (λ (x : List StoredNode). slice_get x i) grows.parts) ∙ at) in
-          arrival_more rounds rows first_monitor s all new grows kept i i (omega arith) kept.arrival (are i kept old))
-      | inr past ↦ elim (adds here.0 here.1 kept (i, at)) as (λ _. IsArrival rounds rows first_monitor s new i kept kept.arrival) [
+          arrival_more dead rounds rows first_monitor s all new grows kept i i (omega arith) kept.arrival (are i kept old))
+      | inr past ↦ elim (adds here.0 here.1 kept (i, at)) as (λ _. IsArrival dead rounds rows first_monitor s new i kept kept.arrival) [
         | inl before ↦
             (let lt = slice_get_within all before.0 kept before.1 in
-            arrival_more rounds rows first_monitor s all new grows kept before.0 i (omega (arith, lt, past)) kept.arrival (are before.0 kept before.1))
+            arrival_more dead rounds rows first_monitor s all new grows kept before.0 i (omega (arith, lt, past)) kept.arrival (are before.0 kept before.1))
         | inr (a, by, from, leads) ↦
             (let there : slice_get new n ≡ Some here.0 = ap (λ (x : List StoredNode). slice_get x n) grows.parts ∙ kept_at all grows.more here.0 n here.1 in
-            let so : IsArrival rounds rows first_monitor s new i kept (Some a) = (omega (arith, within, past, from), here.0, subst (λ x. slice_get new x ≡ Some here.0) (sym from) there, leads) in
-            subst (IsArrival rounds rows first_monitor s new i kept) (sym by) so)
+            let so : IsArrival dead rounds rows first_monitor s new i kept (Some a) = (omega (arith, within, past, from), here.0, subst (λ x. slice_get new x ≡ Some here.0) (sym from) there, leads) in
+            subst (IsArrival dead rounds rows first_monitor s new i kept) (sym by) so)
       ]
     ]
 
@@ -299,45 +308,45 @@ arrival_there list i a is = by (slice_get list i) refl is
     by None at h = absurd cc
     by (Some kept) at h = (kept, at, h)
 
-pub parents_before : (rounds : Rounds) (rows : Rows) (first_monitor : List Shown) (s : State) (all : List StoredNode) → AreArrivals rounds rows first_monitor s all → HasParentsBefore all
-parents_before rounds rows first_monitor s all are i a is =
+pub parents_before : (dead : DeadTable) (rounds : Rounds) (rows : Rows) (first_monitor : List Shown) (s : State) (all : List StoredNode) → AreArrivals dead rounds rows first_monitor s all → HasParentsBefore all
+parents_before dead rounds rows first_monitor s all are i a is =
     let there = arrival_there all i a is in
-    (subst (IsArrival rounds rows first_monitor s all i there.0) there.2 (are i there.0 there.1)).0
+    (subst (IsArrival dead rounds rows first_monitor s all i there.0) there.2 (are i there.0 there.1)).0
 
 -- moves after moves
-leads_on : (rounds : Rounds) (table : Table) (u v : List Move) (a b c : Node) → MovesLead [] table (way_of rounds) a u b → MovesLead [] table (way_of rounds) b v c → MovesLead [] table (way_of rounds) a (u ++ v) c
-leads_on rounds table [] v a b c first second = subst (λ (x : Node). MovesLead [] table (way_of rounds) x v c) first second
-leads_on rounds table (m ∷ u) v a b c (next, event, move, rest) second = (next, event, move, leads_on rounds table u v next b c rest second)
+leads_on : (dead : DeadTable) (rounds : Rounds) (table : Table) (u v : List Move) (a b c : Node) → MovesLead dead table (way_of rounds) a u b → MovesLead dead table (way_of rounds) b v c → MovesLead dead table (way_of rounds) a (u ++ v) c
+leads_on dead rounds table [] v a b c first second = subst (λ (x : Node). MovesLead dead table (way_of rounds) x v c) first second
+leads_on dead rounds table (m ∷ u) v a b c (next, event, move, rest) second = (next, event, move, leads_on dead rounds table u v next b c rest second)
 
 -- where moves from the first node lead
-pub record WayFrom (rounds : Rounds) (rows : Rows) (first_monitor : List Shown) (s : State) (u : List Move) (node : Node) : Type 0 where
+pub record WayFrom (dead : DeadTable) (rounds : Rounds) (rows : Rows) (first_monitor : List Shown) (s : State) (u : List Move) (node : Node) : Type 0 where
   pub first : Node
-  pub state : Represents [] first s
+  pub state : Represents dead first s
   pub monitor : first.monitor ≡ first_monitor
-  pub lead : Leads rounds rows first u node
+  pub lead : Leads dead rounds rows first u node
 
-way_leads : (rounds : Rounds) (rows : Rows) (first_monitor : List Shown) (s : State) (all : List StoredNode) → AreArrivals rounds rows first_monitor s all → (back : List Arrival) (i : ℕ) → AreBack all i back → (kept : StoredNode) → slice_get all i ≡ Some kept → WayFrom rounds rows first_monitor s (all_moves back) (node_of s kept)
-way_leads rounds rows first_monitor s all are [] i way kept at =
-    let is : IsStoredFor (node_at s first_monitor) kept = subst (IsArrival rounds rows first_monitor s all i kept) (sym (arrival_is all i kept at) ∙ way.1) (are i kept at) in
+way_leads : (dead : DeadTable) (rounds : Rounds) (rows : Rows) (first_monitor : List Shown) (s : State) (all : List StoredNode) → AreArrivals dead rounds rows first_monitor s all → (back : List Arrival) (i : ℕ) → AreBack all i back → (kept : StoredNode) → slice_get all i ≡ Some kept → WayFrom dead rounds rows first_monitor s (all_moves back) (node_of s kept)
+way_leads dead rounds rows first_monitor s all are [] i way kept at =
+    let is : IsStoredFor (node_at s first_monitor) kept = subst (IsArrival dead rounds rows first_monitor s all i kept) (sym (arrival_is all i kept at) ∙ way.1) (are i kept at) in
     record {
       first = node_of s kept;
-      state = subst (AreAlike [] s) (sym is.0) (alike_itself [] s);
+      state = subst (AreAlike dead s) (sym is.0) (alike_itself dead s);
       monitor = is.1;
       lead = refl;
     }
-way_leads rounds rows first_monitor s all are (a ∷ back) i (here, way) kept at =
-    let is : IsArrival rounds rows first_monitor s all i kept (Some a) = subst (IsArrival rounds rows first_monitor s all i kept) (sym (arrival_is all i kept at) ∙ here) (are i kept at) in
-    let before = way_leads rounds rows first_monitor s all are back a.parent way is.1 is.2 in
+way_leads dead rounds rows first_monitor s all are (a ∷ back) i (here, way) kept at =
+    let is : IsArrival dead rounds rows first_monitor s all i kept (Some a) = subst (IsArrival dead rounds rows first_monitor s all i kept) (sym (arrival_is all i kept at) ∙ here) (are i kept at) in
+    let before = way_leads dead rounds rows first_monitor s all are back a.parent way is.1 is.2 in
     record {
       first = before.first;
       state = before.state;
       monitor = before.monitor;
-      lead = leads_on rounds (table_of [] rows) (all_moves back) (moves_of a) before.first (node_of s is.1) (node_of s kept) before.lead is.3;
+      lead = leads_on dead rounds (table_of [] rows) (all_moves back) (moves_of a) before.first (node_of s is.1) (node_of s kept) before.lead is.3;
     }
 
-pub way_there : (rounds : Rounds) (rows : Rows) (first_monitor : List Shown) (s : State) (all : List StoredNode) → AreArrivals rounds rows first_monitor s all → (i : ℕ) (u : List Move) → IsWayTo all i u → (kept : StoredNode) → slice_get all i ≡ Some kept → WayFrom rounds rows first_monitor s u (node_of s kept)
-way_there rounds rows first_monitor s all are i u (back, way, is) kept at =
-    subst (λ v. WayFrom rounds rows first_monitor s v (node_of s kept)) (sym is) (way_leads rounds rows first_monitor s all are back i way kept at)
+pub way_there : (dead : DeadTable) (rounds : Rounds) (rows : Rows) (first_monitor : List Shown) (s : State) (all : List StoredNode) → AreArrivals dead rounds rows first_monitor s all → (i : ℕ) (u : List Move) → IsWayTo all i u → (kept : StoredNode) → slice_get all i ≡ Some kept → WayFrom dead rounds rows first_monitor s u (node_of s kept)
+way_there dead rounds rows first_monitor s all are i u (back, way, is) kept at =
+    subst (λ v. WayFrom dead rounds rows first_monitor s v (node_of s kept)) (sym is) (way_leads dead rounds rows first_monitor s all are back i way kept at)
 
 -- what holds of the nodes before an index, as the list grows, where it holds of the next one too
 pub first_more : (s : State) (n : ℕ) (all new : List StoredNode) (Holds : List StoredNode → Node → Type 0) → n < length all → Grows s all new → ((node : Node) → Holds all node → Holds new node) → ((i : ℕ) → i < n → HoldsOf s all i (Holds all)) → HoldsOf s all n (Holds new) → (i : ℕ) → i < n + 1 → HoldsOf s new i (Holds new)
@@ -348,24 +357,24 @@ first_more s n all new Holds within grows stays before here i lt kept at =
       | inr past ↦ (let same : i ≡ n = omega (arith, lt, past) in here kept (ap (slice_get all) (sym same) ∙ old))
     ]
 
-pub searched_next : (rounds : Rounds) (rows : Rows) (first_monitor : List Shown) (s : State) (n : ℕ) (all new : List StoredNode) → n < length all → AreSearched rounds rows first_monitor s n all → Grows s all new → HoldsOf s all n (HasAllNext rounds rows new) → AddsAt rounds rows s n all new → AreSearched rounds rows first_monitor s (n + 1) new
-searched_next rounds rows first_monitor s n all new within are grows visited adds = record {
+pub searched_next : (dead : DeadTable) (rounds : Rounds) (rows : Rows) (first_monitor : List Shown) (s : State) (n : ℕ) (all new : List StoredNode) → n < length all → AreSearched dead rounds rows first_monitor s n all → Grows s all new → HoldsOf s all n (HasAllNext dead rounds rows new) → AddsAt dead rounds rows s n all new → AreSearched dead rounds rows first_monitor s (n + 1) new
+searched_next dead rounds rows first_monitor s n all new within are grows visited adds = record {
   starts = (are.starts.0, in_more s all new grows are.starts.0 are.starts.1, are.starts.2);
-  arrivals = arrivals_more rounds rows first_monitor s n all new within are.arrivals grows adds;
+  arrivals = arrivals_more dead rounds rows first_monitor s n all new within are.arrivals grows adds;
   stand = grows.stand are.stand;
-  closed = first_more s n all new (λ list node. HasAllNext rounds rows list node) within grows (λ node has m. next_more rounds rows s all new grows node m (has m)) are.closed visited;
+  closed = first_more s n all new (λ list node. HasAllNext dead rounds rows list node) within grows (λ node has m. next_more dead rounds rows s all new grows node m (has m)) are.closed visited;
 }
 
 -- the first node alone
-pub first_arrivals : (rounds : Rounds) (rows : Rows) (first_monitor : List Shown) (s : State) (all : List StoredNode) → ((kept : StoredNode) → IsIn all kept → IsStoredFor (node_at s first_monitor) kept × (kept.arrival ≡ None)) → AreArrivals rounds rows first_monitor s all
-first_arrivals rounds rows first_monitor s all only i kept at =
+pub first_arrivals : (dead : DeadTable) (rounds : Rounds) (rows : Rows) (first_monitor : List Shown) (s : State) (all : List StoredNode) → ((kept : StoredNode) → IsIn all kept → IsStoredFor (node_at s first_monitor) kept × (kept.arrival ≡ None)) → AreArrivals dead rounds rows first_monitor s all
+first_arrivals dead rounds rows first_monitor s all only i kept at =
     let mine = only kept (i, at) in
-    subst (IsArrival rounds rows first_monitor s all i kept) (sym mine.1) mine.0
+    subst (IsArrival dead rounds rows first_monitor s all i kept) (sym mine.1) mine.0
 
-pub searched_none : (rounds : Rounds) (rows : Rows) (first_monitor : List Shown) (s : State) (all : List StoredNode) (j : ℕ) → IsNodeAt all j (node_at s first_monitor) → AllCanStand s all → ((kept : StoredNode) → IsIn all kept → IsStoredFor (node_at s first_monitor) kept × (kept.arrival ≡ None)) → AreSearched rounds rows first_monitor s 0 all
-searched_none rounds rows first_monitor s all j keeps can only = record {
+pub searched_none : (dead : DeadTable) (rounds : Rounds) (rows : Rows) (first_monitor : List Shown) (s : State) (all : List StoredNode) (j : ℕ) → IsNodeAt all j (node_at s first_monitor) → AllCanStand s all → ((kept : StoredNode) → IsIn all kept → IsStoredFor (node_at s first_monitor) kept × (kept.arrival ≡ None)) → AreSearched dead rounds rows first_monitor s 0 all
+searched_none dead rounds rows first_monitor s all j keeps can only = record {
   starts = (keeps.0, (j, keeps.1), keeps.2);
-  arrivals = first_arrivals rounds rows first_monitor s all only;
+  arrivals = first_arrivals dead rounds rows first_monitor s all only;
   stand = can;
   closed = λ i lt kept at. absurd (omega (arith, lt));
 }
@@ -377,13 +386,13 @@ after_any stages others rows b None old new is = is
 after_any stages others rows b (Some (Call t k)) old new is = is
 after_any stages others rows b (Some (Return t k outcome)) old new is = is
 
-pub moves_any : (rounds : Rounds) (stages others : List Stage) (rows : Rows) (u : List Move) (first node : Node) → MovesLead [] (table_of others rows) (way_of rounds) first u node → MovesLead [] (table_of stages rows) (way_of rounds) first u node
-moves_any rounds stages others rows [] first node path = path
-moves_any rounds stages others rows (m ∷ u) first node path = (
+pub moves_any : (dead : DeadTable) (rounds : Rounds) (stages others : List Stage) (rows : Rows) (u : List Move) (first node : Node) → MovesLead dead (table_of others rows) (way_of rounds) first u node → MovesLead dead (table_of stages rows) (way_of rounds) first u node
+moves_any dead rounds stages others rows [] first node path = path
+moves_any dead rounds stages others rows (m ∷ u) first node path = (
   path.0,
   path.1,
   (path.2.0, path.2.1, path.2.2, after_any stages others rows path.2.0 path.1 first.monitor path.0.monitor path.2.3),
-  moves_any rounds stages others rows u path.0 node path.3,
+  moves_any dead rounds stages others rows u path.0 node path.3,
 )
 
 pub can_none : (s : State) (all : List StoredNode) → all ≡ [] → AllCanStand s all
@@ -404,17 +413,17 @@ only_first For old new none only kept at =
     nothing zero at = cc
     nothing (suc i) at = cc
 
-pub base_adds : (rounds : Rounds) (rows : Rows) (s machine : State) (same : SameBase s machine) (index : ℕ) (kept : StoredNode) (old new : List StoredNode) → AddsFrom rounds rows machine index (node_of machine kept) old new → AddsFrom rounds rows s index (node_of s kept) old new
-base_adds rounds rows s machine same index kept old new adds other at =
-    elim (adds other at) as (λ _. IsIn old other ⊎ ComesFrom rounds rows s index (node_of s kept) other) [
+pub base_adds : (dead : DeadTable) (rounds : Rounds) (rows : Rows) (s machine : State) (same : SameBase s machine) (index : ℕ) (kept : StoredNode) (old new : List StoredNode) → AddsFrom dead rounds rows machine index (node_of machine kept) old new → AddsFrom dead rounds rows s index (node_of s kept) old new
+base_adds dead rounds rows s machine same index kept old new adds other at =
+    elim (adds other at) as (λ _. IsIn old other ⊎ ComesFrom dead rounds rows s index (node_of s kept) other) [
       | inl before ↦ inl before
       | inr (a, by, from, leads) ↦
           inr (
             a,
             by,
             from,
-            subst (λ (x : Node). Leads rounds rows x (moves_of a) (node_of s other)) (base_node s machine kept same)
-                (subst (λ (x : Node). Leads rounds rows (node_of machine kept) (moves_of a) x) (base_node s machine other same) leads),
+            subst (λ (x : Node). Leads dead rounds rows x (moves_of a) (node_of s other)) (base_node s machine kept same)
+                (subst (λ (x : Node). Leads dead rounds rows (node_of machine kept) (moves_of a) x) (base_node s machine other same) leads),
           )
     ]
 
@@ -443,18 +452,18 @@ from s all node (i, at) = by (slice_get all i) refl
 
 -- ---- where all moves of all nodes were made
 
-module _ (rounds : Rounds) (rows : Rows) (first_monitor : List Shown) (s : State) (place : ℕ) (all : List StoredNode) (past : length all ≤ place) (are : AreSearched rounds rows first_monitor s place all) where
-  closed_at : (kept : StoredNode) (i : ℕ) → slice_get all i ≡ Some kept → (m : Move) (b : State) (event : Option Event) → ClientStep (way_of rounds) (node_of s kept).state m b event → (next : Node) × IsIn (map (node_of s) all) next × Represents [] next b × IsAfterMove (table_of [] rows) b event kept.monitor next.monitor
+module _ (dead : DeadTable) (rounds : Rounds) (rows : Rows) (first_monitor : List Shown) (s : State) (place : ℕ) (all : List StoredNode) (past : length all ≤ place) (are : AreSearched dead rounds rows first_monitor s place all) where
+  closed_at : (kept : StoredNode) (i : ℕ) → slice_get all i ≡ Some kept → (m : Move) (b : State) (event : Option Event) → ClientStep (way_of rounds) (node_of s kept).state m b event → (next : Node) × IsIn (map (node_of s) all) next × Represents dead next b × IsAfterMove (table_of [] rows) b event kept.monitor next.monitor
   closed_at kept i at m b event step =
       let within = slice_get_within all i kept at in
       let on = are.closed i (omega (arith, within, past)) kept at m b event step in
-      (node_of s on.0, there s all on.0 on.1, subst (AreAlike [] b) (sym on.2) (alike_itself [] b), on.3)
+      (node_of s on.0, there s all on.0 on.1, on.2, on.3)
 
-  pub nodes : AreAllNodes [] (table_of [] rows) (way_of rounds) s (map (node_of s) all)
+  pub nodes : AreAllNodes dead (table_of [] rows) (way_of rounds) s (map (node_of s) all)
   nodes = record {
-    starts = (node_of s are.starts.0, there s all are.starts.0 are.starts.1, subst (AreAlike [] s) (sym are.starts.2.0) (alike_itself [] s));
+    starts = (node_of s are.starts.0, there s all are.starts.0 are.starts.1, subst (AreAlike dead s) (sym are.starts.2.0) (alike_itself dead s));
     closed = λ node m b event at step.
         let f = from s all node at in
-        subst (λ (x : Node). (next : Node) × IsIn (map (node_of s) all) next × Represents [] next b × IsAfterMove (table_of [] rows) b event x.monitor next.monitor) f.is_node
+        subst (λ (x : Node). (next : Node) × IsIn (map (node_of s) all) next × Represents dead next b × IsAfterMove (table_of [] rows) b event x.monitor next.monitor) f.is_node
         (closed_at f.kept f.i f.at m b event (subst (λ (x : Node). ClientStep (way_of rounds) x.state m b event) (sym f.is_node) step));
   }

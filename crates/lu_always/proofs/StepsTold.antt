@@ -9,6 +9,7 @@ use Rattle.lu_test.specs.Matrix.{Matrix}
 use Rattle.lu_machine.specs.Positions.{at_position}
 use Rattle.lu_machine.specs.States.{State}
 use Rattle.lu_machine.specs.Starts.{IsStart}
+use Rattle.lu_horizon.specs.Dead.{DeadTable, IsDeadTable}
 use Rattle.lu_tree.specs.Alike.{AreAlike}
 use Rattle.lu_tree.proofs.Alike.{alike_itself}
 use Rattle.lu_graph.specs.Guards.{TellsGuarded}
@@ -33,7 +34,7 @@ use Rattle.lu_always.specs.Searching.{AddsAt, AreArrivals, Grows, HasNext, IsLin
 use Rattle.lu_always.specs.Steps.{AreStepNodes, HasNodeAfter, IsGoodBeforeCalls}
 use Rattle.lu_always.specs.StepSearch.{AreStepped, HasSteps, IsFound, IsJudged, IsJudgedIn}
 use Rattle.lu_always.specs.Ways.{HasParentsBefore, IsWayTo, IsWayWith}
-use Rattle.lu_always.proofs.Decided.{bad_node_fails, none_dead}
+use Rattle.lu_always.proofs.Decided.{bad_node_fails}
 use Rattle.lu_always.proofs.Exiting.{client_feasible}
 use Rattle.lu_always.proofs.Keeping.{SameBase, WayFrom, after_any, arrivals_more, base_adds, base_at, base_node, from, moved_base, moves_any, parents_before, there, way_there}
 use Rattle.lu_always.proofs.Stepped.{blocked_call_fails, step_nodes_tell_all}
@@ -42,7 +43,7 @@ use Rattle.lu_always.proofs.Stepped.{blocked_call_fails, step_nodes_tell_all}
 good_any : (stages others : List Stage) (rows : Rows) (node : Node) → IsGoodNode (table_of others rows) node → IsGoodNode (table_of stages rows) node
 good_any stages others rows node good = record { complete = good.complete; stuck = good.stuck }
 
-module _ (rounds : Rounds) (rows : Rows) (first : List Shown) (s : State) (place : ℕ) (all : List StoredNode) (past : length all ≤ place) (are : AreStepped rounds rows first s place all) (stages : List Stage) where
+module _ (dead : DeadTable) (rounds : Rounds) (rows : Rows) (first : List Shown) (s : State) (place : ℕ) (all : List StoredNode) (past : length all ≤ place) (are : AreStepped dead rounds rows first s place all) (stages : List Stage) where
   abbrev table : Table
   table = table_of stages rows
 
@@ -50,16 +51,15 @@ module _ (rounds : Rounds) (rows : Rows) (first : List Shown) (s : State) (place
   list = map (node_of s) all
 
   -- the move leads to nodes of the list from this state, whose component and matrix are those of s
-  after_move : (a : State) (monitor : List Shown) → ((kept : StoredNode) → at_position a kept.position ≡ at_position s kept.position) → (m : Move) → HasNext rounds rows all (node_at a monitor) m → HasNodeAfter [] table (way_of rounds) list a (m ∷ []) monitor
+  after_move : (a : State) (monitor : List Shown) → ((kept : StoredNode) → at_position a kept.position ≡ at_position s kept.position) → (m : Move) → HasNext dead rounds rows all (node_at a monitor) m → HasNodeAfter dead table (way_of rounds) list a (m ∷ []) monitor
   after_move a monitor base m has b event step =
-      let (kept, at, here, after) = has b event step in
-      let same : at_position s kept.position ≡ b = sym (base kept) ∙ here in (
+      let (kept, at, alike, after) = has b event step in (
         kept.monitor,
         after_any stages [] rows b event monitor kept.monitor after,
-        (node_of s kept, there s all kept at, subst (AreAlike [] b) (sym same) (alike_itself [] b), refl),
+        (node_of s kept, there s all kept at, subst (AreAlike dead b) (base kept) alike, refl),
       )
 
-  after_step : (kept : StoredNode) (step : List Move) → HasSteps rounds rows all (node_of s kept) → IsOneStep (node_of s kept).state step → HasNodeAfter [] table (way_of rounds) list (node_of s kept).state step kept.monitor
+  after_step : (kept : StoredNode) (step : List Move) → HasSteps dead rounds rows all (node_of s kept) → IsOneStep (node_of s kept).state step → HasNodeAfter dead table (way_of rounds) list (node_of s kept).state step kept.monitor
   after_step kept [] has is = absurd is
   after_step kept (m ∷ []) has (busy, goes) = λ b event step.
       let can = client_feasible rounds (node_of s kept).state m b event step in
@@ -73,13 +73,13 @@ module _ (rounds : Rounds) (rows : Rows) (first : List Shown) (s : State) (place
       )
   after_step kept (m ∷ k ∷ l ∷ u) has is = absurd is
 
-  step_nodes : AreInitial 0 first → AreStepNodes [] table (way_of rounds) s list
+  step_nodes : AreInitial 0 first → AreStepNodes dead table (way_of rounds) s list
   step_nodes initial = record {
-    starts = (node_of s are.starts.0, there s all are.starts.0 are.starts.1, (subst (AreAlike [] s) (sym are.starts.2.0) (alike_itself [] s), subst (AreInitial 0) (sym are.starts.2.1) initial));
+    starts = (node_of s are.starts.0, there s all are.starts.0 are.starts.1, (subst (AreAlike dead s) (sym are.starts.2.0) (alike_itself dead s), subst (AreInitial 0) (sym are.starts.2.1) initial));
     closed = λ node step at is.
         let f = from s all node at in
         let within = slice_get_within all f.i f.kept f.at in
-        subst (λ (x : Node). HasNodeAfter [] table (way_of rounds) list x.state step x.monitor) f.is_node
+        subst (λ (x : Node). HasNodeAfter dead table (way_of rounds) list x.state step x.monitor) f.is_node
         (after_step f.kept step (are.closed f.i (omega (arith, within, past)) f.kept f.at) (subst (λ (x : Node). IsOneStep x.state step) (sym f.is_node) is));
     good = λ node at blocked.
         let f = from s all node at in
@@ -91,19 +91,19 @@ module _ (rounds : Rounds) (rows : Rows) (first : List Shown) (s : State) (place
 
 -- ---- all is good
 
-pub steps_show_all : (c : Component) (rounds : Rounds) (matrix : Matrix) (rows : Rows) (first : List Shown) (s : State) → IsStart c matrix s → AreInitial 0 first → (guarded : List Bool) → TellsGuarded c guarded → (place : ℕ) (all : List StoredNode) → length all ≤ place → AreStepped rounds rows first s place all → IsLinearizableBy c rounds matrix rows
-steps_show_all c rounds matrix rows first s is initial guarded told place all past are stages bound tables =
+pub steps_show_all : (c : Component) (dead : DeadTable) → IsDeadTable c dead → (rounds : Rounds) (matrix : Matrix) (rows : Rows) (first : List Shown) (s : State) → IsStart c matrix s → AreInitial 0 first → (guarded : List Bool) → TellsGuarded c guarded → (place : ℕ) (all : List StoredNode) → length all ≤ place → AreStepped dead rounds rows first s place all → IsLinearizableBy c rounds matrix rows
+steps_show_all c dead sound rounds matrix rows first s is initial guarded told place all past are stages bound tables =
     let client : IsStart c (client_matrix (way_of rounds) matrix) s = subst (λ (m : Matrix). IsStart c m s) (sym (same_matrix rounds matrix)) is in
-    step_nodes_tell_all c (way_of rounds) matrix bound s [] (table_of stages rows) guarded (map (node_of s) all) client (none_dead c) told (tables s is) (step_nodes rounds rows first s place all past are stages initial)
+    step_nodes_tell_all c (way_of rounds) matrix bound s dead (table_of stages rows) guarded (map (node_of s) all) client sound told (tables s is) (step_nodes dead rounds rows first s place all past are stages initial)
 
 -- ---- a node is not good
 
-module _ (c : Component) (rounds : Rounds) (matrix : Matrix) (rows : Rows) (first : List Shown) (s machine : State) (is : IsStart c matrix s) (initial : AreInitial 0 first) (same : SameBase s machine) (n : ℕ) (old new : List StoredNode) (within : n < length old) (are : AreStepped rounds rows first s n old) (grows : Grows s old new) (adds : AddsAt rounds rows machine n old new) where
-  arrivals : AreArrivals rounds rows first s new
-  arrivals = arrivals_more rounds rows first s n old new within are.arrivals grows (λ kept at. base_adds rounds rows s machine same n kept old new (adds kept at))
+module _ (c : Component) (dead : DeadTable) (sound : IsDeadTable c dead) (rounds : Rounds) (matrix : Matrix) (rows : Rows) (first : List Shown) (s machine : State) (is : IsStart c matrix s) (initial : AreInitial 0 first) (same : SameBase s machine) (n : ℕ) (old new : List StoredNode) (within : n < length old) (are : AreStepped dead rounds rows first s n old) (grows : Grows s old new) (adds : AddsAt dead rounds rows machine n old new) where
+  arrivals : AreArrivals dead rounds rows first s new
+  arrivals = arrivals_more dead rounds rows first s n old new within are.arrivals grows (λ kept at. base_adds dead rounds rows s machine same n kept old new (adds kept at))
 
   pub parents : HasParentsBefore new
-  parents = parents_before rounds rows first s new arrivals
+  parents = parents_before dead rounds rows first s new arrivals
 
   here : (kept : StoredNode) × (slice_get old n ≡ Some kept)
   here = within_some old n within
@@ -114,8 +114,8 @@ module _ (c : Component) (rounds : Rounds) (matrix : Matrix) (rows : Rows) (firs
   client : IsStart c (client_matrix (way_of rounds) matrix) s
   client = subst (λ (m : Matrix). IsStart c m s) (sym (same_matrix rounds matrix)) is
 
-  way_here : (u : List Move) → IsWayTo new n u → WayFrom rounds rows first s u (node_of s here.0)
-  way_here u way = way_there rounds rows first s new arrivals n u way here.0 here_now
+  way_here : (u : List Move) → IsWayTo new n u → WayFrom dead rounds rows first s u (node_of s here.0)
+  way_here u way = way_there dead rounds rows first s new arrivals n u way here.0 here_now
 
   judged_here : (judged : Judged) → IsJudgedIn rounds rows machine old n judged → IsJudged rounds rows (node_of s here.0) judged
   judged_here judged told = subst (λ (x : Node). IsJudged rounds rows x judged) (base_node s machine here.0 same) (told here.0 here.1)
@@ -125,13 +125,13 @@ module _ (c : Component) (rounds : Rounds) (matrix : Matrix) (rows : Rows) (firs
       let way = way_here u to in
       let bad = judged_here Bad told in
       subst (FailsBy c matrix (way_of rounds)) (sym (whole ∙ append-nil u))
-      (bad_node_fails c (limit_of rounds) matrix bound s [] (table_of stages rows) way.first u (node_of s here.0) client (none_dead c) (tables s is) (way.state, subst (AreInitial 0) (sym way.monitor) initial)
-      (moves_any rounds stages [] rows u way.first (node_of s here.0) way.lead) bad.0 (λ good. bad.1 (good_any [] stages rows (node_of s here.0) good)))
+      (bad_node_fails c (limit_of rounds) matrix bound s dead (table_of stages rows) way.first u (node_of s here.0) client sound (tables s is) (way.state, subst (AreInitial 0) (sym way.monitor) initial)
+      (moves_any dead rounds stages [] rows u way.first (node_of s here.0) way.lead) bad.0 (λ good. bad.1 (good_any [] stages rows (node_of s here.0) good)))
 
   pub bad_call_fails : (m : Move) → IsJudgedIn rounds rows machine old n (BadAfterCall m) → (moves : Vec Move) → IsWayWith new n (Some m) moves.items → IsFound c rounds matrix rows (Fails moves)
   bad_call_fails m told moves (u, to, whole) stages bound tables =
       let way = way_here u to in
       let bad = judged_here (BadAfterCall m) told in
       subst (FailsBy c matrix (way_of rounds)) (sym whole)
-      (blocked_call_fails c (limit_of rounds) matrix bound s [] (table_of stages rows) way.first u (node_of s here.0) m client (none_dead c) (tables s is) (way.state, subst (AreInitial 0) (sym way.monitor) initial)
-      (moves_any rounds stages [] rows u way.first (node_of s here.0) way.lead) bad.0 bad.1.0 bad.1.1)
+      (blocked_call_fails c (limit_of rounds) matrix bound s dead (table_of stages rows) way.first u (node_of s here.0) m client sound (tables s is) (way.state, subst (AreInitial 0) (sym way.monitor) initial)
+      (moves_any dead rounds stages [] rows u way.first (node_of s here.0) way.lead) bad.0 bad.1.0 bad.1.1)

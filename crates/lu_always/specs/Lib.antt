@@ -6,6 +6,7 @@ pub mod Sinks
 pub mod Marking
 pub mod Exits
 pub mod Livelocks
+pub mod Clearing
 pub mod Searching
 pub mod StepSearch
 pub mod Ways

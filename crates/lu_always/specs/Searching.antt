@@ -10,6 +10,7 @@ use Rattle.lu_machine.specs.declared.thread.Thread.{Thread}
 use Rattle.lu_machine.specs.declared.position.Position.{Position}
 use Rattle.lu_machine.specs.Positions.{CanStandAt, at_position}
 use Rattle.lu_machine.specs.States.{State}
+use Rattle.lu_horizon.specs.Dead.{DeadTable}
 use Rattle.lu_serial.specs.Serial.{HasOpen}
 use Rattle.lu_linearization.specs.declared.configuration.Configuration.{Configuration as Shown}
 use Rattle.lu_linearization.specs.Monitors.{CanBeStuck}
@@ -21,10 +22,10 @@ use Rattle.lu_always.specs.declared.stored.Arrival.{Arrival}
 use Rattle.lu_always.specs.declared.stored.StoredNode.{StoredNode}
 use Rattle.lu_always.specs.declared.verdicts.Verdict.{Verdict}
 use Rattle.lu_always.specs.declared.verdicts.Verdict.TheVariants.{AlwaysLinearizable, Fails, Livelock, Undecided}
-use Rattle.lu_always.specs.Exits.{AreExits}
+use Rattle.lu_always.specs.Exits.{AreExits, MovesTo}
 use Rattle.lu_always.specs.Livelocks.{HasLivelockBy, NeverLivelocks}
 use Rattle.lu_always.specs.Sinks.{Graph}
-use Rattle.lu_always.specs.Nodes.{IsAfterMove, MovesLead, Node}
+use Rattle.lu_always.specs.Nodes.{IsAfterMove, MovesLead, Node, Represents}
 use Rattle.lu_always.specs.Always.{FailsBy, IsAlwaysLinearizable}
 use Rattle.lu_answers.specs.declared.rounds.Rounds.{Rounds}
 use Rattle.lu_answers.specs.Ways.{way_of}
@@ -92,27 +93,30 @@ pub record Grows (s : State) (old new : List StoredNode) : Type 0 where
   pub parts : new ≡ old ++ more
   pub stand : AllCanStand s old → AllCanStand s new
 
--- the list has the node to which the move leads from this one, if it leads anywhere
-abbrev pub HasNext : Rounds → Rows → List StoredNode → Node → Move → Type 0
-HasNext rounds rows all node m =
+-- the list has a node for the state to which the move leads from this one, if it leads anywhere
+abbrev pub HasNext : DeadTable → Rounds → Rows → List StoredNode → Node → Move → Type 0
+HasNext dead rounds rows all node m =
     (b : State) (event : Option Event) → RoundStep rounds node.state m b event
-    → (stored : StoredNode) × IsIn all stored × (at_position node.state stored.position ≡ b)
+    → (stored : StoredNode) × IsIn all stored × Represents dead (node_of node.state stored) b
     × MonitorAfter rows b event node.monitor stored.monitor
 
--- the list has all nodes to which moves lead from this one
-abbrev pub HasAllNext : Rounds → Rows → List StoredNode → Node → Type 0
-HasAllNext rounds rows all node = (m : Move) → HasNext rounds rows all node m
+-- the list has nodes for all states to which moves lead from this one
+abbrev pub HasAllNext : DeadTable → Rounds → Rows → List StoredNode → Node → Type 0
+HasAllNext dead rounds rows all node = (m : Move) → HasNext dead rounds rows all node m
 
 -- the same for the node of this state and this monitor
-abbrev pub HasNextOf : Rounds → Rows → State → List Shown → Move → List StoredNode → Type 0
-HasNextOf rounds rows s monitor m all = HasNext rounds rows all (node_at s monitor) m
+abbrev pub HasNextOf : DeadTable → Rounds → Rows → State → List Shown → Move → List StoredNode
+    → Type 0
+HasNextOf dead rounds rows s monitor m all = HasNext dead rounds rows all (node_at s monitor) m
 
-abbrev pub HasAllNextOf : Rounds → Rows → State → List Shown → List StoredNode → Type 0
-HasAllNextOf rounds rows s monitor all = HasAllNext rounds rows all (node_at s monitor)
+abbrev pub HasAllNextOf : DeadTable → Rounds → Rows → State → List Shown → List StoredNode
+    → Type 0
+HasAllNextOf dead rounds rows s monitor all = HasAllNext dead rounds rows all (node_at s monitor)
 
 -- these are the exits of the node of this state and this monitor
-abbrev pub AreExitsOf : Rounds → State → List Shown → List StoredNode → Vec ℕ → Type 0
-AreExitsOf rounds s monitor all exits = AreExits rounds all exits.items s
+abbrev pub AreExitsOf : DeadTable → Rounds → State → List Shown → List StoredNode → Vec ℕ
+    → Type 0
+AreExitsOf dead rounds s monitor all exits = AreExits dead rounds all exits.items s
 
 -- the moves of the arrival: the call, if it has one, and the move after it
 abbrev pub moves_of : Arrival → List Move
@@ -123,36 +127,36 @@ abbrev pub arrived : ℕ → Move → Arrival
 arrived index m = record { parent = index; call = None; by = m }
 
 -- these moves lead from one node to the other
-abbrev pub Leads : Rounds → Rows → Node → List Move → Node → Type 0
-Leads rounds rows node u end = MovesLead [] (table_of [] rows) (way_of rounds) node u end
+abbrev pub Leads : DeadTable → Rounds → Rows → Node → List Move → Node → Type 0
+Leads dead rounds rows node u end = MovesLead dead (table_of [] rows) (way_of rounds) node u end
 
 -- the stored node was reached from this one, which is stored at this index
-abbrev pub ComesFrom : Rounds → Rows → State → ℕ → Node → StoredNode → Type 0
-ComesFrom rounds rows s index node stored =
+abbrev pub ComesFrom : DeadTable → Rounds → Rows → State → ℕ → Node → StoredNode → Type 0
+ComesFrom dead rounds rows s index node stored =
     (a : Arrival) × (stored.arrival ≡ Some a) × (a.parent ≡ index)
-    × Leads rounds rows node (moves_of a) (node_of s stored)
+    × Leads dead rounds rows node (moves_of a) (node_of s stored)
 
 -- each new node was reached from this one, which is stored at this index
-abbrev pub AddsFrom : Rounds → Rows → State → ℕ → Node → List StoredNode → List StoredNode
-    → Type 0
-AddsFrom rounds rows s index node old new =
+abbrev pub AddsFrom : DeadTable → Rounds → Rows → State → ℕ → Node → List StoredNode
+    → List StoredNode → Type 0
+AddsFrom dead rounds rows s index node old new =
     (stored : StoredNode) → IsIn new stored
-    → IsIn old stored ⊎ ComesFrom rounds rows s index node stored
+    → IsIn old stored ⊎ ComesFrom dead rounds rows s index node stored
 
 -- the same from the node of this state and this monitor
-abbrev pub Adds : Rounds → Rows → State → List Shown → ℕ → List StoredNode → List StoredNode
-    → Type 0
-Adds rounds rows s monitor index old new =
-    AddsFrom rounds rows s index (node_at s monitor) old new
+abbrev pub Adds : DeadTable → Rounds → Rows → State → List Shown → ℕ → List StoredNode
+    → List StoredNode → Type 0
+Adds dead rounds rows s monitor index old new =
+    AddsFrom dead rounds rows s index (node_at s monitor) old new
 
 -- the move of the arrival leads to each new node from the node of this state and this monitor
-abbrev pub AddsBy : Rounds → Rows → State → List Shown → Arrival → List StoredNode
+abbrev pub AddsBy : DeadTable → Rounds → Rows → State → List Shown → Arrival → List StoredNode
     → List StoredNode → Type 0
-AddsBy rounds rows s monitor a old new =
+AddsBy dead rounds rows s monitor a old new =
     (stored : StoredNode) → IsIn new stored
     → IsIn old stored
     ⊎ ((stored.arrival ≡ Some a)
-    × Leads rounds rows (node_at s monitor) (a.by ∷ []) (node_of s stored))
+    × Leads dead rounds rows (node_at s monitor) (a.by ∷ []) (node_of s stored))
 
 -- Each node of the new list is one of the old, or that of this state and this monitor, with this
 -- arrival.
@@ -166,48 +170,50 @@ AddsOnly s monitor arrival old new =
 abbrev pub HoldsOf : State → List StoredNode → ℕ → (Node → Type 0) → Type 0
 HoldsOf s all i P = (stored : StoredNode) → slice_get all i ≡ Some stored → P (node_of s stored)
 
--- The new list has all nodes to which moves lead from the node at this index, and these are its exits.
-abbrev pub IsVisit : Rounds → Rows → State → List StoredNode → ℕ → List StoredNode → Vec ℕ
-    → Type 0
-IsVisit rounds rows s old index new exits =
-    HoldsOf s old index (HasAllNext rounds rows new)
-    × HoldsOf s old index (λ node. AreExits rounds new exits.items node.state)
+-- The new list has nodes for all states to which moves lead from the node at this index, and these are
+-- its exits.
+abbrev pub IsVisit : DeadTable → Rounds → Rows → State → List StoredNode → ℕ → List StoredNode
+    → Vec ℕ → Type 0
+IsVisit dead rounds rows s old index new exits =
+    HoldsOf s old index (HasAllNext dead rounds rows new)
+    × HoldsOf s old index (λ node. AreExits dead rounds new exits.items node.state)
 
 -- each new node was reached from the one stored at this index
-abbrev pub AddsAt : Rounds → Rows → State → ℕ → List StoredNode → List StoredNode → Type 0
-AddsAt rounds rows s index old new =
-    HoldsOf s old index (λ node. AddsFrom rounds rows s index node old new)
+abbrev pub AddsAt : DeadTable → Rounds → Rows → State → ℕ → List StoredNode → List StoredNode
+    → Type 0
+AddsAt dead rounds rows s index old new =
+    HoldsOf s old index (λ node. AddsFrom dead rounds rows s index node old new)
 
 -- the node stored at this index was reached so: it is the first one, with this monitor; or it was
 -- reached from a node that is stored before it
-abbrev pub IsArrival : Rounds → Rows → List Shown → State → List StoredNode → ℕ → StoredNode
-    → Option Arrival → Type 0
-IsArrival rounds rows first s all index stored None = IsStoredFor (node_at s first) stored
-IsArrival rounds rows first s all index stored (Some a) =
+abbrev pub IsArrival : DeadTable → Rounds → Rows → List Shown → State → List StoredNode → ℕ
+    → StoredNode → Option Arrival → Type 0
+IsArrival dead rounds rows first s all index stored None = IsStoredFor (node_at s first) stored
+IsArrival dead rounds rows first s all index stored (Some a) =
     (a.parent < index)
     × (parent : StoredNode) × (slice_get all a.parent ≡ Some parent)
-    × Leads rounds rows (node_of s parent) (moves_of a) (node_of s stored)
+    × Leads dead rounds rows (node_of s parent) (moves_of a) (node_of s stored)
 
 -- each node was reached by its arrival
-abbrev pub AreArrivals : Rounds → Rows → List Shown → State → List StoredNode → Type 0
-AreArrivals rounds rows first s all =
+abbrev pub AreArrivals : DeadTable → Rounds → Rows → List Shown → State → List StoredNode → Type 0
+AreArrivals dead rounds rows first s all =
     (i : ℕ) (stored : StoredNode) → slice_get all i ≡ Some stored
-    → IsArrival rounds rows first s all i stored stored.arrival
+    → IsArrival dead rounds rows first s all i stored stored.arrival
 
--- The list has the first node, and each node was reached by its arrival. The list has all nodes to
--- which moves lead from the nodes before this index.
-pub record AreSearched (rounds : Rounds) (rows : Rows) (first : List Shown) (s : State)
-    (index : ℕ) (all : List StoredNode) : Type 0 where
+-- The list has the first node, and each node was reached by its arrival. The list has nodes for all
+-- states to which moves lead from the nodes before this index.
+pub record AreSearched (dead : DeadTable) (rounds : Rounds) (rows : Rows) (first : List Shown)
+    (s : State) (index : ℕ) (all : List StoredNode) : Type 0 where
   pub starts : (stored : StoredNode) × IsIn all stored × IsStoredFor (node_at s first) stored
   pub stand : AllCanStand s all
-  pub arrivals : AreArrivals rounds rows first s all
-  pub closed : (i : ℕ) → i < index → HoldsOf s all i (HasAllNext rounds rows all)
+  pub arrivals : AreArrivals dead rounds rows first s all
+  pub closed : (i : ℕ) → i < index → HoldsOf s all i (HasAllNext dead rounds rows all)
 
 -- these are the exits of the first nodes, one list for each
-abbrev pub AreExitsOfFirst : Rounds → State → List StoredNode → Graph → Type 0
-AreExitsOfFirst rounds s all exits =
+abbrev pub AreExitsOfFirst : DeadTable → Rounds → State → List StoredNode → Graph → Type 0
+AreExitsOfFirst dead rounds s all exits =
     (i : ℕ) (its : Vec ℕ) → slice_get exits i ≡ Some its
-    → HoldsOf s all i (λ node. AreExits rounds all its.items node.state)
+    → HoldsOf s all i (λ node. AreExits dead rounds all its.items node.state)
 
 -- all unrolled matrices are linearizable, if the rows are the table of the serial histories
 abbrev pub IsLinearizableBy : Component → Rounds → Matrix → Rows → Type 0
@@ -238,22 +244,33 @@ IsLivelockIfAny c rounds matrix (Some moves) =
 -- ---- by what a search is given
 
 abbrev pub HasNextBy : Given → State → List Shown → Move → List StoredNode → Type 0
-HasNextBy given s monitor m all = HasNextOf given.rounds given.table.now s monitor m all
+HasNextBy given s monitor m all =
+    HasNextOf given.dead.now given.rounds given.table.now s monitor m all
 
 abbrev pub HasAllNextBy : Given → State → List Shown → List StoredNode → Type 0
-HasAllNextBy given s monitor all = HasAllNextOf given.rounds given.table.now s monitor all
+HasAllNextBy given s monitor all =
+    HasAllNextOf given.dead.now given.rounds given.table.now s monitor all
 
 abbrev pub AddsByOf : Given → State → List Shown → Arrival → List StoredNode → List StoredNode
     → Type 0
-AddsByOf given s monitor a old new = AddsBy given.rounds given.table.now s monitor a old new
+AddsByOf given s monitor a old new =
+    AddsBy given.dead.now given.rounds given.table.now s monitor a old new
 
 abbrev pub AddsOf : Given → State → List Shown → ℕ → List StoredNode → List StoredNode → Type 0
 AddsOf given s monitor index old new =
-    Adds given.rounds given.table.now s monitor index old new
+    Adds given.dead.now given.rounds given.table.now s monitor index old new
+
+abbrev pub AreExitsBy : Given → State → List Shown → List StoredNode → Vec ℕ → Type 0
+AreExitsBy given s monitor all exits =
+    AreExitsOf given.dead.now given.rounds s monitor all exits
+
+abbrev pub MovesToBy : Given → State → Move → List StoredNode → ℕ → Type 0
+MovesToBy given s m all index = MovesTo given.dead.now given.rounds all s m index
 
 abbrev pub IsVisitBy : Given → State → List StoredNode → ℕ → List StoredNode → Vec ℕ → Type 0
 IsVisitBy given s old index new exits =
-    IsVisit given.rounds given.table.now s old index new exits
+    IsVisit given.dead.now given.rounds given.table.now s old index new exits
 
 abbrev pub AddsAtBy : Given → State → ℕ → List StoredNode → List StoredNode → Type 0
-AddsAtBy given s index old new = AddsAt given.rounds given.table.now s index old new
+AddsAtBy given s index old new =
+    AddsAt given.dead.now given.rounds given.table.now s index old new

@@ -7,6 +7,7 @@ use Rattle.lu_machine.specs.declared.event.Event.{Event}
 use Rattle.lu_machine.specs.States.{State}
 use Rattle.lu_machine.specs.Steps.{IsFeasible}
 use Rattle.lu_graph.specs.First.{GoesFirst}
+use Rattle.lu_horizon.specs.Dead.{DeadTable}
 use Rattle.lu_late.specs.Steps.{IsIdle}
 use Rattle.lu_linearization.specs.declared.configuration.Configuration.{Configuration as Shown}
 use Rattle.lu_linearization.specs.Monitors.{CanBeStuck}
@@ -63,60 +64,63 @@ IsJudgedIn rounds rows s all index judged =
 
 -- ---- steps
 
--- the list has the nodes to which thread t's moves lead from this one
-abbrev pub HasMoves : Rounds → Rows → List StoredNode → Node → ℕ → Type 0
-HasMoves rounds rows all node t = (m : Move) → m.thread ≡ t → HasNext rounds rows all node m
+-- the list has nodes for the states to which thread t's moves lead from this one
+abbrev pub HasMoves : DeadTable → Rounds → Rows → List StoredNode → Node → ℕ → Type 0
+HasMoves dead rounds rows all node t =
+    (m : Move) → m.thread ≡ t → HasNext dead rounds rows all node m
 
--- the list has the nodes to which the call m leads from this one, with each move of its thread after it
-abbrev pub HasCall : Rounds → Rows → List StoredNode → Node → Move → Type 0
-HasCall rounds rows all node m =
+-- the list has nodes for the states to which the call m leads from this one, with each move of its
+-- thread after it
+abbrev pub HasCall : DeadTable → Rounds → Rows → List StoredNode → Node → Move → Type 0
+HasCall dead rounds rows all node m =
     (b : State) (event : Option Event) → RoundStep rounds node.state m b event
     → (after : List Shown) × MonitorAfter rows b event node.monitor after
-    × HasMoves rounds rows all (node_at b after) m.thread
+    × HasMoves dead rounds rows all (node_at b after) m.thread
 
--- the list has the nodes to which thread t's steps lead from this one: its moves, if it is not idle;
--- and else its next call, with each move after it
-pub record HasStepsOf (rounds : Rounds) (rows : Rows) (all : List StoredNode) (node : Node)
-    (t : ℕ) : Type 0 where
-  pub moves : (IsIdle node.state t → ⊥) → HasMoves rounds rows all node t
-  pub calls : (m : Move) → m.thread ≡ t → IsIdle node.state t → HasCall rounds rows all node m
+-- the list has nodes for the states to which thread t's steps lead from this one: its moves, if it is
+-- not idle; and else its next call, with each move after it
+pub record HasStepsOf (dead : DeadTable) (rounds : Rounds) (rows : Rows)
+    (all : List StoredNode) (node : Node) (t : ℕ) : Type 0 where
+  pub moves : (IsIdle node.state t → ⊥) → HasMoves dead rounds rows all node t
+  pub calls : (m : Move) → m.thread ≡ t → IsIdle node.state t
+      → HasCall dead rounds rows all node m
 
--- the list has the nodes to which steps lead from this one
-abbrev pub HasSteps : Rounds → Rows → List StoredNode → Node → Type 0
-HasSteps rounds rows all node =
+-- the list has nodes for the states to which steps lead from this one
+abbrev pub HasSteps : DeadTable → Rounds → Rows → List StoredNode → Node → Type 0
+HasSteps dead rounds rows all node =
     (m : Move) → IsFeasible node.state m → GoesFirst node.state m
-    → HasStepsOf rounds rows all node m.thread
+    → HasStepsOf dead rounds rows all node m.thread
 
 -- each new node was reached by a move of its arrival from the node of this state and this monitor,
 -- which are those of the origin
-abbrev pub AddsMoves : Rounds → Rows → State → List Shown → Origin → List StoredNode
+abbrev pub AddsMoves : DeadTable → Rounds → Rows → State → List Shown → Origin → List StoredNode
     → List StoredNode → Type 0
-AddsMoves rounds rows s monitor origin old new =
+AddsMoves dead rounds rows s monitor origin old new =
     (stored : StoredNode) → IsIn new stored
     → IsIn old stored
     ⊎ ((a : Arrival) × (stored.arrival ≡ Some a) × (a.parent ≡ origin.index)
     × (a.call ≡ origin.call)
-    × Leads rounds rows (node_at s monitor) (a.by ∷ []) (node_of s stored))
+    × Leads dead rounds rows (node_at s monitor) (a.by ∷ []) (node_of s stored))
 
 -- The list has the first node, and each node was reached by its arrival. The nodes before this index
--- are searched: the list has the nodes to which steps lead from them, and where their open operations
--- are blocked, they are good before last calls.
-pub record AreStepped (rounds : Rounds) (rows : Rows) (first : List Shown) (s : State)
-    (index : ℕ) (all : List StoredNode) : Type 0 where
+-- are searched: the list has nodes for the states to which steps lead from them, and where their open
+-- operations are blocked, they are good before last calls.
+pub record AreStepped (dead : DeadTable) (rounds : Rounds) (rows : Rows) (first : List Shown)
+    (s : State) (index : ℕ) (all : List StoredNode) : Type 0 where
   pub starts : (stored : StoredNode) × IsIn all stored × IsStoredFor (node_at s first) stored
   pub stand : AllCanStand s all
-  pub arrivals : AreArrivals rounds rows first s all
-  pub closed : (i : ℕ) → i < index → HoldsOf s all i (HasSteps rounds rows all)
+  pub arrivals : AreArrivals dead rounds rows first s all
+  pub closed : (i : ℕ) → i < index → HoldsOf s all i (HasSteps dead rounds rows all)
   pub good : (i : ℕ) → i < index → IsJudgedIn rounds rows s all i Good
 
--- What the visit of the node at this index finds: it is good, and the new list has the nodes to which
--- steps lead from it; or it is not.
-abbrev pub IsStepVisit : Rounds → Rows → State → List StoredNode → ℕ → List StoredNode → Judged
-    → Type 0
-IsStepVisit rounds rows s old index new Good =
-    IsJudgedIn rounds rows s old index Good × HoldsOf s old index (HasSteps rounds rows new)
-IsStepVisit rounds rows s old index new Bad = IsJudgedIn rounds rows s old index Bad
-IsStepVisit rounds rows s old index new (BadAfterCall m) =
+-- What the visit of the node at this index finds: it is good, and the new list has nodes for the states
+-- to which steps lead from it; or it is not.
+abbrev pub IsStepVisit : DeadTable → Rounds → Rows → State → List StoredNode → ℕ
+    → List StoredNode → Judged → Type 0
+IsStepVisit dead rounds rows s old index new Good =
+    IsJudgedIn rounds rows s old index Good × HoldsOf s old index (HasSteps dead rounds rows new)
+IsStepVisit dead rounds rows s old index new Bad = IsJudgedIn rounds rows s old index Bad
+IsStepVisit dead rounds rows s old index new (BadAfterCall m) =
     IsJudgedIn rounds rows s old index (BadAfterCall m)
 
 -- ---- what the search finds
@@ -156,29 +160,29 @@ IsJudgedAt given s monitor judged =
 
 abbrev pub HasMovesBy : Given → State → List Shown → ℕ → List StoredNode → Type 0
 HasMovesBy given s monitor t all =
-    HasMoves given.rounds given.table.now all (node_at s monitor) t
+    HasMoves given.dead.now given.rounds given.table.now all (node_at s monitor) t
 
 abbrev pub HasCallBy : Given → State → List Shown → Move → List StoredNode → Type 0
 HasCallBy given s monitor m all =
-    HasCall given.rounds given.table.now all (node_at s monitor) m
+    HasCall given.dead.now given.rounds given.table.now all (node_at s monitor) m
 
 abbrev pub HasStepsBy : Given → State → List Shown → ℕ → List StoredNode → Type 0
 HasStepsBy given s monitor t all =
-    HasStepsOf given.rounds given.table.now all (node_at s monitor) t
+    HasStepsOf given.dead.now given.rounds given.table.now all (node_at s monitor) t
 
 abbrev pub HasAllStepsBy : Given → State → List Shown → List StoredNode → Type 0
 HasAllStepsBy given s monitor all =
-    HasSteps given.rounds given.table.now all (node_at s monitor)
+    HasSteps given.dead.now given.rounds given.table.now all (node_at s monitor)
 
 abbrev pub AddsMovesBy : Given → State → List Shown → Origin → List StoredNode → List StoredNode
     → Type 0
 AddsMovesBy given s monitor origin old new =
-    AddsMoves given.rounds given.table.now s monitor origin old new
+    AddsMoves given.dead.now given.rounds given.table.now s monitor origin old new
 
 abbrev pub IsStepVisitBy : Given → State → List StoredNode → ℕ → List StoredNode → Judged
     → Type 0
 IsStepVisitBy given s old index new judged =
-    IsStepVisit given.rounds given.table.now s old index new judged
+    IsStepVisit given.dead.now given.rounds given.table.now s old index new judged
 
 abbrev pub IsFoundBy : Given → Component → Matrix → Linearizability → Type 0
 IsFoundBy given c matrix found = IsFound c given.rounds matrix given.table.now found

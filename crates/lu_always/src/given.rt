@@ -1,6 +1,7 @@
 //! What a search is given.
 
 use lu_answers::{AnswerTable, Rounds};
+use lu_horizon::DeadRegisters;
 use std::alloc::Global;
 
 /// What stays the same throughout a search.
@@ -10,6 +11,9 @@ pub(crate) struct Given<'a> {
 
     /// The table of the serial histories.
     pub(crate) table: &'a AnswerTable,
+
+    /// The component's dead registers.
+    pub(crate) dead: &'a DeadRegisters,
 
     /// How often threads make their lines.
     pub(crate) rounds: Rounds,

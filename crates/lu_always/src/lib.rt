@@ -5,6 +5,7 @@
 //! table of the serial histories.
 #![tactic(auto)]
 
+mod clearing;
 mod following;
 mod given;
 mod judging;

@@ -2,12 +2,13 @@
 
 ghost use Rattle.std.specs.Prelude.{◌≡◌, ◌<◌, IfOk, IfSome, OnOk, length};
 ghost use Rattle.lu_component.specs.Component.{IsComponent};
+ghost use Rattle.lu_horizon.specs.Dead.{IsDeadTable};
 ghost use Rattle.lu_machine.specs.Positions.{CanStandAt, at_position};
 ghost use Rattle.lu_machine.specs.Starts.{CanRun};
 ghost use Rattle.lu_machine.specs.Steps.{IsFeasible};
-ghost use Rattle.lu_always.specs.Exits.{MovesTo};
-ghost use Rattle.lu_always.specs.Searching.{AddsAtBy, AddsByOf, AddsOf, AddsOnly, AllCanStand, AreExitsOf, Grows, HasAllNextBy, HasNextBy, IsLivelockIfAny, IsNodeAt, IsVerdict, IsVisitBy, node_at};
+ghost use Rattle.lu_always.specs.Searching.{AddsAtBy, AddsByOf, AddsOf, AddsOnly, AllCanStand, AreExitsBy, Grows, HasAllNextBy, HasNextBy, IsLivelockIfAny, IsNodeAt, IsVerdict, IsVisitBy, MovesToBy, node_at};
 
+use crate::clearing::clear_dead;
 use crate::following::after_move;
 use crate::given::Given;
 use crate::livelock::way_to_livelock;
@@ -19,6 +20,7 @@ use crate::stored::{Arrival, StoredNode};
 use crate::verdicts::Verdict;
 use lu_answers::{AnswerTable, Rounds};
 use lu_component::Component;
+use lu_horizon::DeadRegisters;
 use lu_linearization::Monitor;
 use lu_machine::{Machine, Outcome, Position};
 use lu_test::{Matrix, Move};
@@ -54,8 +56,8 @@ pub(crate) fn store(
     }
 }
 
-/// Stores the node to which the arrival's move leads from this state and this monitor. The machine
-/// returns to the state. Returns the index of the node.
+/// Stores the node to which the arrival's move leads from this state and this monitor, with 0 in dead
+/// registers. The machine returns to the state. Returns the index of the node.
 pub(crate) fn store_next(
     given: Given<'_>,
     machine: &mut Machine<'_>,
@@ -71,12 +73,13 @@ pub(crate) fn store_next(
     ensures grows { OnOk result (Grows machine.old all.old all.new) }
     ensures next { OnOk result
         (HasNextBy given.entry machine.old monitor.now arrival.by all.new) }
-    ensures leads { IfOk result (MovesTo given.entry.rounds all.new machine.old arrival.by) }
+    ensures leads { IfOk result (MovesToBy given.entry machine.old arrival.by all.new) }
     ensures new { OnOk result
         (AddsByOf given.entry machine.old monitor.now arrival all.old all.new) }
 {
     let event = client_step(given.alloc, machine, given.rounds, arrival.by)?;
     let after = after_move(given.alloc, machine, monitor, given.table, event)?;
+    clear_dead(given.alloc, machine, given.dead)?;
     let to = store(given.alloc, machine, after, Some(arrival), all)?;
     machine.stand_at(home);
     Ok(to)
@@ -100,7 +103,7 @@ fn store_all_next(
     ensures grows { OnOk result (Grows machine.old all.old all.new) }
     ensures next { OnOk result (HasAllNextBy given.entry machine.old monitor.now all.new) }
     ensures exits { IfOk result
-        (AreExitsOf given.entry.rounds machine.old monitor.now all.new) }
+        (AreExitsBy given.entry machine.old monitor.now all.new) }
     ensures new { OnOk result
         (AddsOf given.entry machine.old monitor.now at all.old all.new) }
 {
@@ -159,7 +162,8 @@ fn find_livelock(
     matrix: &Matrix,
     most: usize,
 ) -> Result<Option<Option<Vec<Move>>>, AllocError>
-    requires { CanRun component.now matrix.now }
+    requires runs { CanRun component.now matrix.now }
+    requires dead { IsDeadTable component.now given.dead.now }
     ensures { IfOk result (λ found.
         IfSome found (IsLivelockIfAny component.now given.entry.rounds matrix.now)) }
 {
@@ -198,9 +202,11 @@ pub fn find_verdict(
     requires { CanRun component.now matrix.now }
     ensures { IfOk result (IsVerdict component.now rounds matrix.now table.now) }
 {
+    let dead = DeadRegisters::new(alloc, component)?;
     let given = Given {
         alloc,
         table,
+        dead: &dead,
         rounds,
     };
     match find_failure(given, component, matrix, most)? {

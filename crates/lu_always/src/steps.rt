@@ -2,6 +2,7 @@
 
 ghost use Rattle.std.specs.Prelude.{◌≡◌, ◌<◌, IfOk, OnOk, length};
 ghost use Rattle.lu_graph.specs.Guards.{TellsGuarded};
+ghost use Rattle.lu_horizon.specs.Dead.{IsDeadTable};
 ghost use Rattle.lu_machine.specs.Positions.{CanStandAt, at_position};
 ghost use Rattle.lu_machine.specs.Starts.{CanRun};
 ghost use Rattle.lu_machine.specs.Steps.{IsFeasible};
@@ -231,7 +232,8 @@ pub(crate) fn find_failure(
     matrix: &Matrix,
     most: usize,
 ) -> Result<Linearizability, AllocError>
-    requires { CanRun component.now matrix.now }
+    requires runs { CanRun component.now matrix.now }
+    requires dead { IsDeadTable component.now given.dead.now }
     ensures { IfOk result (IsFoundBy given.entry component.now matrix.now) }
 {
     let mut machine = Machine::start(given.alloc, component, matrix)?;

@@ -17,7 +17,7 @@ pub struct Arrival {
     pub(crate) by: Move,
 }
 
-/// A position of the client, with a monitor.
+/// A position of the client, with 0 in dead registers, and a monitor.
 #[derive(Drop)]
 pub struct StoredNode {
     pub(crate) position: Position,

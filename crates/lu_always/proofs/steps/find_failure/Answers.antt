@@ -18,7 +18,7 @@ loop-index-init c =
       stepped = (
         c.in_ok-first.first,
         c.in_ok-first.ensures,
-        stepped_none c.args.given.rounds c.args.given.table.now c.in_ok-first.first s c.store.new.all c.in_ok-store.field-0 c.in_ok-store.ensures.there (c.in_ok-store.ensures.grows.stand (can_none s c.new-all.result c.new-all.ensures))
+        stepped_none c.args.given.dead.now c.args.given.rounds c.args.given.table.now c.in_ok-first.first s c.store.new.all c.in_ok-store.field-0 c.in_ok-store.ensures.there (c.in_ok-store.ensures.grows.stand (can_none s c.new-all.result c.new-all.ensures))
             (only_first (λ kept. IsStoredFor (node_at s c.in_ok-first.first) kept × (kept.arrival ≡ None)) c.new-all.result c.store.new.all c.new-all.ensures c.in_ok-store.ensures.only),
       );
       same = record { component = refl; matrix_is = refl };
@@ -31,7 +31,7 @@ returns-then-index-len c =
     let all = c.loop-index.all in
     let past : length all ≤ c.loop-index.index = omega (arith, c.if-index-len.true, c.len.ensures) in
     let (first, initial, are) = c.loop-index.invariant.stepped in
-    steps_show_all c.args.component.now c.args.given.rounds c.args.matrix.now c.args.given.table.now first s c.in_ok-machine.ensures.starts initial c.in_ok-guards.guards c.in_ok-guards.ensures c.loop-index.index all past are
+    steps_show_all c.args.component.now c.args.given.dead.now c.requires.dead c.args.given.rounds c.args.matrix.now c.args.given.table.now first s c.in_ok-machine.ensures.starts initial c.in_ok-guards.guards c.in_ok-guards.ensures c.loop-index.index all past are
 
 pub visit-requires-clause-guards : goal.visit-requires-clause-guards
 visit-requires-clause-guards c =
@@ -45,7 +45,7 @@ way_with-requires-clause-parents c =
     let (first, initial, are) = c.loop-index.invariant.stepped in
     let same = c.loop-index.invariant.same in
     let within : c.loop-index.index < length c.loop-index.all = omega (arith, c.if-index-len.false, c.len.ensures) in
-    parents c.args.component.now c.args.given.rounds c.args.matrix.now c.args.given.table.now first s c.loop-index.machine c.in_ok-machine.ensures.starts initial same c.loop-index.index c.loop-index.all c.visit.new.all within are
+    parents c.args.component.now c.args.given.dead.now c.requires.dead c.args.given.rounds c.args.matrix.now c.args.given.table.now first s c.loop-index.machine c.in_ok-machine.ensures.starts initial same c.loop-index.index c.loop-index.all c.visit.new.all within are
     (base_grows s c.loop-index.machine c.loop-index.all c.visit.new.all same c.in_ok-judged.ensures.grows) c.in_ok-judged.ensures.new
 
 pub way_with-requires-in-BadAfterCall-clause-parents : goal.way_with-requires-in-BadAfterCall-clause-parents
@@ -54,7 +54,7 @@ way_with-requires-in-BadAfterCall-clause-parents c =
     let (first, initial, are) = c.loop-index.invariant.stepped in
     let same = c.loop-index.invariant.same in
     let within : c.loop-index.index < length c.loop-index.all = omega (arith, c.if-index-len.false, c.len.ensures) in
-    parents c.args.component.now c.args.given.rounds c.args.matrix.now c.args.given.table.now first s c.loop-index.machine c.in_ok-machine.ensures.starts initial same c.loop-index.index c.loop-index.all c.visit.new.all within are
+    parents c.args.component.now c.args.given.dead.now c.requires.dead c.args.given.rounds c.args.matrix.now c.args.given.table.now first s c.loop-index.machine c.in_ok-machine.ensures.starts initial same c.loop-index.index c.loop-index.all c.visit.new.all within are
     (base_grows s c.loop-index.machine c.loop-index.all c.visit.new.all same c.in_ok-judged.ensures.grows) c.in_ok-judged.ensures.new
 
 pub returns-in-Bad : goal.returns-in-Bad
@@ -63,9 +63,9 @@ returns-in-Bad c =
     let (first, initial, are) = c.loop-index.invariant.stepped in
     let same = c.loop-index.invariant.same in
     let within : c.loop-index.index < length c.loop-index.all = omega (arith, c.if-index-len.false, c.len.ensures) in
-    let bad : IsStepVisit c.args.given.rounds c.args.given.table.now c.loop-index.machine c.loop-index.all c.loop-index.index c.visit.new.all Bad =
-    subst (IsStepVisit c.args.given.rounds c.args.given.table.now c.loop-index.machine c.loop-index.all c.loop-index.index c.visit.new.all) c.in-Bad.is c.in_ok-judged.ensures.visit in
-    bad_fails c.args.component.now c.args.given.rounds c.args.matrix.now c.args.given.table.now first s c.loop-index.machine c.in_ok-machine.ensures.starts initial same c.loop-index.index c.loop-index.all c.visit.new.all within are
+    let bad : IsStepVisit c.args.given.dead.now c.args.given.rounds c.args.given.table.now c.loop-index.machine c.loop-index.all c.loop-index.index c.visit.new.all Bad =
+    subst (IsStepVisit c.args.given.dead.now c.args.given.rounds c.args.given.table.now c.loop-index.machine c.loop-index.all c.loop-index.index c.visit.new.all) c.in-Bad.is c.in_ok-judged.ensures.visit in
+    bad_fails c.args.component.now c.args.given.dead.now c.requires.dead c.args.given.rounds c.args.matrix.now c.args.given.table.now first s c.loop-index.machine c.in_ok-machine.ensures.starts initial same c.loop-index.index c.loop-index.all c.visit.new.all within are
     (base_grows s c.loop-index.machine c.loop-index.all c.visit.new.all same c.in_ok-judged.ensures.grows) c.in_ok-judged.ensures.new bad c.in_ok-moves-in-Bad.moves c.in_ok-moves-in-Bad.ensures
 
 pub returns-in-BadAfterCall : goal.returns-in-BadAfterCall
@@ -75,13 +75,14 @@ returns-in-BadAfterCall c =
     let (first, initial, are) = c.loop-index.invariant.stepped in
     let same = c.loop-index.invariant.same in
     let within : c.loop-index.index < length c.loop-index.all = omega (arith, c.if-index-len.false, c.len.ensures) in
-    let bad : IsStepVisit c.args.given.rounds c.args.given.table.now c.loop-index.machine c.loop-index.all c.loop-index.index c.visit.new.all (BadAfterCall m) =
-    subst (IsStepVisit c.args.given.rounds c.args.given.table.now c.loop-index.machine c.loop-index.all c.loop-index.index c.visit.new.all) c.in-BadAfterCall.is c.in_ok-judged.ensures.visit in
-    bad_call_fails c.args.component.now c.args.given.rounds c.args.matrix.now c.args.given.table.now first s c.loop-index.machine c.in_ok-machine.ensures.starts initial same c.loop-index.index c.loop-index.all c.visit.new.all within are
+    let bad : IsStepVisit c.args.given.dead.now c.args.given.rounds c.args.given.table.now c.loop-index.machine c.loop-index.all c.loop-index.index c.visit.new.all (BadAfterCall m) =
+    subst (IsStepVisit c.args.given.dead.now c.args.given.rounds c.args.given.table.now c.loop-index.machine c.loop-index.all c.loop-index.index c.visit.new.all) c.in-BadAfterCall.is c.in_ok-judged.ensures.visit in
+    bad_call_fails c.args.component.now c.args.given.dead.now c.requires.dead c.args.given.rounds c.args.matrix.now c.args.given.table.now first s c.loop-index.machine c.in_ok-machine.ensures.starts initial same c.loop-index.index c.loop-index.all c.visit.new.all within are
     (base_grows s c.loop-index.machine c.loop-index.all c.visit.new.all same c.in_ok-judged.ensures.grows) c.in_ok-judged.ensures.new m bad c.in_ok-moves-in-BadAfterCall.moves c.in_ok-moves-in-BadAfterCall.ensures
 
 pub loop-index-preserved : goal.loop-index-preserved
 loop-index-preserved c =
+    let dead = c.args.given.dead.now in
     let rounds = c.args.given.rounds in
     let rows = c.args.given.table.now in
     let s = c.in_ok-machine.machine in
@@ -93,15 +94,15 @@ loop-index-preserved c =
     let same = c.loop-index.invariant.same in
     let within : index < length old = omega (arith, c.if-index-len.false, c.len.ensures) in
     let grows = base_grows s machine old new same c.in_ok-judged.ensures.grows in
-    let good : IsStepVisit rounds rows machine old index new Good = subst (IsStepVisit rounds rows machine old index new) c.in-Good.is c.in_ok-judged.ensures.visit in
+    let good : IsStepVisit dead rounds rows machine old index new Good = subst (IsStepVisit dead rounds rows machine old index new) c.in-Good.is c.in_ok-judged.ensures.visit in
     record {
       stepped = (
         first,
         initial,
-        stepped_next rounds rows first s index old new within are grows
+        stepped_next dead rounds rows first s index old new within are grows
             (λ kept at. subst (λ (x : Node). IsJudged rounds rows x Good) (base_node s machine kept same) (good.0 kept at))
-            (λ kept at. subst (HasSteps rounds rows new) (base_node s machine kept same) (good.1 kept at))
-            (λ kept at. base_adds rounds rows s machine same index kept old new (c.in_ok-judged.ensures.new kept at)),
+            (λ kept at. subst (HasSteps dead rounds rows new) (base_node s machine kept same) (good.1 kept at))
+            (λ kept at. base_adds dead rounds rows s machine same index kept old new (c.in_ok-judged.ensures.new kept at)),
       );
       same = record { component = c.in_ok-judged.ensures.component ∙ same.component; matrix_is = c.in_ok-judged.ensures.matrix ∙ same.matrix_is };
       within = longer s old new grows index within;

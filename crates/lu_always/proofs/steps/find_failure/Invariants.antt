@@ -7,7 +7,7 @@ use Rattle.lu_always.proofs.steps.find_failure.Given as goal
 
 abbrev pub invariant-loop-index : goal.invariant-loop-index
 invariant-loop-index l = record {
-  stepped : (first : List Shown) × AreInitial 0 first × AreStepped l.fn.given.rounds l.fn.given.table.now first l.initial.machine l.index l.all;
+  stepped : (first : List Shown) × AreInitial 0 first × AreStepped l.fn.given.dead.now l.fn.given.rounds l.fn.given.table.now first l.initial.machine l.index l.all;
   same : SameBase l.initial.machine l.machine;
   within : l.index ≤ length l.all;
 }

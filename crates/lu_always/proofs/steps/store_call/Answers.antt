@@ -27,10 +27,10 @@ returns-clause-grows c =
 
 pub returns-clause-next : goal.returns-clause-next
 returns-clause-next c =
-    call_made c.args.given.rounds c.args.given.table.now c.args.machine.now c.args.monitor.now c.args.call c.client_step.new.machine c.in_ok-event.event c.in_ok-after.after
+    call_made c.args.given.dead.now c.args.given.rounds c.args.given.table.now c.args.machine.now c.args.monitor.now c.args.call c.client_step.new.machine c.in_ok-event.event c.in_ok-after.after
     c.in_ok-event.ensures.step c.in_ok-after.ensures c.store_moves.new.all c.in_ok-store_moves.ensures.moves
 
 pub returns-clause-new : goal.returns-clause-new
 returns-clause-new c =
-    adds_called c.args.given.rounds c.args.given.table.now c.args.machine.now c.args.monitor.now c.args.call c.client_step.new.machine c.in_ok-event.event c.in_ok-after.after
+    adds_called c.args.given.dead.now c.args.given.rounds c.args.given.table.now c.args.machine.now c.args.monitor.now c.args.call c.client_step.new.machine c.in_ok-event.event c.in_ok-after.after
     c.in_ok-event.ensures.step c.in_ok-after.ensures c.args.at c.args.all.now c.store_moves.new.all c.in_ok-store_moves.ensures.new

@@ -6,20 +6,20 @@ use Rattle.lu_always.proofs.steps.store_steps.Goals as goal
 
 pub returns-then-is_waiting-clause-steps : goal.returns-then-is_waiting-clause-steps
 returns-then-is_waiting-clause-steps c =
-    steps_open c.args.given.rounds c.args.given.table.now c.args.machine.now c.args.monitor.now c.args.thread c.store_moves.new.all
+    steps_open c.args.given.dead.now c.args.given.rounds c.args.given.table.now c.args.machine.now c.args.monitor.now c.args.thread c.store_moves.new.all
     (waiting_opens c.args.machine.now c.args.thread c.is_waiting.result c.is_waiting.ensures c.if-is_waiting.true) c.in_ok-store_moves.ensures.moves
 
 pub returns-then-is_waiting-clause-new : goal.returns-then-is_waiting-clause-new
 returns-then-is_waiting-clause-new c =
-    adds_alone c.args.given.rounds c.args.given.table.now c.args.machine.now c.args.monitor.now c.args.at c.args.all.now c.store_moves.new.all c.in_ok-store_moves.ensures.new
+    adds_alone c.args.given.dead.now c.args.given.rounds c.args.given.table.now c.args.machine.now c.args.monitor.now c.args.at c.args.all.now c.store_moves.new.all c.in_ok-store_moves.ensures.new
 
 pub returns-then-picks-eq0-clause-steps : goal.returns-then-picks-eq0-clause-steps
 returns-then-picks-eq0-clause-steps c =
     let none : picks_of c.args.machine.now c.args.thread ≡ 0 = search rules in
-    steps_none c.args.given.rounds c.args.given.table.now c.args.machine.now c.args.monitor.now c.args.thread c.args.all.now none
+    steps_none c.args.given.dead.now c.args.given.rounds c.args.given.table.now c.args.machine.now c.args.monitor.now c.args.thread c.args.all.now none
 
 pub returns-clause-steps : goal.returns-clause-steps
 returns-clause-steps c =
     let some : 0 < picks_of c.args.machine.now c.args.thread = search rules in
-    steps_call c.args.given.rounds c.args.given.table.now c.args.machine.now c.args.monitor.now c.args.thread c.store_call.new.all
+    steps_call c.args.given.dead.now c.args.given.rounds c.args.given.table.now c.args.machine.now c.args.monitor.now c.args.thread c.store_call.new.all
     (not_waiting c.args.machine.now c.args.thread c.is_waiting.result c.is_waiting.ensures c.if-is_waiting.false) some c.in_ok-store_call.ensures.next

@@ -22,7 +22,7 @@ returns-in-Good-clause-visit c =
       (λ kept at.
           let same = here_node c.args.machine.now c.stand_at.new.self c.args.all.now c.list.result.now c.list-2.result.now c.args.index c.index-list-index.result c.index-list-index-2.result kept c.in_ok-monitor.monitor c.list.ensures c.list-2.ensures c.in_ok-monitor.ensures c.stand_at.ensures at in
           let home = c.in_ok-judged.ensures.home in
-          subst (HasSteps c.args.given.rounds c.args.given.table.now c.store_all_steps.new.all) (ap (λ (x : State). node_at x c.in_ok-monitor.monitor) home ∙ same) c.in_ok-store_all_steps-in-Good.ensures.steps),
+          subst (HasSteps c.args.given.dead.now c.args.given.rounds c.args.given.table.now c.store_all_steps.new.all) (ap (λ (x : State). node_at x c.in_ok-monitor.monitor) home ∙ same) c.in_ok-store_all_steps-in-Good.ensures.steps),
     )
 
 pub returns-in-Good-clause-new : goal.returns-in-Good-clause-new
@@ -30,7 +30,7 @@ returns-in-Good-clause-new c = λ kept at.
     let same = here_node c.args.machine.now c.stand_at.new.self c.args.all.now c.list.result.now c.list-2.result.now c.args.index c.index-list-index.result c.index-list-index-2.result kept c.in_ok-monitor.monitor c.list.ensures c.list-2.ensures c.in_ok-monitor.ensures c.stand_at.ensures at in
     let home = c.in_ok-judged.ensures.home in
     let base : SameBase c.args.machine.now c.judge.new.machine = record { component = ap (λ (x : State). x.component) (home ∙ c.stand_at.ensures); matrix_is = ap (λ (x : State). x.matrix) (home ∙ c.stand_at.ensures) } in
-    adds_here c.args.given.rounds c.args.given.table.now c.args.machine.now c.judge.new.machine c.args.index (node_at c.judge.new.machine c.in_ok-monitor.monitor) (node_of c.args.machine.now kept) c.args.all.now c.store_all_steps.new.all base
+    adds_here c.args.given.dead.now c.args.given.rounds c.args.given.table.now c.args.machine.now c.judge.new.machine c.args.index (node_at c.judge.new.machine c.in_ok-monitor.monitor) (node_of c.args.machine.now kept) c.args.all.now c.store_all_steps.new.all base
     (ap (λ (x : State). node_at x c.in_ok-monitor.monitor) home ∙ same) c.in_ok-store_all_steps-in-Good.ensures.new
 
 pub returns-in-Bad-clause-visit : goal.returns-in-Bad-clause-visit
