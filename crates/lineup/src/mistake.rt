@@ -170,7 +170,7 @@ pub fn mistake_in(alloc: Global, words: &[String]) -> Result<String, AllocError>
         Some(fault) => Ok(fault),
         None => String::from_str(
             alloc,
-            "these options do not go together; help: `lineup commands` says what each of them does",
+            "these options cannot be used together, or one needs another; help: `lineup commands` describes them",
         ),
     }
 }

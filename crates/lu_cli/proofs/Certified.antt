@@ -13,7 +13,7 @@ use Rattle.lu_cli.specs.Check.{IsChecked}
 
 pub certified_refused : (c : Component) (m : Matrix) (asked : CertifyOptions) (fault : CheckFault) → (asked.options.workers ≡ 1 → fault ≡ Memory) → IfSome (worker_answer fault) (IsCertified c m asked)
 certified_refused c m asked Memory alone = tt
-certified_refused c m asked Worker alone = inr (λ e. (let blamed = alone e in absurd cc), refl)
+certified_refused c m asked Worker alone = inr (inr (λ e. (let blamed = alone e in absurd cc), refl))
 
 pub check_refused : (c : Component) (m : Matrix) (choice : Options) (fault : CheckFault) → (choice.workers ≡ 1 → fault ≡ Memory) → IfSome (worker_answer fault) (IsChecked c m choice)
 check_refused c m choice Memory alone = tt

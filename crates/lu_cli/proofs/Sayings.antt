@@ -101,7 +101,8 @@ use Rattle.lu_report.specs.Limits.{Bounds}
 use Rattle.lu_cli.specs.declared.failing.RunView.{RunView}
 use Rattle.lu_cli.specs.declared.failing.RunView.TheVariants as run
 use Rattle.lu_cli.specs.Campaign.{IsCheckedPart, IsAnswerToTrial, IsCheckedWhole, IsCampaignOfMatrix, IsCertifiedPart, IsCertifiedNumbers, IsCountAnswer, IsCheckedNumbers, IsListsAnswer, IsSurveyedNumbers, IsSurveyedPart, ShowsCertified, ToAlike, ToLists, asked_with, found_answer, survey_status}
-use Rattle.lu_cli.specs.Certify.{IsCertified}
+use Rattle.lu_cli.specs.AtOnce.{IsCertifiedAtOnce, in_one_search}
+use Rattle.lu_cli.specs.Certify.{IsCertified, IsCertifiedByCuts}
 use Rattle.lu_cli.specs.Unrolled.{IsCertifiedUnrolled, ShowsBySchedule, ShowsVerdict}
 use Rattle.lu_cli.specs.declared.request.Repetition.{Repetition}
 use Rattle.lu_cli.specs.declared.request.Repetition.TheVariants.{Forever, UpTo}
@@ -258,10 +259,6 @@ by_view_else view how c (NotLinearizable cut r) answer is = go (shown_schedule r
     go None is = shown_else c (NotLinearizable cut r) answer is
     go (Some u) is = failing_else view how c cut r u answer is
 
-certified_else : (c : Component) (m : Matrix) (asked : CertifyOptions) (answer : Answer) → IsCertified c m asked answer → IsElse answer
-certified_else c m asked answer (inl is) = shown_else c is.0 answer is.2
-certified_else c m asked answer (inr is) = text_else answer 75 (ap (byte_of 8) is.1) (λ e. omega arith)
-
 by_schedule_else : (c : Component) (m : Matrix) (asked : CertifyOptions) (repetition : Repetition) (words : List ℕ) (u : List Move) (answer : Answer) → ShowsBySchedule c m asked repetition words u answer → IsElse answer
 by_schedule_else c m asked repetition words u answer (inl is) = shown_else c is.certificate answer is.shown
 by_schedule_else c m asked repetition words u answer (inr (inl is)) = status_else answer 1 (ap (λ (a : Answer). a.status) is) (λ e. omega arith)
@@ -278,6 +275,18 @@ unrolled_else : (c : Component) (m : Matrix) (asked : CertifyOptions) (repetitio
 unrolled_else c m asked Forever answer is = verdict_else c m asked Forever is.0 answer is.2
 unrolled_else c m asked (UpTo n) answer (inl is) = verdict_else c (times n m) asked (UpTo n) is.0 answer is.2
 unrolled_else c m asked (UpTo n) answer (inr is) = status_else answer 3 (ap (λ (a : Answer). a.status) is) (λ e. omega arith)
+
+at_once_else : (c : Component) (m : Matrix) (asked : CertifyOptions) (answer : Answer) → IsCertifiedAtOnce c m asked answer → IsElse answer
+at_once_else c m asked answer (inl is) = shown_else c (Linearizable is.1.0) answer is.1.2
+at_once_else c m asked answer (inr is) = verdict_else c m (in_one_search asked) (UpTo 1) is.1.0 answer is.1.2
+
+by_cuts_else : (c : Component) (m : Matrix) (asked : CertifyOptions) (answer : Answer) → IsCertifiedByCuts c m asked answer → IsElse answer
+by_cuts_else c m asked answer (inl is) = shown_else c is.0 answer is.2
+by_cuts_else c m asked answer (inr is) = text_else answer 75 (ap (byte_of 8) is.1) (λ e. omega arith)
+
+certified_else : (c : Component) (m : Matrix) (asked : CertifyOptions) (answer : Answer) → IsCertified c m asked answer → IsElse answer
+certified_else c m asked answer (inl is) = at_once_else c m asked answer is
+certified_else c m asked answer (inr is) = by_cuts_else c m asked answer is
 
 value_else : {Kind A : Type 0} (code : Kind → List ℕ) (r : Result A (Fault Kind)) (IsAnswer : A → Answer → Type 0) (answer : Answer) → ((x : A) → IsAnswer x answer → IsElse answer) → ToValue code r IsAnswer answer → IsElse answer
 value_else code (Ok x) IsAnswer answer h is = h x is

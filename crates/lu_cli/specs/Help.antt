@@ -98,16 +98,22 @@ option_rows = flat_map (λ row. option_line (option_said row))
 -- the text before the commands
 abbrev pub usage : Text
 usage =
-    codes "usage: lineup COMMAND [OPTION..] < BUNDLE\n"
+    codes "lineup finds faults in concurrent components, such as locks, queues and counters.\n\n"
+    ++ codes "usage: lineup COMMAND [OPTION..] < BUNDLE\n"
     ++ codes "A bundle has the parts listed here, in this order, separated by lines `---`.\n"
-    ++ codes "Exit status: 0 success, 1 failure, 2 refused, 3 undecided, 4 out of memory or a failed device.\n\n"
+    ++ codes "Exit status: 0 success, 1 failure, 2 refused, 3 undecided or a serial cut,\n"
+    ++ codes "4 out of memory or a failed device.\n\n"
 
 -- the text between the commands and the options
 abbrev pub notes : Text
 notes =
-    codes "explain, draw and trace also take a schedule in place of the report, or the output of certify in\n"
-    ++ codes "place of matrix and report. Given a component and a matrix alone, they certify and show what fails.\n"
-    ++ codes "They, lint and compile take a source in place of the component; other commands with --source.\n\n"
+    codes "\nexplain, draw and trace also take a schedule in place of the report, or the output\n"
+    ++ codes "of certify in place of matrix and report. Given a component and a matrix alone, they\n"
+    ++ codes "certify and show what fails.\n\n"
+    ++ codes "compile, explain, draw, trace and lint take a source in place of the component. The\n"
+    ++ codes "other commands do with --source.\n\n"
+    ++ codes "Options, each with its range, its default in parentheses, its meaning, and the\n"
+    ++ codes "commands that take it:\n\n"
 
 -- the help text of a table: a line for each command, and one for each option
 abbrev pub help_of : List TableCommand → List TableOption → Text

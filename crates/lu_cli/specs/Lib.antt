@@ -1,5 +1,6 @@
 pub mod Args
 pub mod Campaign
+pub mod AtOnce
 pub mod Certify
 pub mod Unrolled
 pub mod Check
@@ -17,6 +18,7 @@ pub mod Inputs
 pub mod Runs
 pub mod Witness
 pub mod Lint
+pub mod Local
 pub mod Outcomes
 pub mod Program
 pub mod Reading

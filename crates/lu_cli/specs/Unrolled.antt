@@ -17,7 +17,7 @@ use Rattle.lu_forever.specs.declared.certifying.RoundsVerdict.{RoundsVerdict}
 use Rattle.lu_forever.specs.declared.certifying.RoundsVerdict.TheVariants as verdicts
 use Rattle.lu_forever.specs.Certified.{IsRoundsVerdict}
 use Rattle.lu_grain.specs.Longer.{IsMadeWithin}
-use Rattle.lu_cli.specs.Certify.{certified_local}
+use Rattle.lu_cli.specs.Local.{certified_local}
 use Rattle.lu_cli.specs.Outcomes.{Answer}
 use Rattle.lu_cli.specs.Reading.{ToParts, ToTexts}
 use Rattle.lu_cli.specs.Shows.{ShowsCertificate, verdict}
@@ -70,7 +70,7 @@ no_verdict most = undecided_for (codes "no verdict within " ++ decimal most ++ c
 -- so many rounds make more calls than a matrix may have
 abbrev pub too_many_calls : ℕ → Answer
 too_many_calls n =
-    undecided_for (codes "a matrix may not have the calls of " ++ decimal n ++ codes " rounds\n")
+    undecided_for (decimal n ++ codes " rounds make more calls than a matrix may have\n")
 
 -- the certificate says that the matrix is not linearizable, or has a livelock
 abbrev pub IsAgainst : Certificate → Type 0
@@ -117,15 +117,16 @@ ShowsVerdict c matrix asked repetition verdicts.Offends answer =
 ShowsVerdict c matrix asked repetition verdicts.Undecided answer =
     answer ≡ no_verdict asked.nodes
 
--- the verdict on all matrices in which each thread makes its line of this one this often, and stops
--- anywhere
+-- the verdict on all matrices in which each thread makes its line of this one the number of times
+-- given by the repetition, and may stop before any call
 abbrev pub IsVerdictOn : Component → Matrix → CertifyOptions → Repetition → Answer → Type 0
 IsVerdictOn c matrix asked repetition answer =
-    (found : RoundsVerdict) × IsRoundsVerdict c (rounds_of repetition) matrix asked.options.serial found
+    (found : RoundsVerdict)
+    × IsRoundsVerdict c (rounds_of repetition) matrix asked.options.serial found
     × ShowsVerdict c matrix asked repetition found answer
 
--- The verdict on all matrices that are unrolled from this one. For a number of rounds it is that on one
--- round of the matrix with each line this many times, unless that is too large for a matrix.
+-- The verdict on all matrices that are unrolled from this one. For n rounds it is that on one round
+-- of the matrix in which each line is repeated n times, unless that is too large for a matrix.
 abbrev pub IsCertifiedUnrolled : Component → Matrix → CertifyOptions → Repetition → Answer → Type 0
 IsCertifiedUnrolled c matrix asked (UpTo n) answer =
     IsVerdictOn c (times n matrix) asked (UpTo n) answer ⊎ (answer ≡ too_many_calls n)

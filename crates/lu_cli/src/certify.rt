@@ -5,9 +5,10 @@ ghost use Rattle.lu_text.specs.Lines.{texts};
 ghost use Rattle.lu_component.specs.declared.component.TheConstants.{MOST_LOCAL};
 ghost use Rattle.lu_cli.specs.Refusals.{Answered};
 ghost use Rattle.lu_cli.specs.Certify as spec;
-ghost use Rattle.lu_cli.specs.Certify.{Certifies, CertifiesAlone};
+ghost use Rattle.lu_cli.specs.Certify.{Certifies};
 
 use crate::answer::{Answer, show_certificate};
+use crate::at_once::certify_at_once;
 use crate::refusal::Refusal;
 use crate::request::CertifyOptions;
 use crate::texts::read_texts;
@@ -17,7 +18,7 @@ use lu_grain::{certify_longer, certify_longer_with_progress};
 use lu_machine::Test;
 use lu_parallel::OpenGate;
 use lu_text::exactly_two;
-use std::alloc::{AllocError, Global};
+use std::alloc::Global;
 use std::sync::Wait;
 use std::thread::Threads;
 
@@ -30,7 +31,7 @@ pub(crate) fn certified_local(asked: CertifyOptions, component: &Component) -> u
     (asked.local.min(MOST_LOCAL as u16) as u8).max(component.local())
 }
 
-/// What the checks of all cuts of the matrix say.
+/// The certificate of the matrix, by one search of all cuts or by a search of each.
 fn certify_matrix<X: AllocGlobal + Threads + Wait, P: Progress>(
     rt: &X,
     progress: &P,
@@ -39,8 +40,11 @@ fn certify_matrix<X: AllocGlobal + Threads + Wait, P: Progress>(
 ) -> Result<Answer, Refusal>
     ensures { Certifies test.entry asked result }
 {
-    let local = certified_local(asked, test.component);
     let (alloc, options) = (rt.alloc(), asked.options);
+    if let Some(answer) = certify_at_once(alloc, test, asked)? {
+        return Ok(answer);
+    }
+    let local = certified_local(asked, test.component);
     let certificate = certify_longer_with_progress(
         rt,
         alloc,
@@ -73,19 +77,22 @@ pub(crate) fn answer_certify<X: AllocGlobal + Threads + Wait, P: Progress>(
     certify_matrix(rt, progress, test, asked)
 }
 
-/// What the checks of all cuts of the matrix say, made on the calling thread.
+/// The certificate of the matrix, made on the calling thread.
 fn certify_matrix_alone(
     alloc: Global,
     test: Test<'_>,
     asked: CertifyOptions,
-) -> Result<Answer, AllocError>
-    ensures { CertifiesAlone test.entry asked result }
+) -> Result<Answer, Refusal>
+    ensures { Certifies test.entry asked result }
 {
     let (options, nodes) = (asked.options, asked.nodes);
+    if let Some(answer) = certify_at_once(alloc, test, asked)? {
+        return Ok(answer);
+    }
     let local = certified_local(asked, test.component);
     let limits = Limits::of(options, nodes);
     let certificate = certify_longer(alloc, test.component, test.matrix, local, limits)?;
-    show_certificate(alloc, test.component, &certificate)
+    Ok(show_certificate(alloc, test.component, &certificate)?)
 }
 
 /// `lineup certify` on the calling thread: component and matrix.
@@ -102,5 +109,5 @@ pub(crate) fn answer_certify_alone(
         component: &case.component,
         matrix: &case.matrix,
     };
-    Ok(certify_matrix_alone(alloc, test, asked)?)
+    certify_matrix_alone(alloc, test, asked)
 }

@@ -13,18 +13,26 @@ use std::alloc::{AllocError, Global};
 
 /// The text before the commands.
 const USAGE: &str = "\
+lineup finds faults in concurrent components, such as locks, queues and counters.
+
 usage: lineup COMMAND [OPTION..] < BUNDLE
 A bundle has the parts listed here, in this order, separated by lines `---`.
-Exit status: 0 success, 1 failure, 2 refused, 3 undecided, 4 out of memory or a failed device.
+Exit status: 0 success, 1 failure, 2 refused, 3 undecided or a serial cut,
+4 out of memory or a failed device.
 
 ";
 
 /// The text between the commands and the options.
-const NOTES: &str = "\
-explain, draw and trace also take a schedule in place of the report, or the output of certify in
-place of matrix and report. Given a component and a matrix alone, they certify and show what \
-fails.
-They, lint and compile take a source in place of the component; other commands with --source.
+const NOTES: &str = "\n\
+explain, draw and trace also take a schedule in place of the report, or the output
+of certify in place of matrix and report. Given a component and a matrix alone, they
+certify and show what fails.
+
+compile, explain, draw, trace and lint take a source in place of the component. The
+other commands do with --source.
+
+Options, each with its range, its default in parentheses, its meaning, and the
+commands that take it:
 
 ";
 

@@ -4,6 +4,7 @@
 
 mod answer;
 mod args;
+mod at_once;
 mod campaign;
 mod campaign_against;
 mod certify;

@@ -50,19 +50,9 @@ pub struct OptionRow {
 
 static COMMANDS: [CommandRow; 16] = [
     CommandRow {
-        name: "compile",
-        parts: "source [more parts]",
-        words: "the component that a source compiles to, in its place",
-    },
-    CommandRow {
-        name: "lint",
-        parts: "component [matrix [more parts]]",
-        words: "all faults and warnings, in words",
-    },
-    CommandRow {
-        name: "serial",
+        name: "certify",
         parts: "component, matrix",
-        words: "the serial histories",
+        words: "whether it is linearizable, for schedules of any length",
     },
     CommandRow {
         name: "check",
@@ -70,9 +60,44 @@ static COMMANDS: [CommandRow; 16] = [
         words: "the report: pass, or the first fault within the bound",
     },
     CommandRow {
-        name: "certify",
+        name: "explain",
+        parts: "component, matrix, report",
+        words: "why no serial history explains the schedule",
+    },
+    CommandRow {
+        name: "trace",
+        parts: "component, matrix, report",
+        words: "what each move of the schedule does",
+    },
+    CommandRow {
+        name: "draw",
+        parts: "component, matrix, report",
+        words: "the schedule as a picture (SVG)",
+    },
+    CommandRow {
+        name: "replay",
+        parts: "component, matrix, schedule",
+        words: "the history of a schedule",
+    },
+    CommandRow {
+        name: "serial",
         parts: "component, matrix",
-        words: "whether it is linearizable, for schedules of any length",
+        words: "the serial histories",
+    },
+    CommandRow {
+        name: "lint",
+        parts: "component [matrix [more parts]]",
+        words: "all faults and warnings, in words",
+    },
+    CommandRow {
+        name: "shrink",
+        parts: "component, matrix",
+        words: "a smaller matrix that fails",
+    },
+    CommandRow {
+        name: "campaign",
+        parts: "component, matrix",
+        words: "the first small matrix over some calls that fails",
     },
     CommandRow {
         name: "witness",
@@ -85,44 +110,19 @@ static COMMANDS: [CommandRow; 16] = [
         words: "whether the component can produce recorded histories",
     },
     CommandRow {
-        name: "explain",
-        parts: "component, matrix, report",
-        words: "why no serial history fits",
-    },
-    CommandRow {
-        name: "draw",
-        parts: "component, matrix, report",
-        words: "the schedule as a picture (SVG)",
-    },
-    CommandRow {
-        name: "trace",
-        parts: "component, matrix, report",
-        words: "what each move of the schedule does",
-    },
-    CommandRow {
-        name: "replay",
-        parts: "component, matrix, schedule",
-        words: "the history of a schedule",
-    },
-    CommandRow {
-        name: "shrink",
-        parts: "component, matrix",
-        words: "a smaller matrix that fails",
-    },
-    CommandRow {
-        name: "campaign",
-        parts: "component, matrix",
-        words: "checks all small matrices over some calls",
-    },
-    CommandRow {
         name: "spec",
         parts: "component, matrix, specification",
         words: "a specification in its canonical form",
     },
     CommandRow {
         name: "refute",
-        parts: ".., report, specification",
+        parts: "component, matrix, report, spec",
         words: "a schedule that violates the specification",
+    },
+    CommandRow {
+        name: "compile",
+        parts: "source [more parts]",
+        words: "the component that a source compiles to",
     },
     CommandRow {
         name: "commands",
@@ -201,41 +201,6 @@ static OPTIONS: [OptionRow; 29] = [
         commands: &["campaign"],
     },
     OptionRow {
-        name: "workers",
-        letter: "W",
-        kind: Kind::Number { least: 1, most: 16 },
-        default: Some("1"),
-        words: "number of worker threads",
-        commands: &["check", "certify"],
-    },
-    OptionRow {
-        name: "depth",
-        letter: "D",
-        kind: Kind::Number { least: 0, most: 8 },
-        default: None,
-        words: "moves in each piece of work; by default one worker starts alone, and then 4",
-        commands: &["check", "certify"],
-    },
-    OptionRow {
-        name: "local",
-        letter: "L",
-        kind: Kind::Number { least: 0, most: 16 },
-        default: Some("0"),
-        words: "minimum number of local instructions that run with a move",
-        commands: &["certify"],
-    },
-    OptionRow {
-        name: "nodes",
-        letter: "N",
-        kind: Kind::Number {
-            least: 1,
-            most: 4_294_967_295,
-        },
-        default: Some("8388608"),
-        words: "maximum number of nodes in the graph of a cut, or with --rounds or --forever in all",
-        commands: &["certify"],
-    },
-    OptionRow {
         name: "rounds",
         letter: "N",
         kind: Kind::Number {
@@ -255,15 +220,39 @@ static OPTIONS: [OptionRow; 29] = [
         commands: &["certify"],
     },
     OptionRow {
-        name: "source",
-        letter: "",
-        kind: Kind::Flag,
+        name: "nodes",
+        letter: "N",
+        kind: Kind::Number {
+            least: 1,
+            most: 4_294_967_295,
+        },
+        default: Some("8388608"),
+        words: "maximum number of nodes of each cut; with --rounds or --forever, of the whole search",
+        commands: &["certify"],
+    },
+    OptionRow {
+        name: "local",
+        letter: "L",
+        kind: Kind::Number { least: 0, most: 16 },
+        default: Some("0"),
+        words: "minimum number of local instructions that run with a move",
+        commands: &["certify"],
+    },
+    OptionRow {
+        name: "workers",
+        letter: "W",
+        kind: Kind::Number { least: 1, most: 16 },
+        default: Some("1"),
+        words: "number of worker threads",
+        commands: &["check", "certify"],
+    },
+    OptionRow {
+        name: "depth",
+        letter: "D",
+        kind: Kind::Number { least: 0, most: 8 },
         default: None,
-        words: "the component may be a source",
-        commands: &[
-            "serial", "check", "certify", "witness", "conform", "replay", "shrink", "campaign",
-            "spec", "refute",
-        ],
+        words: "maximum number of moves in a piece of work; without --depth, one worker starts alone",
+        commands: &["check", "certify"],
     },
     OptionRow {
         name: "spec",
@@ -302,7 +291,7 @@ static OPTIONS: [OptionRow; 29] = [
         letter: "",
         kind: Kind::Flag,
         default: None,
-        words: "mark what explains the failure",
+        words: "number the calls that a serial history explains",
         commands: &["draw"],
     },
     OptionRow {
@@ -310,7 +299,7 @@ static OPTIONS: [OptionRow; 29] = [
         letter: "",
         kind: Kind::Flag,
         default: None,
-        words: "start with the setup",
+        words: "begin the trace with the setup",
         commands: &["trace"],
     },
     OptionRow {
@@ -334,7 +323,7 @@ static OPTIONS: [OptionRow; 29] = [
         letter: "",
         kind: Kind::Flag,
         default: None,
-        words: "each thread draws from its own line; not with --threads",
+        words: "each thread chooses from its own line of calls; not with --threads",
         commands: &["campaign"],
     },
     OptionRow {
@@ -342,7 +331,7 @@ static OPTIONS: [OptionRow; 29] = [
         letter: "I",
         kind: Kind::Long,
         default: Some("0"),
-        words: "number of the first matrix",
+        words: "number of the first matrix, counted from 0",
         commands: &["campaign"],
     },
     OptionRow {
@@ -350,7 +339,7 @@ static OPTIONS: [OptionRow; 29] = [
         letter: "J",
         kind: Kind::Long,
         default: Some("18446744073709551615"),
-        words: "number after the last matrix",
+        words: "number of the matrix after the last one",
         commands: &["campaign"],
     },
     OptionRow {
@@ -374,7 +363,7 @@ static OPTIONS: [OptionRow; 29] = [
         letter: "",
         kind: Kind::Flag,
         default: None,
-        words: "continue after a matrix that is not linearizable; with --certify",
+        words: "continue after a matrix that is not linearizable; only with --certify",
         commands: &["campaign"],
     },
     OptionRow {
@@ -384,6 +373,17 @@ static OPTIONS: [OptionRow; 29] = [
         default: None,
         words: "compare with a trusted component, the third part",
         commands: &["campaign"],
+    },
+    OptionRow {
+        name: "source",
+        letter: "",
+        kind: Kind::Flag,
+        default: None,
+        words: "the component may be a source",
+        commands: &[
+            "serial", "check", "certify", "witness", "conform", "replay", "shrink", "campaign",
+            "spec", "refute",
+        ],
     },
     OptionRow {
         name: "hints",

@@ -2,6 +2,8 @@
 
 ghost use Rattle.std.specs.Prelude.{◌≡◌, ◌↔◌, IfOk, IfSome, IsTrue, string_bytes, true};
 ghost use Rattle.lu_text.specs.Lines.{texts};
+ghost use Rattle.lu_machine.specs.Starts.{CanRun};
+ghost use Rattle.lu_report.specs.Limits.{IsSerialBound};
 ghost use Rattle.lu_cli.specs.Unrolled as spec;
 ghost use Rattle.lu_cli.specs.Unrolled.{CertifiesRounds, CertifiesUnrolled, IsAgainst, IsAnswerToCertifyUnrolled, ShowsUnrolled};
 ghost use Rattle.lu_test.specs.Schedule.{AreMoves, IsMove};
@@ -11,13 +13,16 @@ use crate::answer::{Answer, show_certificate, verdict};
 use crate::certify::certified_local;
 use crate::refusal::Refusal;
 use crate::request::{CertifyOptions, Repetition};
+use crate::serial::MOST_LISTED;
 use crate::texts::read_texts;
 use lu_answers::Rounds;
 use lu_certify::{Certificate, Limits};
+use lu_component::Component;
 use lu_forever::{RoundsVerdict, certify_rounds, unroll_for, with_rounds};
 use lu_grain::certify_longer;
 use lu_machine::Test;
-use lu_test::{Move, Schedule, write_schedule};
+use lu_serial_graph::{LearntGraph, learn_graph};
+use lu_test::{Matrix, Move, Schedule, write_schedule};
 use lu_text::exactly_two;
 use std::alloc::{AllocError, Global};
 
@@ -31,8 +36,25 @@ fn is_against(certificate: &Certificate) -> bool
     )
 }
 
-/// The certificate of the matrix whose calls are made in these moves, where it has a text, and where
-/// the certificate says that it is not linearizable or has a livelock.
+/// Whether a certificate of the matrix would have to list too many serial histories.
+fn has_too_many(
+    alloc: Global,
+    component: &Component,
+    matrix: &Matrix,
+    serial: u16,
+) -> Result<bool, AllocError>
+    requires of { CanRun component.now matrix.now }
+    requires few { IsSerialBound serial }
+{
+    match learn_graph(alloc, alloc, component, matrix, serial)? {
+        LearntGraph::Set(graph) => Ok(graph.member_count() > MOST_LISTED),
+        LearntGraph::Cut(_) => Ok(false),
+        LearntGraph::Conflict { .. } => Ok(false),
+    }
+}
+
+/// The certificate of the matrix whose calls are made in these moves, if it has a text and not too
+/// many serial histories, and if the certificate says that it is not linearizable or has a livelock.
 fn show_unrolled(
     alloc: Global,
     test: Test<'_>,
@@ -47,6 +69,9 @@ fn show_unrolled(
     let Some(matrix) = unroll_for(alloc, component, test.matrix, rounds, moves)? else {
         return Ok(None);
     };
+    if has_too_many(alloc, component, &matrix, asked.options.serial())? {
+        return Ok(None);
+    }
     let local = certified_local(asked, component);
     let limits = Limits::of(asked.options, asked.nodes);
     let certificate = certify_longer(alloc, component, &matrix, local, limits)?;
@@ -153,11 +178,11 @@ fn show_limit(alloc: Global, most: u32) -> Result<Answer, AllocError>
     verdict(alloc, "undecided", why.as_str(), 3)
 }
 
-/// That a matrix may not have the calls of this many rounds.
+/// That this many rounds make more calls than a matrix may have.
 fn show_too_many(alloc: Global, rounds: u16) -> Result<Answer, AllocError>
     ensures { IfOk result (λ answer. answer ≡ spec.too_many_calls rounds) }
 {
-    let why = format!(in alloc; "a matrix may not have the calls of {rounds} rounds\n")?;
+    let why = format!(in alloc; "{rounds} rounds make more calls than a matrix may have\n")?;
     verdict(alloc, "undecided", why.as_str(), 3)
 }
 
@@ -195,8 +220,9 @@ fn show_verdict(
     }
 }
 
-/// The verdict on all matrices in which each thread makes its line of this one this often.
-fn certify_all(
+/// The verdict on all matrices in which each thread makes its line of this one the number of times
+/// given by the repetition.
+pub(crate) fn certify_all(
     alloc: Global,
     test: Test<'_>,
     asked: CertifyOptions,

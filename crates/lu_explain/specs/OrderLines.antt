@@ -24,21 +24,23 @@ number_of Kind [] numbers = 0
 number_of Kind (e ∷ h) [] = 0
 number_of Kind (e ∷ h) (n ∷ numbers) = if Kind e then n else number_of Kind h numbers
 
--- `T1 pop stands before T0 push 5`
+-- `T1 pop comes before T0 push 5`
 abbrev pub stands_words : Component → Matrix → Precedence → List ℕ
 stands_words c matrix broken =
-    operation_words c matrix broken.second.t broken.second.k ++ codes " stands before "
+    operation_words c matrix broken.second.t broken.second.k ++ codes " comes before "
     ++ operation_words c matrix broken.first.t broken.first.k
 
--- `, which had returned (move 7)`: the first of both
+-- `, although the latter returned (move 7)`: the first of both
 abbrev pub returned_words : List Event → List ℕ → OpId → List ℕ
 returned_words h moves a =
-    codes ", which had returned (move " ++ decimal (number_of (is_return a) h moves) ++ codes ")"
+    codes ", although the latter returned (move " ++ decimal (number_of (is_return a) h moves)
+    ++ codes ")"
 
--- ` when it was called (move 14)`: the second of both
+-- ` before the former was called (move 14)`: the second of both
 abbrev pub called_words : List Event → List ℕ → OpId → List ℕ
 called_words h moves b =
-    codes " when it was called (move " ++ decimal (number_of (is_call b) h moves) ++ codes ")"
+    codes " before the former was called (move " ++ decimal (number_of (is_call b) h moves)
+    ++ codes ")"
 
 -- a precedence that an order breaks
 abbrev pub broken_line : Run → Precedence → List ℕ

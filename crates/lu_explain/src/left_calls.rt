@@ -41,7 +41,7 @@ pub(crate) fn blocker(history: &History, taken: &[u8; MOST_THREADS], b: OpId) ->
     }
 }
 
-/// The least outcome with which the serial histories below a place go on by the thread.
+/// The least outcome with which the serial histories below a place continue by the thread.
 fn outcome_of<T: SerialTree>(tree: &T, place: T::Place, t: u8) -> Option<SerialOutcome>
     requires { T.is_place tree.now place }
     ensures { TellsOutcome (IsMember (T.below tree.now place)) t result }
@@ -55,7 +55,7 @@ fn outcome_of<T: SerialTree>(tree: &T, place: T::Place, t: u8) -> Option<SerialO
     None
 }
 
-/// Why thread `t` does not go on after what was taken, which leads to the place; `None` where it
+/// Why thread `t` does not continue after what was taken, which leads to the place; `None` where it
 /// has no operation left.
 fn reason_not_next<T: SerialTree>(
     tree: &T,

@@ -58,7 +58,7 @@ fn called_at(a: OpId, events: &[Event], numbers: &[usize]) -> usize
     0
 }
 
-/// Adds which operation stands before which.
+/// Adds which operation comes before which.
 fn write_stands(
     text: &mut String,
     component: &Component,
@@ -70,7 +70,7 @@ fn write_stands(
 {
     let (first, second) = (broken.first, broken.second);
     write_operation(text, component, matrix, second.t, usize::from(second.k))?;
-    text.push_str(" stands before ")?;
+    text.push_str(" comes before ")?;
     write_operation(text, component, matrix, first.t, usize::from(first.k))
 }
 
@@ -83,7 +83,7 @@ fn write_returned(
 ) -> Result<(), AllocError>
     ensures { Writes result text.old text.new (spec.returned_words events.now moves.now a) }
 {
-    text.push_str(", which had returned (move ")?;
+    text.push_str(", although the latter returned (move ")?;
     write!(text, "{})", returned_at(a, events, moves))
 }
 
@@ -96,7 +96,7 @@ fn write_called(
 ) -> Result<(), AllocError>
     ensures { Writes result text.old text.new (spec.called_words events.now moves.now b) }
 {
-    text.push_str(" when it was called (move ")?;
+    text.push_str(" before the former was called (move ")?;
     write!(text, "{})", called_at(b, events, moves))
 }
 

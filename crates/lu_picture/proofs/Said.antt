@@ -187,11 +187,11 @@ swap_plain c f to w i expected desired n limits =
 
 goes_on_plain : (f : Frame) (place : ℕ) → IsPlain (goes_on_at Component f place)
 goes_on_plain f place =
-    plain_append (codes "goes on at ") (label_word place) refl (label_plain place)
+    plain_append (codes "jumps to ") (label_word place) refl (label_plain place)
 
 jump_plain : (f : Frame) (target n : ℕ) → IsPlain (jump_deed Component f target n)
 jump_plain f target n =
-    plain_if (n == 0) (goes_on_at Component f target) (codes "goes on") (goes_on_plain f target) refl
+    plain_if (n == 0) (goes_on_at Component f target) (codes "continues") (goes_on_plain f target) refl
 
 deed_plain : (s : State) (m : Move) (f : Frame) (instr : Instr) → IsComponent s.component → IsPlain (deed Component s m f instr)
 deed_plain s m f (Set to v) limits = becomes_plain f to (value_of f v)
@@ -249,7 +249,7 @@ steps_plain s m limits = by_thread (slice_get s.threads m.thread)
 owned_plain : (o : Option ℕ) → IsPlain (owned_by o)
 owned_plain None = refl
 owned_plain (Some t) =
-    plain_three (codes ", which thread ") (decimal t) (codes " has") refl (plain_decimal t) refl
+    plain_three (codes ", which thread ") (decimal t) (codes " holds") refl (plain_decimal t) refl
 
 present_plain : (o : Option ℕ) → IsPlain (present o)
 present_plain None = refl

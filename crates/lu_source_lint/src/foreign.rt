@@ -3,11 +3,14 @@
 use crate::meaning::word_is;
 
 /// Words of other languages.
-const FOREIGN: [(&str, &str); 30] = [
-    (";", "unexpected `;`; help: a statement ends with its line"),
+const FOREIGN: [(&str, &str); 33] = [
+    (
+        ";",
+        "unexpected `;`; help: remove it, since a statement ends with its line",
+    ),
     (
         ":",
-        "unexpected `:`; help: leave types out, every value is a number from 0 to 4294967295",
+        "unexpected `:`; help: leave types out, since every value is a number from 0 to 4294967295",
     ),
     (
         "%",
@@ -19,13 +22,16 @@ const FOREIGN: [(&str, &str); 30] = [
     ),
     (
         "&",
-        "`&` is not an operator of sources; help: `&&` is the logical one",
+        "`&` is not an operator of sources; help: `&&` is the logical operator",
     ),
     (
         "|",
-        "`|` is not an operator of sources; help: `||` is the logical one",
+        "`|` is not an operator of sources; help: `||` is the logical operator",
     ),
-    ("^", "`^` is not an operator of sources"),
+    (
+        "^",
+        "`^` is not an operator of sources; help: `!=` tells whether two numbers differ",
+    ),
     (
         "and",
         "`and` is not an operator of sources; help: write `&&`",
@@ -46,6 +52,9 @@ const FOREIGN: [(&str, &str); 30] = [
     ("mutex", "there is no `mutex`; help: declare `lock NAME`"),
     ("atomic", "there is no `atomic`; help: declare `word NAME`"),
     ("var", "there is no `var`; help: write `let NAME = EXPR`"),
+    ("int", "there is no `int`; help: write `let NAME = EXPR`"),
+    ("u32", "there is no `u32`; help: write `let NAME = EXPR`"),
+    ("bool", "there is no `bool`; help: write `let NAME = EXPR`"),
     ("for", "there is no `for` loop; help: write `while EXPR {`"),
     (
         "match",
@@ -104,13 +113,17 @@ const FOREIGN: [(&str, &str); 30] = [
 
 /// Two signs of other languages, side by side.
 const FOREIGN_PAIRS: [(&str, &str, &str); 10] = [
-    ("/", "/", "a comment begins with `#`, not with `//`"),
+    ("/", "/", "unexpected `//`; help: a comment begins with `#`"),
     (
         "<",
         "<",
         "`<<` is not an operator of sources; help: multiply by a power of two",
     ),
-    (">", ">", "`>>` is not an operator of sources"),
+    (
+        ">",
+        ">",
+        "`>>` is not an operator of sources; help: subtract in a loop",
+    ),
     (
         "+",
         "+",

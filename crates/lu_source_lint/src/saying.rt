@@ -138,7 +138,7 @@ fn no_lock_words(
         return Ok(None);
     }
     let (name, kind) = (shown(name), declared.words());
-    Ok(Some(format!(in alloc; "expected a lock, found {kind}: `{name}`")?))
+    Ok(Some(format!(in alloc; "expected a lock, found `{name}`, which is {kind}")?))
 }
 
 /// The name that is at fault in a line, where it can be found.
@@ -162,39 +162,49 @@ fn name_words(alloc: Global, scope: &Scope<'_>, words: &[&[u8]]) -> Result<Strin
         }
         _ => String::from_str(
             alloc,
-            "a name in this line is not declared, or is not what the line needs",
+            "a name on this line is not declared, perhaps because of a fault above, or cannot be used here",
         ),
     }
 }
 
 /// A word that begins a line, and how such a line looks.
-const FORMS: [(&str, &str); 17] = [
-    ("let", "`let NAME = EXPR`"),
+const FORMS: [(&str, &str); 18] = [
+    (
+        "let",
+        "`let NAME = EXPR` in an operation, where NAME is not a keyword",
+    ),
     ("const", "`const NAME = N` outside of operations"),
     (
         "word",
         "`word NAME`, `word NAME = N`, `word NAME[LEN]` or `word NAME[LEN] = N` outside of operations",
     ),
-    ("lock", "`lock NAME`"),
+    ("lock", "`lock NAME`, where NAME is not a keyword"),
     ("unlock", "`unlock NAME` in an operation"),
     ("local", "`local N`, once, before the first operation"),
     ("object", "`object NAME`, once, as the first line"),
     ("op", "`op NAME(A, B) {` outside of operations"),
-    ("if", "`if EXPR {`"),
-    ("while", "`while EXPR {`"),
-    ("loop", "`loop {`"),
+    ("if", "`if EXPR {` in an operation"),
+    ("while", "`while EXPR {` in an operation"),
+    ("loop", "`loop {` in an operation"),
     (
         "}",
-        "`}`, or after an `if` `} else {` or `} else if EXPR {`",
+        "`}` alone at the end of a block, or `} else {` or `} else if EXPR {` after an `if`",
     ),
     ("return", "`return` or `return EXPR` in an operation"),
-    ("await", "`await CELL == EXPR` or `await CELL != EXPR`"),
-    ("cas", "`cas(CELL, OLD, NEW)`"),
-    ("break", "`break` alone on its line"),
-    ("continue", "`continue` alone on its line"),
+    (
+        "await",
+        "`await CELL == EXPR` or `await CELL != EXPR` in an operation",
+    ),
+    ("cas", "`cas(CELL, OLD, NEW)` in an operation"),
+    (
+        "pick",
+        "`pick(K)` in an expression, as in `let k = pick(K)`",
+    ),
+    ("break", "`break` alone on its line, in a loop"),
+    ("continue", "`continue` alone on its line, in a loop"),
 ];
 
-/// A line that begins with `op` in an operation, or `else` without `}`, or that goes on after the `{`
+/// A line that begins with `op` in an operation, or `else` without `}`, or that continues after the `{`
 /// of its block.
 fn block_words(
     alloc: Global,
@@ -204,13 +214,13 @@ fn block_words(
     if word_is(words, 0, b"op") {
         return Ok(match scope.unclosed() {
             Some(line) => Some(format!(in alloc;
-                "`op` in an operation; help: add a `}}` for the `{{` of line {line}"
+                "`op` is not allowed in an operation; help: add a `}}` for the `{{` of line {line}"
             )?),
             None => None,
         });
     }
     if word_is(words, 0, b"else") {
-        let said = "expected `}` before `else`; help: write `} else {` in one line";
+        let said = "expected `}` before `else`; help: write `} else {` on one line";
         return Ok(Some(String::from_str(alloc, said)?));
     }
     let tests = word_is(words, 0, b"if") || word_is(words, 0, b"while") || word_is(words, 2, b"if");
@@ -226,7 +236,7 @@ fn block_words(
         Some(next) => {
             let next = shown(next);
             Ok(Some(format!(in alloc;
-                "expected the end of the line after `{{`, found `{next}`; help: write each statement, and the `}}`, in a line of its own"
+                "expected the end of the line after `{{`, found `{next}`; help: write each statement, and the `}}`, on a line of its own"
             )?))
         }
         None => Ok(None),
@@ -254,7 +264,7 @@ fn form_words(alloc: Global, scope: &Scope<'_>, words: &[&[u8]]) -> Result<Strin
         (None, Some(first)) => {
             let first = shown(first);
             format!(in alloc;
-                "expected a statement, as `NAME = EXPR`, or a declaration, found `{first}`"
+                "expected a statement, such as `NAME = EXPR`, or a declaration, found `{first}`"
             )
         }
         (None, None) => String::from_str(alloc, "expected a statement or a declaration"),
@@ -285,9 +295,9 @@ fn number_words(alloc: Global, words: &[&[u8]]) -> Result<String, AllocError> {
 /// The limit that a line passes, by its first word.
 fn limit_words(words: &[&[u8]]) -> &'static str {
     if words.len() > 256 {
-        "too many words in this line; at most 256 are allowed"
+        "too many words on this line; at most 256 are allowed"
     } else if nesting(words) > MOST_NESTING {
-        "too many operators, `(` and `[` in this line; at most 64 are allowed; help: keep a part in a local"
+        "too many operators, `(` and `[` on this line; at most 64 are allowed; help: store a part in a local"
     } else if word_is(words, 0, b"word") {
         "too many shared words (at most 16), an array length out of range (1 to 64), or a name over 32 bytes"
     } else if word_is(words, 0, b"lock") {
@@ -297,9 +307,9 @@ fn limit_words(words: &[&[u8]]) -> &'static str {
     } else if word_is(words, 0, b"op") {
         "too many operations (at most 16) or arguments (at most 4), or a name over 32 bytes"
     } else if word_is(words, 0, b"}") {
-        "this operation needs more than 64 instructions; help: split it, or leave something out"
+        "this operation needs more than 64 instructions; help: split it into two operations, or simplify it"
     } else {
-        "limit exceeded: `pick` takes 1 to 8, blocks nest 16 deep, an operation has 256 lines, and a name has 32 bytes"
+        "a limit is exceeded: 1 to 8 for `pick`, at most 16 nested blocks, 256 lines in an operation and 32 bytes in a name"
     }
 }
 
@@ -310,7 +320,7 @@ fn flow_words(words: &[&[u8]]) -> &'static str {
     } else if word_is(words, 0, b"await") {
         "`await` may read only its own cell; help: read other cells into locals first"
     } else {
-        "unreachable statement; a `return`, `break`, `continue` or a loop without `break` comes before it in its block"
+        "unreachable statement; a `return`, `break`, `continue` or loop without `break` precedes it in its block"
     }
 }
 
@@ -323,13 +333,13 @@ fn fault_words(
 ) -> Result<String, AllocError> {
     let text = match kind {
         SourceFaultKind::Byte =>
-            "invalid byte; only printable ASCII, tabs and carriage returns are allowed, also in comments",
+            "invalid byte; only printable ASCII, tabs and carriage returns are allowed, even in comments",
         SourceFaultKind::Missing => "expected `object NAME` first",
         SourceFaultKind::Form => return form_words(alloc, scope, words),
         SourceFaultKind::Number => return number_words(alloc, words),
         SourceFaultKind::Limit => limit_words(words),
         SourceFaultKind::Registers =>
-            "too many registers: the locals in scope and intermediate results need more than 8; help: end a block earlier, or split the line",
+            "too many registers: the locals in scope and intermediate results need more than 8; help: declare locals in smaller blocks, or split the line",
         SourceFaultKind::Flow => flow_words(words),
         SourceFaultKind::Name => return name_words(alloc, scope, words),
     };
@@ -344,7 +354,7 @@ fn warning_words(alloc: Global, warning: Warning, words: &[&[u8]]) -> Result<Str
         Warning::UnusedWord => { format!(in alloc; "shared word `{name}` is never read") }
         Warning::EndlessLoop => String::from_str(
             alloc,
-            "this loop never ends, and no other thread sees it; help: it has no `break`, no `return`, no lock and no shared word",
+            "this loop never ends, and no other thread sees it: it has no `break`, `return`, lock or shared word",
         ),
     }
 }

@@ -100,7 +100,7 @@ unlock_deed s t l = if owns s t l then lock_word s.component l ++ codes " is fre
 -- the jump is taken where the value is 0
 abbrev pub jump_deed : Wording → Frame → ℕ → ℕ → List ℕ
 jump_deed how f target n =
-    if n == 0 then goes_on_at how f target else codes "goes on"
+    if n == 0 then goes_on_at how f target else codes "continues"
 
 -- By the move m the instruction of the operation f does this, in the state s before it.
 abbrev pub deed : Wording → State → Move → Frame → Instr → List ℕ
@@ -126,7 +126,7 @@ deed how s m f (Return v) = codes "ret " ++ decimal (value_of f v)
 
 abbrev pub owned_by : Option ℕ → List ℕ
 owned_by None = []
-owned_by (Some t) = codes ", which thread " ++ decimal t ++ codes " has"
+owned_by (Some t) = codes ", which thread " ++ decimal t ++ codes " holds"
 
 abbrev pub present : Option ℕ → List ℕ
 present None = []

@@ -55,10 +55,10 @@ target_name (Labelled labels) f place = Some (place_word labels.now f.op place)
 target_name (Source lines origins) f place =
     option_map (λ origin. codes "line " ++ decimal origin.line) (origin_in origins.now f.op place)
 
--- `goes on at L3`, and `goes on` to what has no name
+-- `jumps to L3`, and `continues` where what is next has no name
 abbrev pub goes_on_to : Option (List ℕ) → List ℕ
-goes_on_to None = codes "goes on"
-goes_on_to (Some target) = codes "goes on at " ++ target
+goes_on_to None = codes "continues"
+goes_on_to (Some target) = codes "jumps to " ++ target
 
 -- the jump leads to this place
 abbrev pub goes_on_at : Wording → Frame → ℕ → List ℕ

@@ -211,7 +211,7 @@ fn write_jump_if_zero(
     if value == 0 {
         write_jump(text, how, frame, target)
     } else {
-        text.push_str("goes on")
+        text.push_str("continues")
     }
 }
 

@@ -73,7 +73,7 @@ fn write_move(
 ///    1 T0 line 7: let head = top  # head = 0
 ///    2 T0 line 8: next[node] = head  # next[1] = 0
 ///    3 T0 line 9: if cas(top, head, node) {  # top = 1
-///         T0 line 9: if cas(top, head, node) {  # goes on
+///         T0 line 9: if cas(top, head, node) {  # continues
 /// ```
 ///
 /// # Errors

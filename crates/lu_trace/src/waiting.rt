@@ -16,13 +16,13 @@ use lu_lang::lock_name;
 use lu_machine::{Activity, Frame, Machine};
 use std::alloc::{AllocError, Global};
 
-/// Adds which thread has a lock, if one has it.
+/// Adds which thread holds a lock, if one does.
 fn write_owner(text: &mut String, owner: Option<u8>) -> Result<(), AllocError>
     ensures { Writes result text.old text.new (words.owned_by owner) }
 {
     match owner {
         None => Ok(()),
-        Some(thread) => write!(text, ", which thread {thread} has"),
+        Some(thread) => write!(text, ", which thread {thread} holds"),
     }
 }
 

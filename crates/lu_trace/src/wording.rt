@@ -119,14 +119,14 @@ pub(crate) fn write_jump(
         (goes_on_at how.now frame.now target) }
 {
     match *how {
-        Wording::Component => write!(text, "goes on at L{target}"),
+        Wording::Component => write!(text, "jumps to L{target}"),
         Wording::Labelled(labels) => {
-            text.push_str("goes on at ")?;
+            text.push_str("jumps to ")?;
             write_place(text, labels, frame.op, target)
         }
         Wording::Source { origins, .. } => match origin_in(origins, frame.op, target) {
-            None => text.push_str("goes on"),
-            Some(origin) => write!(text, "goes on at line {}", origin.line),
+            None => text.push_str("continues"),
+            Some(origin) => write!(text, "jumps to line {}", origin.line),
         },
     }
 }

@@ -52,7 +52,7 @@ pub(crate) fn unknown_byte(alloc: Global, text: &[u8]) -> Result<String, AllocEr
         Some(before) => {
             let byte = text[before];
             format!(in alloc;
-                "invalid byte {byte} after {before} bytes of the line; only printable ASCII, tabs and carriage returns are allowed, also in comments"
+                "invalid byte {byte} after {before} bytes of the line; only printable ASCII, tabs and carriage returns are allowed, even in comments"
             )
         }
     }
@@ -87,7 +87,7 @@ fn form_declaration(
     if shape.word == "component" && draft.name.is_some() {
         return String::from_str(
             alloc,
-            "`component` is given twice; the component already has a name",
+            "`component` is given twice; a text has one component",
         );
     }
     if rest.len() != shape.count {
@@ -135,7 +135,7 @@ fn no_instruction(alloc: Global, op: &OpenOp, word: &[u8]) -> Result<String, All
     if declaration(word).is_some() {
         let name = op.name.as_str();
         return format!(in alloc;
-            "`{said}` is not allowed inside operation `{name}`; help: close it with `end`"
+            "`{said}` is not allowed inside operation `{name}`; help: close the operation with `end`"
         );
     }
     let slip = Slip {
@@ -304,7 +304,7 @@ fn limit_inside(alloc: Global, op: &OpenOp) -> Result<String, AllocError> {
         let name = op.name.as_str();
         return format!(in alloc; "too many instructions in `{name}`; an operation has at most 64");
     }
-    String::from_str(alloc, "number of choices is out of range (1 to 8)")
+    String::from_str(alloc, "the number after `pick` is out of range (1 to 8)")
 }
 
 /// Whether a word is a name with too many bytes, or the label of one.
@@ -423,7 +423,7 @@ fn after_label<'a, 'b>(
 fn comma(alloc: Global, word: &[u8]) -> Result<String, AllocError> {
     let word = shown(word);
     format!(in alloc;
-        "unexpected punctuation at the end of `{word}`; help: separate words with spaces alone"
+        "unexpected punctuation at the end of `{word}`; help: separate words only by spaces"
     )
 }
 
@@ -578,7 +578,7 @@ pub(crate) fn end_wording(alloc: Global, draft: &ComponentDraft) -> Result<Strin
         }
         None => String::from_str(
             alloc,
-            "no component found; help: begin with `component NAME`",
+            "no component found; help: begin with `component NAME` or `object NAME`",
         ),
     }
 }

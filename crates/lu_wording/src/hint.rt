@@ -9,13 +9,13 @@ use std::str;
 fn meaning_of_case(code: &str) -> Option<&'static str> {
     Some(match code {
         "L1" | "M1" | "H1" | "O1" => "invalid byte; only ASCII, tabs and line ends are allowed",
-        "L2" => "this is not a line of a component",
-        "L3" => "a name that is not declared, or is declared twice",
+        "L2" => "not a line of a component; `lineup lint` says what was expected",
+        "L3" => "a name that is declared twice or not at all; `lineup lint` says which",
         "L4" | "M5" | "C2" | "H3" => "not a number, or a number that is too large",
-        "L5" => "the component is too large (docs/LANGUAGE.md, Limits)",
+        "L5" => "a limit is exceeded (docs/LANGUAGE.md, Limits); `lineup lint` says which",
         "L6" => "an operation must end with `return` or `jump`",
         "L7" => "expected `component` first, and `end` after each operation",
-        "M2" => "expected `setup` or `thread`, and calls separated by `;`",
+        "M2" => "expected `thread` or, on the first line, `setup`, and calls separated by `;`",
         "M3" => "the component has no such operation",
         "M4" => "wrong number of arguments",
         "M6" => "no thread, or too many threads or calls",
@@ -48,10 +48,11 @@ fn meaning_of_finding(code: &str) -> Option<&'static str> {
 /// The meaning of a refusal of a source.
 fn meaning_of_source(code: &str) -> Option<&'static str> {
     Some(match code {
-        "O2" => "unexpected word or sign (docs/SOURCE.md)",
-        "O3" => "a name that is already taken, or that is not declared",
+        "O2" => "unexpected word or sign; `lineup lint` says what was expected (docs/SOURCE.md)",
+        "O3" =>
+            "a name that is declared twice or not at all, or is not what the line needs; `lineup lint` says which",
         "O4" => "expected a number or a constant",
-        "O5" => "the source is too large (docs/SOURCE.md, Refusals)",
+        "O5" => "a limit is exceeded (docs/SOURCE.md, Refusals); `lineup lint` says which",
         "O6" =>
             "unreachable statement, a `break` or `continue` outside of a loop, or an `await` that reads more than its cell",
         "O7" => "expected `object` first, and `}` after each operation",
@@ -66,13 +67,14 @@ fn meaning_of_request(code: &str) -> Option<&'static str> {
         "command" =>
             "these words are not a command; `lineup commands` lists the commands and their options",
         "B1" =>
-            "wrong number of parts; parts are separated by lines that are exactly `---`, without a carriage return",
+            "wrong number of parts; `lineup commands` lists the parts of each command, and lines that are exactly `---`, without a carriage return, separate them",
         "B2" => "the input is longer than 1,048,576 bytes",
         "B3" => "a part after the source is not UTF-8",
-        "F2" => "the report is not a failure, or a run does not show it",
+        "F2" => "the report is not a failure, or a run of its schedule does not confirm it",
         "U1" => "this call of the setup does not end",
-        "G2" => "a campaign takes one thread that lists 1 to 8 calls",
-        "G3" => "a matrix of this campaign has more than 16 calls",
+        "G2" =>
+            "a campaign takes one `thread` line with 1 to 8 calls, or with `--by-thread` one for each thread",
+        "G3" => "the matrices of this campaign have more than 16 calls",
         "G4" => "the trusted component has other operations, or has them in another order",
         _ => return None,
     })

@@ -39,7 +39,7 @@ pub(crate) fn recorded_wording(
         }
         RecordedFaultKind::Order => String::from_str(
             alloc,
-            "out of order; a thread makes its calls in order, and each returns before the next",
+            "out of order; a thread makes its calls in order, and each call returns before the next one",
         ),
     }
 }

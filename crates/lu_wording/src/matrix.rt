@@ -47,12 +47,15 @@ fn form(
 ) -> Result<String, AllocError> {
     let setup = first == b"setup".as_slice();
     if setup && (draft.setup.is_some() || !draft.threads.is_empty()) {
-        return String::from_str(alloc, "`setup` must be the first line, and the only one");
+        return String::from_str(
+            alloc,
+            "`setup` may appear only once, as the first line of the matrix",
+        );
     }
     if is_empty || setup || first == b"thread".as_slice() {
         return String::from_str(
             alloc,
-            "empty call next to `;`; help: `;` separates calls, and does not end them",
+            "empty call next to `;`; help: `;` separates two calls, and does not end a call",
         );
     }
     let slip = Slip {
@@ -60,7 +63,7 @@ fn form(
     };
     let first = shown(first);
     format!(in alloc;
-        "expected `thread CALL; CALL ..` or, as the first line, `setup CALL; ..`, found `{first}`{slip}"
+        "expected `thread CALL; CALL ..`, or on the first line `setup CALL; CALL ..`, found `{first}`{slip}"
     )
 }
 

@@ -39,7 +39,7 @@ fn write_after(
     ops: &[SerialOp],
 ) -> Result<(), AllocError> {
     if ops.is_empty() {
-        return text.push_str(" when it is called first");
+        return text.push_str(" when it is the first call");
     }
     text.push_str(" after ")?;
     for (position, op) in ops.iter().enumerate() {

@@ -101,12 +101,12 @@ pub(crate) fn move_wording(
         if is_number(thread) {
             let thread = printed(thread, "T");
             return format!(in alloc;
-                "pick 0 is left out; help: write `{thread}` instead of `{said}`"
+                "invalid move `{said}`; help: write `{thread}`, since a pick of 0 is left out"
             );
         }
     }
     format!(in alloc;
-        "invalid move `{said}`; help: write a thread, as `1`, or a thread and a pick, as `1:2`"
+        "invalid move `{said}`; help: write a thread, such as `1`, or a thread and a pick, such as `1:2`"
     )
 }
 
@@ -222,7 +222,7 @@ fn entries_wording(alloc: Global, entries: &[u8]) -> Result<String, AllocError> 
     }
     String::from_str(
         alloc,
-        "history is out of order, or begins with the one before it; help: `lineup spec` puts histories in order",
+        "history is out of order, or the previous history is a prefix of it; help: `lineup spec` puts histories in order",
     )
 }
 
@@ -294,7 +294,7 @@ fn free_wording(
         SpecFaultKind::Foreign => foreign_wording(alloc, matrix),
         SpecFaultKind::Nondeterministic => String::from_str(
             alloc,
-            "conflict with an earlier history: after the same entries the same thread ends differently, and neither entry has the mark `?`",
+            "conflict with an earlier history: after the same entries, the same call has another outcome, and neither has the mark `?`",
         ),
     }
 }
@@ -332,7 +332,7 @@ pub(crate) fn specification_wording(
         SpecFaultKind::Foreign => foreign_wording(alloc, matrix),
         SpecFaultKind::Nondeterministic => String::from_str(
             alloc,
-            "conflict with an earlier history: after the same entries the same thread ends differently",
+            "conflict with an earlier history: after the same entries, the same call has another outcome",
         ),
     }
 }

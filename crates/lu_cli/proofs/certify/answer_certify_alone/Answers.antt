@@ -1,4 +1,4 @@
-use Rattle.std.proofs.Common.{◌≡◌, Ok, Some, rules}
+use Rattle.std.proofs.Common.{◌≡◌, Some, rules}
 use Rattle.std.proofs.lemmas.Result.{err_from_is_err_and}
 use Rattle.lu_text.specs.Lines.{texts}
 use Rattle.lu_text.specs.Words.{exactly_two}
@@ -20,4 +20,4 @@ returns c =
     let parts : exactly_two (texts c.args.parts.now) ≡ Some (p.component.now, p.matrix.now) = search rules in
     rw parts
     (texts_answered p.component.now p.matrix.now read.case.component read.case.matrix (λ d m. IsCertified d m c.args.asked)
-    read.ensures.read (Ok c.in_ok-certify_matrix_alone.field-0) c.in_ok-certify_matrix_alone.ensures)
+    read.ensures.read c.certify_matrix_alone.result c.certify_matrix_alone.ensures)

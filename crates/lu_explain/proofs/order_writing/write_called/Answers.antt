@@ -13,4 +13,4 @@ returns c =
     let new = string_bytes c.write.new.self in
     let number = number_of (is_call c.args.b) c.args.events.now c.args.moves.now in
     let wrote : OnOk c.write.result (new ≡ mid ++ (decimal number ++ codes ")")) = search rules in
-    on_ok_weaker c.write.result (λ more. two_pieces (codes " when it was called (move ") (decimal number ++ codes ")") old mid new c.in_ok-push_str.ensures.bytes more) wrote
+    on_ok_weaker c.write.result (λ more. two_pieces (codes " before the former was called (move ") (decimal number ++ codes ")") old mid new c.in_ok-push_str.ensures.bytes more) wrote

@@ -14,4 +14,4 @@ returns c =
     let new = string_bytes c.write.new.self in
     let number = number_of (is_return c.args.a) c.args.events.now c.args.moves.now in
     let wrote : OnOk c.write.result (new ≡ mid ++ (decimal number ++ codes ")")) = search rules in
-    on_ok_weaker c.write.result (λ more. two_pieces (codes ", which had returned (move ") (decimal number ++ codes ")") old mid new c.in_ok-push_str.ensures.bytes more) wrote
+    on_ok_weaker c.write.result (λ more. two_pieces (codes ", although the latter returned (move ") (decimal number ++ codes ")") old mid new c.in_ok-push_str.ensures.bytes more) wrote

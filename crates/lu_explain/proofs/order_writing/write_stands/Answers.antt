@@ -16,5 +16,5 @@ returns c =
     let new = string_bytes c.write_operation-2.new.text in
     let wrote = subst (λ k. one ≡ old ++ operation_words component matrix second.t k) c.from.ensures c.in_ok-write_operation.ensures in
     on_ok_weaker c.write_operation-2.result
-    (λ more. three_pieces (operation_words component matrix second.t second.k) (codes " stands before ") (operation_words component matrix first.t first.k) old one two new wrote c.in_ok-push_str.ensures.bytes (subst (λ k. new ≡ two ++ operation_words component matrix first.t k) c.from-2.ensures more))
+    (λ more. three_pieces (operation_words component matrix second.t second.k) (codes " comes before ") (operation_words component matrix first.t first.k) old one two new wrote c.in_ok-push_str.ensures.bytes (subst (λ k. new ≡ two ++ operation_words component matrix first.t k) c.from-2.ensures more))
     c.write_operation-2.ensures
