@@ -38,9 +38,9 @@ pub record HasTooMany (c : Component) (matrix : Matrix) (serial : ℕ) : Type 0 
   pub has : HasHistories start serial count
   pub many : MOST_LISTED < count
 
--- with an eighth of the nodes: one of this search takes as much memory as eight of a cut
+-- with a 32nd of the nodes: each takes as much memory as some 10 to 80 nodes of a cut
 abbrev pub in_one_search : CertifyOptions → CertifyOptions
-in_one_search asked = record asked { nodes = asked.nodes / 8 }
+in_one_search asked = record asked { nodes = asked.nodes / 32 }
 
 -- All cuts are clear, and the prefixes of the serial histories are listed. Or there are too many serial
 -- histories, and the answer is the verdict on one round.
