@@ -38,7 +38,7 @@ pub record HasTooMany (c : Component) (matrix : Matrix) (serial : ℕ) : Type 0 
   pub has : HasHistories start serial count
   pub many : MOST_LISTED < count
 
--- with a 32nd of the nodes: each takes as much memory as some 10 to 80 nodes of a cut
+-- with a 32nd of the nodes: a node of this search takes far more memory than one of a cut
 abbrev pub in_one_search : CertifyOptions → CertifyOptions
 in_one_search asked = record asked { nodes = asked.nodes / 32 }
 

@@ -19,7 +19,7 @@ use lu_serial_graph::{SerialGraph, learn_graph};
 use lu_spec::Spec;
 use std::alloc::{AllocError, Global};
 
-/// The options of this search, in which a node takes as much memory as some 10 to 80 nodes of a cut.
+/// The options of this search, in which a node takes far more memory than one of a cut.
 fn in_one_search(asked: CertifyOptions) -> CertifyOptions
     ensures { result ≡ spec.in_one_search asked }
 {
