@@ -10,7 +10,8 @@ use Rattle.lu_always.specs.Searching.{moves_of}
 
 -- the arrival of the node at this index; none for the first node
 abbrev pub arrival_at : List StoredNode → ℕ → Option Arrival
-arrival_at list index = option_and_then (λ (stored : StoredNode). stored.arrival) (slice_get list index)
+arrival_at list index =
+    option_and_then (λ (stored : StoredNode). stored.arrival) (slice_get list index)
 
 -- each node was reached from one before it
 abbrev pub HasParentsBefore : List StoredNode → Type 0
