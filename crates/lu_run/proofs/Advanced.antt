@@ -24,8 +24,9 @@ use Rattle.lu_run.specs.declared.run.RunEvent.{RunEvent}
 use Rattle.lu_run.specs.declared.run.RunEvent.TheVariants.{Call as Calls, Return as Back}
 use Rattle.lu_run.specs.declared.table.Table.{Table}
 use Rattle.lu_run.specs.Tables.{Grows, IsTable, recorded}
-use Rattle.lu_run.specs.Following.{AllKnown, AreAnswered, AreSeated, HasAnswer, HasStates, NextState, asked, question_of}
-use Rattle.lu_run.specs.Judging.{IsFollowed, call_of}
+use Rattle.lu_run.specs.Following.{AllKnown, AreAnswered, AreSeated, HasAnswer, HasStates, asked, question_of}
+use Rattle.lu_run.specs.Foreseeing.{NextAllowed, next_return}
+use Rattle.lu_run.specs.Judging.{IsForeseen, call_of}
 use Rattle.lu_run.specs.Runs.{IsRun, history_of, matrix_of, next_event}
 use Rattle.lu_run.proofs.Automated.{automaton}
 use Rattle.lu_run.proofs.Followed.{followed_call, followed_return}
@@ -83,17 +84,32 @@ module _ (before : List (Option ThreadCall)) (t : ℕ) (long : length before ≡
     | inr apart ↦ other v u (λ e. apart.1 (sym e)) ∙ (was u ∙ sym (law u ∙ ap (λ b. if b then v else old u) apart.0))
   ]
 
+-- what the pending calls return, with that of the new call
+told_now : (before : List (Option ThreadCall)) (were : List (Option SerialOutcome)) (t : ℕ) → length before ≡ 8 → length were ≡ 8 → t < 8 → (n : ℕ) (seen : List RunEvent) → ((u : ℕ) (x : ThreadCall) → by_thread before u ≡ Some x → by_thread were u ≡ next_return u seen)
+    → (u : ℕ) (x : ThreadCall) → by_thread (set before t (Some (record { thread = t; call = n }))) u ≡ Some x → by_thread (set were t (next_return t seen)) u ≡ next_return u seen
+told_now before were t long short seat n seen was u x at = elim (eqb_tells t u) as (λ _. by_thread (set were t (next_return t seen)) u ≡ next_return u seen) [
+  | inl here ↦ subst (λ v. by_thread (set were t (next_return t seen)) v ≡ next_return v seen) here.1 (get_or-set_same were t (next_return t seen) None (omega (arith, short, seat)))
+  | inr apart ↦
+      (let ne : u ≢ t = (λ e. apart.1 (sym e)) in
+      get_or-set_other were t u (next_return t seen) None ne ∙ was u x (sym (get_or-set_other before t u (Some (record { thread = t; call = n })) None ne) ∙ at))
+]
+
 -- ---- one event more
 
 module _ (c : Component) (setup calls : List ACall) (events done more : List RunEvent) (s : State) (start : IsStart c (matrix_of setup calls events) s) (run : IsRun calls events) where
   pub one_more : (e : RunEvent) → events ≡ done ++ e ∷ more → HasSequentialThreads (history_of done ++ next_event (history_of done) e ∷ [])
   one_more e is = subst HasSequentialThreads (history_push [] done e) (sequential_front (done ++ e ∷ []) more (subst (λ x. HasSequentialThreads (history_of x)) (is ∙ sym (append_assoc done (e ∷ []) more)) run.sequential))
 
-  pub advanced_call : (t n : ℕ) (old new : Table) (before pending : List (Option ThreadCall)) (list closure : List Kept) → events ≡ done ++ Calls t n ∷ more → IsFollowed c s calls events old before list (history_of done) → IsTable c calls new → Grows old new
-      → pending ≡ set before t (Some (record { thread = t; call = n })) → length before ≡ 8 → t < 8 → n < length calls → AreClosed (NextState new) (by_thread pending) t list closure → AreAnswered new (by_thread pending) closure → IsFollowed c s calls events new pending closure (history_of (done ++ Calls t n ∷ []))
-  advanced_call t n old new before pending list closure is was table grows makes long seat within closed known =
+  -- with what comes after the events that are foreseen
+  parts : (e : RunEvent) (seen rest : List RunEvent) → events ≡ (done ++ e ∷ seen) ++ rest → more ≡ seen ++ rest → events ≡ done ++ e ∷ more
+  parts e seen rest is all = is ∙ (append_assoc done (e ∷ seen) rest ∙ ap (λ x. done ++ e ∷ x) (sym all))
+
+  pub advanced_call : (t n : ℕ) (seen rest : List RunEvent) (old new : Table) (before pending : List (Option ThreadCall)) (were returns : List (Option SerialOutcome)) (list closure : List Kept) → events ≡ (done ++ Calls t n ∷ seen) ++ rest → more ≡ seen ++ rest → IsForeseen c s calls events old before were list (history_of done) (Calls t n ∷ seen) → IsTable c calls new → Grows old new
+      → pending ≡ set before t (Some (record { thread = t; call = n })) → returns ≡ set were t (next_return t seen) → length before ≡ 8 → length were ≡ 8 → t < 8 → n < length calls → AreClosed (NextAllowed new returns) (by_thread pending) t list closure → AreAnswered new (by_thread pending) closure → IsForeseen c s calls events new pending returns closure (history_of (done ++ Calls t n ∷ [])) seen
+  advanced_call t n seen rest old new before pending were returns list closure cut all was table grows makes tells long short seat within closed known =
       let h = history_of done in
       let a : OpId = record { t = t; k = calls_count t h } in
+      let is = parts (Calls t n) seen rest cut all in
       let sequential : HasSequentialThreads (h ++ Call a.t a.k ∷ []) = one_more (Calls t n) is in
       let which : call_of calls events a ≡ record { thread = t; call = n } = ap (λ x. call_of calls x a) is ∙ calls_next calls done more t n in
       let call : ThreadCall = record { thread = t; call = n } in
@@ -102,20 +118,22 @@ module _ (c : Component) (setup calls : List ACall) (events done more : List Run
       let pends : (u : ℕ) → by_thread pending u ≡ pending_call (call_of calls events) (h ++ Call a.t a.k ∷ []) u =
       (λ u. ap (λ x. by_thread x u) makes ∙ changed before t long seat (Some call) (pending_call (call_of calls events) (h ++ Call a.t a.k ∷ [])) (pending_call (call_of calls events) h) was.pends law u) in
       let seated : AreSeated calls pending = subst (AreSeated calls) (sym makes) (seats before t long seat calls n within was.seated) in
-      subst (IsFollowed c s calls events new pending closure) (sym (history_push [] done (Calls t n)))
-      (followed_call c s calls events (automaton c setup calls events run s start) h a old new before pending list closure was sequential table grows seated pends closed known)
+      let foretold : (u : ℕ) (x : ThreadCall) → by_thread pending u ≡ Some x → by_thread returns u ≡ next_return u seen =
+      (λ u x at. ap (λ y. by_thread y u) tells ∙ told_now before were t long short seat n seen was.returned u x (ap (λ y. by_thread y u) (sym makes) ∙ at)) in
+      subst (λ x. IsForeseen c s calls events new pending returns closure x seen) (sym (history_push [] done (Calls t n)))
+      (followed_call c s calls events (automaton c setup calls events run s start) h a n seen old new before pending were returns list closure was sequential table grows seated pends foretold closed known)
 
-  pub advanced_return : (t : ℕ) (outcome : Outcome) (table : Table) (before pending : List (Option ThreadCall)) (list back : List Kept) → events ≡ done ++ Back t outcome ∷ more → IsFollowed c s calls events table before list (history_of done)
-      → pending ≡ set before t None → length before ≡ 8 → t < 8 → AreNext (Returns t (as_serial outcome)) list back → IsFollowed c s calls events table pending back (history_of (done ++ Back t outcome ∷ []))
-  advanced_return t outcome table before pending list back is was makes long seat next =
+  pub advanced_return : (t : ℕ) (outcome : Outcome) (seen rest : List RunEvent) (table : Table) (before pending : List (Option ThreadCall)) (returns : List (Option SerialOutcome)) (list back : List Kept) → events ≡ (done ++ Back t outcome ∷ seen) ++ rest → more ≡ seen ++ rest → IsForeseen c s calls events table before returns list (history_of done) (Back t outcome ∷ seen)
+      → pending ≡ set before t None → length before ≡ 8 → t < 8 → AreNext (Returns t (as_serial outcome)) list back → IsForeseen c s calls events table pending returns back (history_of (done ++ Back t outcome ∷ [])) seen
+  advanced_return t outcome seen rest table before pending returns list back cut all was makes long seat next =
       let h = history_of done in
       let a : OpId = record { t = t; k = length (outcomes t h) } in
-      let sequential : HasSequentialThreads (h ++ Return a.t a.k outcome ∷ []) = one_more (Back t outcome) is in
+      let sequential : HasSequentialThreads (h ++ Return a.t a.k outcome ∷ []) = one_more (Back t outcome) (parts (Back t outcome) seen rest cut all) in
       let seated : AreSeated calls pending = subst (AreSeated calls) (sym makes) (seats_fewer before t long seat calls was.seated) in
       let pends : (u : ℕ) → by_thread pending u ≡ pending_call (call_of calls events) (h ++ Return a.t a.k outcome ∷ []) u =
       (λ u. ap (λ x. by_thread x u) makes ∙ changed before t long seat None (pending_call (call_of calls events) (h ++ Return a.t a.k outcome ∷ [])) (pending_call (call_of calls events) h) was.pends (λ v. (pending_goes_on (call_of calls events) h a v).1 outcome sequential) u) in
-      subst (IsFollowed c s calls events table pending back) (sym (history_push [] done (Back t outcome)))
-      (followed_return c s calls events (automaton c setup calls events run s start) h a outcome table before pending list back was sequential seated pends
+      subst (λ x. IsForeseen c s calls events table pending returns back x seen) (sym (history_push [] done (Back t outcome)))
+      (followed_return c s calls events (automaton c setup calls events run s start) h a outcome seen table before pending returns list back was sequential seated pends
       (λ u call there. fewer before t long seat u call (ap (λ x. by_thread x u) (sym makes) ∙ there)) next)
 
 -- the configurations after a return have states of those before it

@@ -9,6 +9,7 @@ use Rattle.lu_component.specs.Component.{Component}
 use Rattle.lu_test.specs.declared.matrix.Call.{Call as ACall}
 use Rattle.lu_test.specs.Matrix.{Matrix, matrix_with}
 use Rattle.lu_machine.specs.declared.position.Position.{Position}
+use Rattle.lu_history.specs.declared.serial.SerialOutcome.{SerialOutcome}
 use Rattle.lu_machine.specs.Positions.{CanStandAt, at_position}
 use Rattle.lu_machine.specs.Starts.{IsStart, MakesAll, at_rest}
 use Rattle.lu_machine.specs.States.{State}
@@ -25,10 +26,11 @@ use Rattle.lu_run.specs.declared.run.RunEvent.{RunEvent}
 use Rattle.lu_run.specs.declared.table.Rests.{Rests}
 use Rattle.lu_run.specs.declared.table.Table.{Table}
 use Rattle.lu_run.specs.Asking.{AreRests, IsAtRest, at_start, menu_of, rest_at}
-use Rattle.lu_run.specs.Judging.{InState, IsFirstTable, IsFollowed, IsStartPosition}
-use Rattle.lu_run.specs.Following.{HasStates}
+use Rattle.lu_run.specs.Judging.{InState, IsFirstTable, IsForeseen, IsStartPosition, StartsAt}
+use Rattle.lu_run.specs.Following.{HasState, HasStates}
 use Rattle.lu_run.specs.Offending.{AreReached}
-use Rattle.lu_run.specs.Tables.{IsTable}
+use Rattle.lu_run.specs.Tables.{Grows, IsTable}
+use Rattle.lu_run.proofs.Followed.{in_earlier, in_later}
 
 -- the position of a machine at the start, with eight threads that make no calls
 pub start_position : (c : Component) (setup : List ACall) (m : State) (p : Position) → IsStart c (matrix_with setup (replicate 8 [])) m → at_position m p ≡ m → CanStandAt m.component m.matrix p → IsStartPosition c setup p
@@ -82,30 +84,49 @@ module _ (c : Component) (calls : List ACall) (p : Position) (table : Table) (fi
   first_has : (rest : Rest) → rest ≡ rest_at p → InState table 0 rest
   first_has rest is = (first.state, state_zero, (p, subst (IsAmong p) (sym first.rests) (inl refl), sym is))
 
-  pub first_followed : (s : State) (events : List RunEvent) (matrix : Matrix) (pending : List (Option ThreadCall)) (list : List Kept) → IsStart c matrix s → rest_at p ≡ rest_of s → ((t : ℕ) → by_thread pending t ≡ None) → AreInitial 0 list → IsFollowed c s calls events table pending list []
-  first_followed s events matrix pending list start same none initial = record {
-    automaton = first_is;
-    seated = λ t call is. absurd (let e = none t in cc);
-    pends = none;
-    configurations = λ d.
-        (let law = nothing_is_configured (RestAfter s) d in
-        let starts = rest_starts c matrix s (ready c matrix s start) d.state in (
-          (λ x. (let both = law.0 x in
-              let e : Configuration ℕ = record { state = 0; effects = d.effects } in
-              (e, (initial e).1 (refl, both.1), first_has d.state (starts.0 both.0 ∙ sym same), λ t. refl))),
-          (λ (e, holds, at, effects). (let both = (initial e).0 holds in
-              law.1 (starts.1 (in_first e.state d.state at ∙ same), λ t. sym (effects t) ∙ both.1 t))),
-        ));
-    states = λ d holds. (first.state, ap (slice_get table.states.keys) ((initial d).0 holds).0 ∙ state_zero);
-    answered = λ d t call holds is free. absurd (let e = none t in cc);
-  }
+  pub first_starts : (s : State) → rest_at p ≡ rest_of s → StartsAt table s
+  first_starts s same rest = ((λ at. in_first 0 rest at ∙ same), (λ is. first_has rest (is ∙ sym same)))
 
-  pub first_states : (list : List Kept) → AreInitial 0 list → HasStates table list
-  first_states list initial d holds = (first.state, ap (slice_get table.states.keys) ((initial d).0 holds).0 ∙ state_zero)
+  pub first_state : HasState table 0
+  first_state = (first.state, state_zero)
 
   -- no call leads to the first state
   pub first_reached : (start : Rest) → rest_at p ≡ start → AreReached c calls start table
   first_reached start same n state at = ([], (λ rest has. sym (in_first n rest (state, at, has) ∙ same)))
+
+-- a table that has grown starts where it did
+pub starts_grown : (old new : Table) (s : State) → Grows old new → HasState old 0 → StartsAt old s → StartsAt new s
+starts_grown old new s grows there starts rest = (
+  (λ at. (starts rest).0 (in_earlier old new grows 0 rest there at)),
+  (λ is. in_later old new grows 0 rest ((starts rest).1 is)),
+)
+
+-- before any event
+module _ (c : Component) (calls : List ACall) (table : Table) (is : IsTable c calls table) (there : HasState table 0) where
+  pub start_states : (list : List Kept) → AreInitial 0 list → HasStates table list
+  start_states list initial d holds = (there.0, ap (slice_get table.states.keys) ((initial d).0 holds).0 ∙ there.1)
+
+  pub start_foreseen : (s : State) (events : List RunEvent) (matrix : Matrix) (pending : List (Option ThreadCall)) (returns : List (Option SerialOutcome)) (list : List Kept) (more : List RunEvent) → IsStart c matrix s → StartsAt table s → ((t : ℕ) → by_thread pending t ≡ None) → AreInitial 0 list → IsForeseen c s calls events table pending returns list [] more
+  start_foreseen s events matrix pending returns list more start starts none initial = record {
+    automaton = is;
+    seated = λ t call at. absurd (let e = none t in cc);
+    pends = none;
+    returned = λ t call at. absurd (let e = none t in cc);
+    configurations = λ d.
+        (let law = nothing_is_configured (RestAfter s) d in
+        let ready_at = rest_starts c matrix s (ready c matrix s start) d.state in (
+          (λ (x, fits). (let both = law.0 x in
+              let e : Configuration ℕ = record { state = 0; effects = d.effects } in
+              (e, (initial e).1 (refl, both.1), (starts d.state).1 (ready_at.0 both.0), λ t. refl))),
+          (λ (e, holds, at, effects). (let both = (initial e).0 holds in
+              let first : InState table 0 d.state = subst (λ x. InState table x d.state) both.0 at in (
+                law.1 (ready_at.1 ((starts d.state).0 first), λ t. sym (effects t) ∙ both.1 t),
+                λ t x y took comes. absurd (let e = both.1 t in let f = effects t in cc),
+              ))),
+        ));
+    states = start_states list initial;
+    answered = λ d t call holds at free. absurd (let e = none t in cc);
+  }
 
 pub first_keys : (keys : List Rests) (test : Rests → Bool) (new : Rests) → keys ≡ [] → (if list_any test keys then keys else keys ++ new ∷ []) ≡ new ∷ []
 first_keys keys test new none = ap (λ xs. if list_any test xs then xs else xs ++ new ∷ []) none

@@ -1,39 +1,29 @@
 -- Runs that do not pass, and where.
-use Rattle.std.proofs.Common.{Bool, true, false, ◌≡◌, ℕ, suc, zero, ◌+◌, ◌<◌, List, [], ◌∷◌, ◌++◌, length, take, Option, Some, None, refl, sym, subst, inl, inr, ◌⊎◌}
+use Rattle.std.proofs.Common.{arith, Bool, true, false, ◌≡◌, ◌≢◌, ℕ, suc, zero, ◌+◌, ◌<◌, List, [], ◌∷◌, length, take, Option, Some, None, refl, sym, subst, inl, inr, ◌⊎◌}
 use Rattle.lu_component.specs.Component.{Component}
 use Rattle.lu_test.specs.declared.matrix.Call.{Call as ACall}
-use Rattle.lu_machine.specs.declared.event.Event.TheVariants.{Call, Return}
 use Rattle.lu_machine.specs.Starts.{IsStart}
 use Rattle.lu_machine.specs.States.{State}
-use Rattle.lu_history.specs.declared.operation.OpId.{OpId}
-use Rattle.lu_history.specs.Histories.{calls as calls_count, outcomes}
 use Rattle.lu_history.specs.Parts.{keep_pending}
 use Rattle.lu_serial.specs.Serial.{IsSerialHistory}
 use Rattle.lu_witness.specs.Witnesses.{HasWitness}
-use Rattle.lu_client.specs.Alone.{RestAfter, rest_of}
+use Rattle.lu_history.specs.declared.serial.SerialOutcome.{SerialOutcome}
+use Rattle.lu_client.specs.Alone.{rest_of}
 use Rattle.lu_linearization.specs.declared.configuration.Configuration.{Configuration as Kept}
-use Rattle.lu_linearization.specs.Configurations.{Reads}
-use Rattle.lu_linearization.specs.Linearizations.{IsLinearization, IsPrefixClosed}
 use Rattle.lu_linearization.specs.Monitors.{AreInitial, CanBeStuck, Holds, by_thread}
-use Rattle.lu_linearization.proofs.Configured.{reads_beginnings}
-use Rattle.lu_linearization.proofs.Goes.{call_goes_on, return_goes_on}
 use Rattle.lu_run.specs.declared.automaton.ThreadCall.{ThreadCall}
 use Rattle.lu_run.specs.declared.judging.RunVerdict.{RunVerdict}
 use Rattle.lu_run.specs.declared.judging.RunVerdict.TheVariants.{Passes, FailsAt, CannotBeStuck as NotStuck, Offends}
 use Rattle.lu_run.specs.declared.run.Run.{Run}
 use Rattle.lu_run.specs.declared.run.RunEvent.{RunEvent}
-use Rattle.lu_run.specs.declared.run.RunEvent.TheVariants.{Call as Calls, Return as Returns}
 use Rattle.lu_run.specs.declared.table.Table.{Table}
 use Rattle.lu_run.specs.Following.{NextState}
-use Rattle.lu_run.specs.Judging.{FindsLost, HasLinearization, IsEndVerdict, IsFirstWithout, IsFollowed, IsGoodNow, IsNeverStuck, IsPassing, IsVerdict, NamesOffence, StuckIfPending, TellsLost, call_of}
-use Rattle.lu_run.specs.Offending.{AreReached, IsFollowFault, NextRest}
+use Rattle.lu_run.specs.Judging.{EndsLost, FindsLost, HasLinearization, IsEndVerdict, IsFollowed, IsForeseen, IsGoodNow, IsNeverStuck, IsPassing, IsVerdict, NamesOffence, StuckIfPending, TellsLost}
+use Rattle.lu_run.specs.Offending.{AreReached, IsFollowFault}
 use Rattle.lu_run.specs.declared.following.FollowFault.{FollowFault}
 use Rattle.lu_run.specs.declared.following.FollowFault.TheVariants as fault
 use Rattle.lu_run.specs.Runs.{IsRun, history_of, matrix_of}
-use Rattle.lu_run.proofs.Advanced.{one_more}
-use Rattle.lu_run.proofs.Automated.{automaton}
-use Rattle.lu_run.proofs.Finished.{none_left, some_left}
-use Rattle.lu_run.proofs.Histories.{history_push}
+use Rattle.lu_run.proofs.Finished.{none_left, some_foreseen, some_left}
 use Rattle.lu_run.proofs.Stuck.{good_tells, passing, passing_back, seat, stuck_witness, tells_good, waits, who_waits}
 
 -- some thread has a pending call, or none has
@@ -53,33 +43,29 @@ some_pending (None ∷ pending) = elim (some_pending pending) as (λ _. ((t : �
 pub not_empty : (list : List Kept) → AreInitial 0 list → list ≡ [] → ⊥
 not_empty list initial empty = subst (λ xs. Holds xs (record { state = 0; effects = λ t. None })) empty ((initial (record { state = 0; effects = λ t. None })).1 (refl, λ t. refl))
 
+-- ---- as far as the events are followed
+
+-- none, if some configuration is left; else the first n of the events have a linearization
+abbrev pub LostSoFar : State → List RunEvent → ℕ → Option ℕ → List Kept → Type 0
+LostSoFar s part i None list = list ≢ []
+LostSoFar s part i (Some n) list = (n < i) × HasLinearization s (take n part)
+
+module _ (c : Component) (s : State) (calls : List ACall) (events part : List RunEvent) where
+  pub lost_next : (i : ℕ) (table : Table) (pending : List (Option ThreadCall)) (returns : List (Option SerialOutcome)) (list later : List Kept) (more : List RunEvent) (lost next : Option ℕ)
+      → IsForeseen c s calls events table pending returns list (history_of (take i part)) more → FindsLost lost i later next → LostSoFar s part i lost list → LostSoFar s part (i + 1) next later
+  lost_next i table pending returns list later more (Some n) next was is told = subst (λ x. LostSoFar s part (i + 1) x later) (sym is) (let lt = told.0 in omega (arith, lt), told.1)
+  lost_next i table pending returns list later more None None was is told = is
+  lost_next i table pending returns list later more None (Some n) was is told =
+      let line = some_foreseen c s calls events (take i part) table pending returns list more told was in
+      (let same = is.0 in omega (arith, same), subst (λ x. HasLinearization s (take x part)) (sym is.0) line)
+
+  -- at the end
+  pub lost_told : (table : Table) (pending : List (Option ThreadCall)) (list : List Kept) (lost told : Option ℕ) → IsFollowed c s calls events table pending list (history_of part) → LostSoFar s part (length part) lost list → EndsLost lost list told → TellsLost s part told
+  lost_told table pending [] None told was so_far is = absurd (so_far refl)
+  lost_told table pending [] (Some n) told was so_far is = subst (TellsLost s part) (sym is) (so_far.0, so_far.1, none_left c s calls events part table pending [] refl was)
+  lost_told table pending (one ∷ list) lost told was so_far is = subst (TellsLost s part) (sym is) (some_left c s calls events part table pending (one ∷ list) (λ e. absurd cc) was)
+
 module _ (c : Component) (setup calls : List ACall) (events : List RunEvent) (s : State) (start : IsStart c (matrix_of setup calls events) s) (run : IsRun calls events) where
-  begins : IsPrefixClosed (Reads (RestAfter s))
-  begins = reads_beginnings (RestAfter s) (NextRest c calls) (call_of calls events) (automaton c setup calls events run s start)
-
-  -- one event less has a linearization too
-  shorter : (done more : List RunEvent) (e : RunEvent) → events ≡ done ++ e ∷ more → HasLinearization s (done ++ e ∷ []) → HasLinearization s done
-  shorter done more (Calls t n) is (q, line) =
-      let h = history_of done in
-      let a : OpId = record { t = t; k = calls_count t h } in
-      let there : IsLinearization (Reads (RestAfter s)) q (h ++ Call a.t a.k ∷ []) = subst (IsLinearization (Reads (RestAfter s)) q) (history_push [] done (Calls t n)) line in
-      elim ((call_goes_on (Reads (RestAfter s)) begins q h a (one_more c setup calls events done more s start run (Calls t n) is)).0 there) as (λ _. HasLinearization s done) [ inl same ↦ (q, same) | inr longer ↦ (longer.before, longer.linearizes) ]
-  shorter done more (Returns t outcome) is (q, line) =
-      let h = history_of done in
-      let a : OpId = record { t = t; k = length (outcomes t h) } in
-      let there : IsLinearization (Reads (RestAfter s)) q (h ++ Return a.t a.k outcome ∷ []) = subst (IsLinearization (Reads (RestAfter s)) q) (history_push [] done (Returns t outcome)) line in
-      (q, ((return_goes_on (Reads (RestAfter s)) q h a outcome).0 there).0)
-
-  pub next_lost : (i : ℕ) (more : List RunEvent) (e : RunEvent) (table : Table) (pending : List (Option ThreadCall)) (list : List Kept) (lost next : Option ℕ) → i < length events → events ≡ take i events ++ e ∷ more → take (i + 1) events ≡ take i events ++ e ∷ []
-      → IsFollowed c s calls events table pending list (history_of (take (i + 1) events)) → FindsLost lost i list next → TellsLost s events i lost → TellsLost s events (i + 1) next
-  next_lost i more e table pending list (Some n) next lt parts taken was is told =
-      subst (TellsLost s events (i + 1)) (sym is)
-      (told.0, λ line. told.1 (shorter (take i events) more e parts (subst (HasLinearization s) taken line)))
-  next_lost i more e table pending list None (Some n) lt parts taken was is told =
-      let none : HasLinearization s (take (i + 1) events) → ⊥ = none_left c s calls events (take (i + 1) events) table pending list is.1 was in
-      (subst (IsFirstWithout s events) (sym is.0) (record { within = lt; before = told; after = none }), none)
-  next_lost i more e table pending list None None lt parts taken was is told = some_left c s calls events (take (i + 1) events) table pending list is was
-
   module _ (table : Table) (pending : List (Option ThreadCall)) (list : List Kept) (was : IsFollowed c s calls events table pending list (history_of events)) where
     nothing_left : (xs : List Kept) → IsFollowed c s calls events table pending xs (history_of events) → (HasLinearization s events → ⊥) → xs ≡ []
     nothing_left [] is never = refl

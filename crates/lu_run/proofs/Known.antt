@@ -12,7 +12,9 @@ use Rattle.lu_run.specs.declared.automaton.ThreadCall.{ThreadCall}
 use Rattle.lu_run.specs.declared.table.Question.{Question}
 use Rattle.lu_run.specs.declared.table.Table.{Table}
 use Rattle.lu_run.specs.Tables.{Answer, Grows, IsTable, recorded}
-use Rattle.lu_run.specs.Following.{HasAnswer, HasState, HasStates, IsKnownAt, NextState, asked, question_at}
+use Rattle.lu_run.specs.Following.{HasAnswer, HasState, HasStates, IsKnownAt, asked, question_at}
+use Rattle.lu_run.specs.Foreseeing.{NextAllowed}
+use Rattle.lu_run.proofs.Foresight.{unforeseen}
 use Rattle.lu_run.proofs.Simulated.{states_valid}
 
 pub has_later : (old new : Table) → Grows old new → (n : ℕ) → HasState old n → HasState new n
@@ -67,7 +69,7 @@ all_next table pending list i before here at known j one lt is = elim (cases_lt 
 ]
 
 -- what comes of configurations with states of the table has such states too
-pub states_closed : (c : Component) (calls : List ACall) (old new : Table) (pending : ℕ → Option ThreadCall) (t : ℕ) (list closure : List Kept) → HasStates old list → Grows old new → IsTable c calls new → AreClosed (NextState new) pending t list closure → HasStates new closure
-states_closed c calls old new pending t list closure has grows is closed d holds =
+pub states_closed : (c : Component) (calls : List ACall) (old new : Table) (pending : ℕ → Option ThreadCall) (returns : List (Option SerialOutcome)) (t : ℕ) (list closure : List Kept) → HasStates old list → Grows old new → IsTable c calls new → AreClosed (NextAllowed new returns) pending t list closure → HasStates new closure
+states_closed c calls old new pending returns t list closure has grows is closed d holds =
     let from = (closed d).0 holds in
-    states_valid c calls new is pending from.1 from.0 d (has_later old new grows from.0.state (has from.0 from.2)) from.4
+    states_valid c calls new is pending from.1 from.0 d (has_later old new grows from.0.state (has from.0 from.2)) (unforeseen new returns pending from.1 from.0 d from.4)

@@ -3,6 +3,7 @@ pub mod Asked
 pub mod Resting
 pub mod Learning
 pub mod Simulated
+pub mod Foresight
 pub mod Known
 pub mod Rounds
 pub mod Followed
@@ -20,3 +21,4 @@ pub mod Failing
 pub mod BeginningLines
 pub mod ReadRuns
 pub mod SetupLines
+pub mod Halving

@@ -13,6 +13,7 @@ use Rattle.lu_run.specs.declared.automaton.ThreadCall.{ThreadCall}
 use Rattle.lu_run.specs.declared.table.Table.{Table}
 use Rattle.lu_run.specs.Tables.{Answer, Grows, recorded}
 use Rattle.lu_run.specs.Following.{AreAnswered, AreSeated, NextState, question_of}
+use Rattle.lu_run.specs.Foreseeing.{NextAllowed}
 use Rattle.lu_run.proofs.Simulated.{all_push, first_front}
 
 -- ---- how many threads' operations have not taken effect
@@ -56,12 +57,12 @@ open_less (suc n) t f g o lt none some others = elim (eqb_tells n t) as (λ _. o
 -- ---- rounds
 
 -- the answers to the questions in all configurations that fewer than i operations lead to are known
-abbrev pub KnownWithin : List (Option ThreadCall) → ℕ → List Kept → ℕ → Table → Type 0
-KnownWithin pending t list i table =
-    (r : List SerialOp) (b e : Configuration ℕ) → length r < i → Holds list b → FirstIsOf t r → AllTakeEffect (NextState table) (by_thread pending) r b e
+abbrev pub KnownWithin : List (Option ThreadCall) → List (Option SerialOutcome) → ℕ → List Kept → ℕ → Table → Type 0
+KnownWithin pending returns t list i table =
+    (r : List SerialOp) (b e : Configuration ℕ) → length r < i → Holds list b → FirstIsOf t r → AllTakeEffect (NextAllowed table returns) (by_thread pending) r b e
     → (u : ℕ) (call : ThreadCall) → by_thread pending u ≡ Some call → e.effects u ≡ None → IsSome (recorded table (question_of e.state call))
 
-module _ (calls : List ACall) (pending : List (Option ThreadCall)) (seated : AreSeated calls pending) where
+module _ (calls : List ACall) (pending : List (Option ThreadCall)) (returns : List (Option SerialOutcome)) (seated : AreSeated calls pending) where
   -- each operation that takes effect is one fewer
   longest : {X : Type 0} (Next : X → ThreadCall → SerialOutcome → X → Type 0) (r : List SerialOp) (b e : Configuration X) → AllTakeEffect Next (by_thread pending) r b e → length r + open_below 8 e.effects ≡ open_below 8 b.effects
   longest Next [] b e same = (let is = open_same 8 b.effects e.effects (λ t lt. sym (same.effects t)) in omega (arith, is))
@@ -70,14 +71,14 @@ module _ (calls : List ACall) (pending : List (Option ThreadCall)) (seated : Are
       let less = open_less 8 op.thread b.effects d.effects op.outcome (seated op.thread takes.call takes.is_pending).0 takes.absent takes.effects takes.others in
       omega (arith, rest, less)
 
-  pub known_first : (t : ℕ) (list : List Kept) (table : Table) → KnownWithin pending t list 0 table
+  pub known_first : (t : ℕ) (list : List Kept) (table : Table) → KnownWithin pending returns t list 0 table
   known_first t list table r b e less = absurd (omega (arith, less))
 
-  end_same : (table : Table) (r : List SerialOp) (b d e : Configuration ℕ) → AllTakeEffect (NextState table) (by_thread pending) r b d → AreSame d e → AllTakeEffect (NextState table) (by_thread pending) r b e
+  end_same : (table : Table) (r : List SerialOp) (b d e : Configuration ℕ) → AllTakeEffect (NextAllowed table returns) (by_thread pending) r b d → AreSame d e → AllTakeEffect (NextAllowed table returns) (by_thread pending) r b e
   end_same table [] b d e same is = record { state = same.state ∙ is.state; effects = λ t. same.effects t ∙ is.effects t }
   end_same table (op ∷ r) b d e (x, takes, all) is = (x, takes, end_same table r x d e all is)
 
-  module _ (t : ℕ) (list closure : List Kept) (old new : Table) (grows : Grows old new) (i : ℕ) (known : KnownWithin pending t list i old) where
+  module _ (t : ℕ) (list closure : List Kept) (old new : Table) (grows : Grows old new) (i : ℕ) (known : KnownWithin pending returns t list i old) where
     -- what is known leads to the same
     step_before : (x : ℕ) (call : ThreadCall) (o : SerialOutcome) (y : ℕ) → IsSome (recorded old (question_of x call)) → NextState new x call o y → NextState old x call o y
     step_before x call o y some next = by (recorded old (question_of x call)) refl some
@@ -89,27 +90,27 @@ module _ (calls : List ACall) (pending : List (Option ThreadCall)) (seated : Are
             e ∙ (sym later ∙ next)
 
     -- the operations lead to the same by what was known before
-    before : (r p : List SerialOp) (b d e : Configuration ℕ) → length (p ++ r) ≤ i → Holds list b → FirstIsOf t (p ++ r) → AllTakeEffect (NextState old) (by_thread pending) p b d → AllTakeEffect (NextState new) (by_thread pending) r d e → AllTakeEffect (NextState old) (by_thread pending) (p ++ r) b e
-    before [] p b d e short holds first all same = subst (λ x. AllTakeEffect (NextState old) (by_thread pending) x b e) (sym (append-nil p)) (end_same old p b d e all same)
+    before : (r p : List SerialOp) (b d e : Configuration ℕ) → length (p ++ r) ≤ i → Holds list b → FirstIsOf t (p ++ r) → AllTakeEffect (NextAllowed old returns) (by_thread pending) p b d → AllTakeEffect (NextAllowed new returns) (by_thread pending) r d e → AllTakeEffect (NextAllowed old returns) (by_thread pending) (p ++ r) b e
+    before [] p b d e short holds first all same = subst (λ x. AllTakeEffect (NextAllowed old returns) (by_thread pending) x b e) (sym (append-nil p)) (end_same old p b d e all same)
     before (op ∷ r) p b d e short holds first all (x, takes, rest) =
         let long = length-append p (op ∷ r) in
         let some = known p b d (omega (arith, long, short)) holds (first_front t p (op ∷ r) first) all op.thread takes.call takes.is_pending takes.absent in
-        let step : TakesEffect (NextState old) (by_thread pending) op d x = record { call = takes.call; is_pending = takes.is_pending; absent = takes.absent; leads = step_before d.state takes.call op.outcome x.state some takes.leads; effects = takes.effects; others = takes.others } in
-        let more = all_push (NextState old) (by_thread pending) p b d x op all step in
+        let step : TakesEffect (NextAllowed old returns) (by_thread pending) op d x = record { call = takes.call; is_pending = takes.is_pending; absent = takes.absent; leads = (step_before d.state takes.call op.outcome x.state some takes.leads.0, takes.leads.1); effects = takes.effects; others = takes.others } in
+        let more = all_push (NextAllowed old returns) (by_thread pending) p b d x op all step in
         let same : (p ++ op ∷ []) ++ r ≡ p ++ op ∷ r = append_assoc p (op ∷ []) r in
-        subst (λ y. AllTakeEffect (NextState old) (by_thread pending) y b e) same
+        subst (λ y. AllTakeEffect (NextAllowed old returns) (by_thread pending) y b e) same
         (before r (p ++ op ∷ []) b x e (subst (λ y. length y ≤ i) (sym same) short) holds (subst (FirstIsOf t) (sym same) first) more rest)
 
     -- one round more
-    pub known_next : AreClosed (NextState old) (by_thread pending) t list closure → AreAnswered new (by_thread pending) closure → KnownWithin pending t list (suc i) new
+    pub known_next : AreClosed (NextAllowed old returns) (by_thread pending) t list closure → AreAnswered new (by_thread pending) closure → KnownWithin pending returns t list (suc i) new
     known_next closed answered r b e less holds first all u call is none =
-        let was : AllTakeEffect (NextState old) (by_thread pending) r b e = before r [] b b e (omega (arith, less)) holds first (record { state = refl; effects = λ v. refl }) all in
+        let was : AllTakeEffect (NextAllowed old returns) (by_thread pending) r b e = before r [] b b e (omega (arith, less)) holds first (record { state = refl; effects = λ v. refl }) all in
         answered e u call ((closed e).1 (b, r, holds, first, was)) is none
 
   -- after nine rounds all is known
-  pub known_last : (t : ℕ) (list closure : List Kept) (table : Table) → KnownWithin pending t list 9 table → AreClosed (NextState table) (by_thread pending) t list closure → AreAnswered table (by_thread pending) closure
+  pub known_last : (t : ℕ) (list closure : List Kept) (table : Table) → KnownWithin pending returns t list 9 table → AreClosed (NextAllowed table returns) (by_thread pending) t list closure → AreAnswered table (by_thread pending) closure
   known_last t list closure table known closed d u call holds is none =
       let from = (closed d).0 holds in
-      let long = longest (NextState table) from.1 from.0 d from.4 in
+      let long = longest (NextAllowed table returns) from.1 from.0 d from.4 in
       let most = at_most 8 from.0.effects in
       known from.1 from.0 d (omega (arith, long, most)) from.2 from.3 from.4 u call is none

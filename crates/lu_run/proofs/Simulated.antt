@@ -1,22 +1,19 @@
 -- Steps of the automaton are calls made alone from its rests.
-use Rattle.std.proofs.Common.{◌≡◌, ℕ, List, [], ◌∷◌, ◌++◌, Option, Some, None, slice_get, refl, sym, ◌∙◌, ap, subst, append_assoc}
+use Rattle.std.proofs.Common.{◌≡◌, ℕ, List, [], ◌∷◌, ◌++◌, Option, Some, None, slice_get, refl, sym, ◌∙◌, ap, subst}
 use Rattle.std.specs.Prelude.{IsSome}
-use Rattle.std.proofs.lemmas.List.{append-nil}
 use Rattle.std.proofs.lemmas.Option.{same_Some}
 use Rattle.lu_component.specs.Component.{Component}
 use Rattle.lu_test.specs.declared.matrix.Call.{Call as ACall}
 use Rattle.lu_history.specs.declared.serial.SerialOp.{SerialOp}
 use Rattle.lu_history.specs.declared.serial.SerialOutcome.{SerialOutcome}
 use Rattle.lu_client.specs.Alone.{Plays, Rest}
-use Rattle.lu_linearization.specs.declared.configuration.Configuration.{Configuration as Kept}
 use Rattle.lu_linearization.specs.Configurations.{AllTakeEffect, AreSame, Configuration, FirstIsOf, TakesEffect}
-use Rattle.lu_linearization.specs.Monitors.{AreClosed, Holds}
 use Rattle.lu_run.specs.declared.automaton.ThreadCall.{ThreadCall}
 use Rattle.lu_run.specs.declared.table.Rests.{Rests}
 use Rattle.lu_run.specs.declared.table.Table.{Table}
 use Rattle.lu_run.specs.Asking.{HasRest, PlaysFromSome}
 use Rattle.lu_run.specs.Tables.{Answer, IsRight, IsTable, recorded}
-use Rattle.lu_run.specs.Following.{AreAnswered, NextState, question_of}
+use Rattle.lu_run.specs.Following.{NextState, question_of}
 use Rattle.lu_run.specs.Judging.{InState}
 use Rattle.lu_run.specs.Offending.{NextRest}
 
@@ -52,7 +49,7 @@ first_front t (op ∷ p) q first = first
 -- ---- one step
 
 module _ (c : Component) (calls : List ACall) (table : Table) (is : IsTable c calls table) where
-  to_state : (x : ℕ) (call : ThreadCall) (rest after : Rest) (o : SerialOutcome) → IsSome (recorded table (question_of x call)) → InState table x rest → NextRest c calls rest call o after → (y : ℕ) × NextState table x call o y × InState table y after
+  pub to_state : (x : ℕ) (call : ThreadCall) (rest after : Rest) (o : SerialOutcome) → IsSome (recorded table (question_of x call)) → InState table x rest → NextRest c calls rest call o after → (y : ℕ) × NextState table x call o y × InState table y after
   to_state x call rest after o known (state, at, has) (a, called, plays) = by (recorded table (question_of x call)) refl known
     where
       answered : (answer : Answer) (from : Rests) (made : ACall) → IsRight c table.states.keys from call.thread made answer → recorded table (question_of x call) ≡ Some answer → PlaysFromSome c from.positions.items call.thread made o after → (y : ℕ) × NextState table x call o y × InState table y after
@@ -96,17 +93,3 @@ module _ (c : Component) (calls : List ACall) (table : Table) (is : IsTable c ca
         let z = backward r d e rest all at in
         let w = from_state b.state d.state takes.call z.0 op.outcome takes.leads z.1 in
         (w.0, w.1, (record { state = z.0; effects = d.effects }, record { call = takes.call; is_pending = takes.is_pending; absent = takes.absent; leads = w.2; effects = takes.effects; others = takes.others }, z.2))
-
-    module _ (t : ℕ) (list closure : List Kept) (closed : AreClosed (NextState table) pending t list closure) (known : AreAnswered table pending closure) where
-      pub forward : (r p : List SerialOp) (b d : Configuration ℕ) (from to : Configuration Rest) → Holds list b → FirstIsOf t (p ++ r) → AllTakeEffect (NextState table) pending p b d → InState table d.state from.state → ((u : ℕ) → d.effects u ≡ from.effects u) → AllTakeEffect (NextRest c calls) pending r from to
-          → (e : Configuration ℕ) × AllTakeEffect (NextState table) pending (p ++ r) b e × InState table e.state to.state × ((u : ℕ) → e.effects u ≡ to.effects u)
-      forward [] p b d from to holds first all at effects same = (d, subst (λ x. AllTakeEffect (NextState table) pending x b d) (sym (append-nil p)) all, subst (InState table d.state) same.state at, λ u. effects u ∙ same.effects u)
-      forward (op ∷ r) p b d from to holds first all at effects (mid, takes, rest) =
-          let here : Holds closure d = (closed d).1 (b, p, holds, first_front t p (op ∷ r) first, all) in
-          let yes = known d op.thread takes.call here takes.is_pending (effects op.thread ∙ takes.absent) in
-          let next = to_state d.state takes.call from.state mid.state op.outcome yes at takes.leads in
-          let e : Configuration ℕ = record { state = next.0; effects = mid.effects } in
-          let step : TakesEffect (NextState table) pending op d e = record { call = takes.call; is_pending = takes.is_pending; absent = effects op.thread ∙ takes.absent; leads = next.1; effects = takes.effects; others = λ u ne. takes.others u ne ∙ sym (effects u) } in
-          let more = all_push (NextState table) pending p b d e op all step in
-          let end = forward r (p ++ op ∷ []) b e mid to holds (subst (FirstIsOf t) (sym (append_assoc p (op ∷ []) r)) first) more next.2 (λ u. refl) rest in
-          (end.0, subst (λ x. AllTakeEffect (NextState table) pending x b end.0) (append_assoc p (op ∷ []) r) end.1, end.2, end.3)

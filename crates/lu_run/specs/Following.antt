@@ -1,10 +1,10 @@
 -- The monitor over the automaton, as far as it has been asked.
-use Rattle.std.specs.Prelude.{◌≡◌, ℕ, ◌<◌, List, length, Option, Some, None, IfOk, IsSome, Result, slice_get}
+use Rattle.std.specs.Prelude.{◌≡◌, ℕ, ◌<◌, List, length, Option, Some, None, IsSome, slice_get}
 use Rattle.lu_test.specs.declared.matrix.Call.{Call as ACall}
 use Rattle.lu_history.specs.declared.serial.SerialOutcome.{SerialOutcome}
 use Rattle.lu_linearization.specs.declared.configuration.Configuration.{Configuration as Kept}
 use Rattle.lu_linearization.specs.Configurations.{Configuration}
-use Rattle.lu_linearization.specs.Monitors.{AreClosed, Holds, by_thread}
+use Rattle.lu_linearization.specs.Monitors.{Holds, by_thread}
 use Rattle.lu_run.specs.declared.automaton.ThreadCall.{ThreadCall}
 use Rattle.lu_run.specs.declared.table.Question.{Question}
 use Rattle.lu_run.specs.declared.table.Rests.{Rests}
@@ -63,10 +63,3 @@ abbrev pub AreAnswered : Table → (ℕ → Option ThreadCall) → List Kept →
 AreAnswered table pending list =
     (d : Configuration ℕ) (t : ℕ) (call : ThreadCall) → Holds list d → pending t ≡ Some call
     → d.effects t ≡ None → IsSome (recorded table (question_of d.state call))
-
--- what is returned, if anything is, has the configurations of this list after a call of thread t, and
--- those that come of them
-abbrev pub IfCloses : {E : Type 0} → Table → List (Option ThreadCall) → ℕ → List Kept
-    → Result (List Kept) E → Type 0
-IfCloses table pending t list result =
-    IfOk result (AreClosed (NextState table) (by_thread pending) t list)

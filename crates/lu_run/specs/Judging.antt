@@ -11,6 +11,7 @@ use Rattle.lu_history.specs.declared.operation.OpId.{OpId}
 use Rattle.lu_history.specs.Histories.{IsPending}
 use Rattle.lu_history.specs.Parts.{keep_pending}
 use Rattle.lu_history.specs.declared.serial.SerialOp.{SerialOp}
+use Rattle.lu_history.specs.declared.serial.SerialOutcome.{SerialOutcome}
 use Rattle.lu_serial.specs.Serial.{IsSerialHistory}
 use Rattle.lu_witness.specs.Witnesses.{HasWitness, IsGood}
 use Rattle.lu_client.specs.Alone.{Rest, RestAfter, rest_of}
@@ -25,14 +26,15 @@ use Rattle.lu_run.specs.declared.table.Rests.{Rests}
 use Rattle.lu_run.specs.declared.table.Table.{Table}
 use Rattle.lu_run.specs.declared.following.FollowFault.{FollowFault}
 use Rattle.lu_run.specs.declared.following.FollowFault.TheVariants as fault
-use Rattle.lu_run.specs.declared.judging.Follower.{Follower}
+use Rattle.lu_run.specs.declared.following.Follower.{Follower}
 use Rattle.lu_run.specs.declared.judging.RunVerdict.{RunVerdict}
 use Rattle.lu_run.specs.declared.judging.RunVerdict.TheVariants.{Passes, FailsAt, CannotBeStuck as NotStuck, Offends}
 use Rattle.lu_run.specs.declared.table.Question.{Question}
 use Rattle.lu_run.specs.Asking.{HasRest, IsAtRest, rest_at}
 use Rattle.lu_run.specs.Completions.{HasCompletion}
 use Rattle.lu_run.specs.Following.{AreAnswered, AreSeated, HasStates, NextState}
-use Rattle.lu_run.specs.Offending.{IsOffence, Learns}
+use Rattle.lu_run.specs.Foreseeing.{FitsReturns, next_return}
+use Rattle.lu_run.specs.Offending.{IsOffence}
 use Rattle.lu_run.specs.Runs.{IsRun, history_of, matrix_of, numbers_of}
 use Rattle.lu_run.specs.Tables.{IsTable, recorded}
 
@@ -86,35 +88,77 @@ pub record IsFollowed (c : Component) (s : State) (calls : List ACall) (events :
   pub states : HasStates table list
   pub answered : AreAnswered table (by_thread pending) list
 
+-- After the history h, a beginning of that of the run, `more` are the next events: the calls in
+-- `pending` are the pending ones, `returns` has what they return in `more`, the list has the
+-- configurations of all linearizations that fit these returns, and the answers to all questions are
+-- known.
+pub record IsForeseen (c : Component) (s : State) (calls : List ACall) (events : List RunEvent)
+    (table : Table) (pending : List (Option ThreadCall)) (returns : List (Option SerialOutcome))
+    (list : List Kept) (h : List Event) (more : List RunEvent) : Type 0 where
+  pub automaton : IsTable c calls table
+  pub seated : AreSeated calls pending
+  pub pends : (t : ℕ) → by_thread pending t ≡ pending_call (call_of calls events) h t
+  pub returned : (t : ℕ) (call : ThreadCall) → by_thread pending t ≡ Some call
+      → by_thread returns t ≡ next_return t more
+  pub configurations : (d : Configuration Rest) →
+      (IsConfiguration (RestAfter s) h d × FitsReturns more d.effects)
+      ↔ Represents table list d
+  pub states : HasStates table list
+  pub answered : AreAnswered table (by_thread pending) list
+
 -- The table's answers are right, it has the states of the configurations, and each pending call is
 -- one of these calls, of one of eight threads.
-pub record IsReady (c : Component) (calls : List ACall) (f : Follower) : Type 0 where
-  pub table : IsTable c calls f.table
-  pub states : HasStates f.table f.monitor
+pub record IsReady (c : Component) (calls : List ACall) (table : Table) (f : Follower) : Type 0 where
+  pub right : IsTable c calls table
+  pub states : HasStates table f.monitor
   pub seated : AreSeated calls f.pending
-  pub eight : length f.pending ≡ 8
+  pub eight : (length f.pending ≡ 8) × (length f.returns ≡ 8)
 
--- the follower has followed the run up to this history
-abbrev pub HasFollowed : Component → State → List ACall → List RunEvent → Follower → List Event
-    → Type 0
-HasFollowed c s calls events f h = IsFollowed c s calls events f.table f.pending f.monitor h
+-- the follower has followed the run up to this history, and foresees these events
+abbrev pub Foresees : Component → State → List ACall → List RunEvent → Table → Follower
+    → List Event → List RunEvent → Type 0
+Foresees c s calls events table f h more =
+    IsForeseen c s calls events table f.pending f.returns f.monitor h more
 
--- with the event that comes next in the run, the new follower follows it
-abbrev pub Advances : Component → List ACall → RunEvent → Follower → Follower → Type 0
-Advances c calls event old new =
-    (setup : List ACall) (events done more : List RunEvent) (s : State) →
+-- with the event that comes next in the run, the new follower follows it; the events `more`, which
+-- come after it, are foreseen, and those in `rest` are not
+abbrev pub Advances : Component → List ACall → RunEvent → List RunEvent → Table → Follower → Table
+    → Follower → Type 0
+Advances c calls event more table old later new =
+    (setup : List ACall) (events done rest : List RunEvent) (s : State) →
     IsStart c (matrix_of setup calls events) s → IsRun calls events
-    → events ≡ done ++ event ∷ more → HasFollowed c s calls events old (history_of done)
-    → HasFollowed c s calls events new (history_of (done ++ event ∷ []))
+    → events ≡ (done ++ event ∷ more) ++ rest
+    → Foresees c s calls events table old (history_of done) (event ∷ more)
+    → Foresees c s calls events later new (history_of (done ++ event ∷ [])) more
 
 -- the same, of what a step returns, unless a serial run offends or memory ran out
-abbrev pub IfAdvances : {E : Type 0} → Component → List ACall → RunEvent → Follower
-    → Result Follower E → Type 0
-IfAdvances c calls event old result = IfOk result (Advances c calls event old)
+abbrev pub IfAdvances : {E : Type 0} → Component → List ACall → RunEvent → List RunEvent → Table
+    → Follower → Table → Result Follower E → Type 0
+IfAdvances c calls event more table old later result =
+    IfOk result (Advances c calls event more table old later)
 
--- the new follower's table has learnt from the old one's
-abbrev pub IfLearns : {E : Type 0} → Component → List ACall → Follower → Result Follower E → Type 0
-IfLearns c calls old result = IfOk result (λ next. Learns c calls old.table next.table)
+-- the follower is ready
+abbrev pub IfReady : {E : Type 0} → Component → List ACall → Table → Result Follower E → Type 0
+IfReady c calls table result = IfOk result (IsReady c calls table)
+
+-- state 0 of the table is that of the serial runs' start
+abbrev pub StartsAt : Table → State → Type 0
+StartsAt table s = (rest : Rest) → InState table 0 rest ↔ (rest ≡ rest_of s)
+
+-- What holds of each run with these calls that begins with these events, from a start that is state 0
+-- of the table.
+abbrev pub OfEachRun : Component → List ACall → Table → List RunEvent
+    → (State → List RunEvent → Type 0) → Type 0
+OfEachRun c calls table part P =
+    (setup : List ACall) (events rest : List RunEvent) (s : State) →
+    IsStart c (matrix_of setup calls events) s → StartsAt table s → IsRun calls events
+    → events ≡ part ++ rest → P s events
+
+-- the follower has followed these events, with which runs begin
+abbrev pub FollowsAll : Component → List ACall → Table → List RunEvent → Table → Follower → Type 0
+FollowsAll c calls old part new f =
+    OfEachRun c calls old part
+    (λ s events. IsFollowed c s calls events new f.pending f.monitor (history_of part))
 
 -- the matrix with this setup, in which eight threads make no calls
 abbrev pub idle_matrix : List ACall → Matrix
@@ -198,18 +242,36 @@ NamesOffence fault.Memory verdict = ⊥
 
 -- ---- the reason
 
--- what is known of it after the first i events
-abbrev pub TellsLost : State → List RunEvent → ℕ → Option ℕ → Type 0
-TellsLost s events i None = HasLinearization s (take i events)
-TellsLost s events i (Some n) =
-    IsFirstWithout s events n × (HasLinearization s (take i events) → ⊥)
-
 -- the event with number i is the first after which no configuration is left, unless one before it
 -- is; none where some are left
 abbrev pub FindsLost : Option ℕ → ℕ → List Kept → Option ℕ → Type 0
 FindsLost (Some n) i list result = result ≡ Some n
 FindsLost None i list (Some n) = (n ≡ i) × (list ≡ [])
 FindsLost None i list None = list ≢ []
+
+-- what was noted, if no configuration is left at the end; else none
+abbrev pub EndsLost : Option ℕ → List Kept → Option ℕ → Type 0
+EndsLost lost [] result = result ≡ lost
+EndsLost lost (one ∷ list) result = result ≡ None
+
+-- These events have a linearization; or they have none, and the first n of them have one.
+abbrev pub TellsLost : State → List RunEvent → Option ℕ → Type 0
+TellsLost s part None = HasLinearization s part
+TellsLost s part (Some n) =
+    (n < length part) × HasLinearization s (take n part) × (HasLinearization s part → ⊥)
+
+-- so it is of the beginnings of runs
+abbrev pub TellsOfEach : Component → List ACall → Table → List RunEvent → Option ℕ → Type 0
+TellsOfEach c calls table part lost =
+    OfEachRun c calls table part (λ s events. TellsLost s part lost)
+
+-- what is returned, if anything is, is the first event after which the events have no linearization, if
+-- they have none, and the first `kept` of them have one
+abbrev pub FindsFirst : {E : Type 0} → Component → List ACall → Table → List RunEvent → ℕ
+    → Result ℕ E → Type 0
+FindsFirst c calls table part kept result =
+    OfEachRun c calls table part
+    (λ s events. TellsLost s part (Some kept) → IfOk result (IsFirstWithout s part))
 
 -- the pending call of the thread can't be stuck; where there is no such thread, each can be
 abbrev pub TellsNotStuck : Table → List Kept → List (Option ThreadCall) → Option ℕ → Type 0

@@ -6,6 +6,7 @@ pub mod Checking
 pub mod Asking
 pub mod Tables
 pub mod Following
+pub mod Foreseeing
 pub mod Offending
 pub mod Completions
 pub mod Judging

@@ -8,6 +8,7 @@ use Rattle.lu_client.specs.Alone.{Answers, Overruns, Plays, Rest}
 use Rattle.lu_run.specs.declared.automaton.ThreadCall.{ThreadCall}
 use Rattle.lu_run.specs.declared.following.FollowFault.{FollowFault}
 use Rattle.lu_run.specs.declared.following.FollowFault.TheVariants.{Offends, Memory}
+use Rattle.lu_run.specs.declared.following.SerialRuns.{SerialRuns}
 use Rattle.lu_run.specs.declared.table.Rests.{Rests}
 use Rattle.lu_run.specs.declared.table.Table.{Table}
 use Rattle.lu_run.specs.Asking.{HasRest}
@@ -87,3 +88,7 @@ OffendsFrom c calls bound table call =
 abbrev pub IsFollowFault : Component → List ACall → ℕ → Table → FollowFault → Type 0
 IsFollowFault c calls bound table (Offends call) = OffendsFrom c calls bound table call
 IsFollowFault c calls bound table Memory = Unit {0}
+
+-- the same, of these serial runs
+abbrev pub IsFollowFaultOf : SerialRuns → Table → FollowFault → Type 0
+IsFollowFaultOf runs table = IsFollowFault runs.component.now runs.calls.now runs.bound table

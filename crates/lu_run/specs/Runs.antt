@@ -64,7 +64,12 @@ abbrev pub IsEventOf : List ACall → RunEvent → Type 0
 IsEventOf table (Calls t n) = (t < 8) × (n < length table)
 IsEventOf table (Returns t outcome) = t < 8
 
+-- so it is of each event
+abbrev pub AreEventsOf : List ACall → List RunEvent → Type 0
+AreEventsOf table events =
+    (i : ℕ) (e : RunEvent) → slice_get events i ≡ Some e → IsEventOf table e
+
 -- The events' calls are in the table, and each thread makes one call at a time.
 pub record IsRun (table : List ACall) (events : List RunEvent) : Type 0 where
-  pub events_of : (i : ℕ) (e : RunEvent) → slice_get events i ≡ Some e → IsEventOf table e
+  pub events_of : AreEventsOf table events
   pub sequential : HasSequentialThreads (history_of events)

@@ -1,21 +1,24 @@
 //! The verdict on a run.
 
-ghost use Rattle.std.specs.Prelude.{◌≡◌, ◌<◌, ◌≤◌, ◌↔◌, IfErr, IfOk, IsTrue};
+ghost use Rattle.std.specs.Prelude.{◌≡◌, ◌<◌, ◌≤◌, ◌↔◌, IfErr, IfOk, IsTrue, OnOk};
 ghost use Rattle.lu_machine.specs.declared.TheConstants.{MOST_MOVES};
 ghost use Rattle.lu_machine.specs.Starts.{CanRun};
-ghost use Rattle.lu_run.specs.Judging.{FindsLost, IfAdvances, IfLearns, IsEndVerdict, IsReady, JudgesRun, NamesOffence, StuckIfPending, TellsNotStuck};
-ghost use Rattle.lu_run.specs.Offending.{IsFollowFault};
-ghost use Rattle.lu_run.specs.Runs.{IsEventOf, IsRun};
-ghost use Rattle.lu_run.specs.Tables.{AreCallsOf};
+ghost use Rattle.lu_run.specs.Following.{HasState};
+ghost use Rattle.lu_run.specs.Foreseeing.{next_return};
+ghost use Rattle.lu_run.specs.Judging.{EndsLost, FindsFirst, FindsLost, FollowsAll, IfAdvances, IfReady, IsEndVerdict, IsReady, JudgesRun, NamesOffence, StuckIfPending, TellsNotStuck, TellsOfEach};
+ghost use Rattle.lu_run.specs.Offending.{IsFollowFaultOf, Learns};
+ghost use Rattle.lu_run.specs.Runs.{AreEventsOf, IsEventOf, IsRun};
+ghost use Rattle.lu_run.specs.Tables.{AreCallsOf, IsTable};
 
 use crate::automaton::ThreadCall;
-use crate::following::{FollowFault, follow};
+use crate::following::{FollowFault, Follower, SerialRuns, follow};
 use crate::run::{Run, RunEvent};
 use crate::starting::{first_table, start_of};
 use crate::table::Table;
 use lu_component::Component;
+use lu_history::SerialOutcome;
 use lu_linearization::Monitor;
-use lu_test::{Call, Matrix};
+use lu_test::Matrix;
 use std::alloc::{AllocError, Global};
 
 /// The verdict on a run.
@@ -37,64 +40,63 @@ pub enum RunVerdict {
     Offends { thread: u8, call: u32 },
 }
 
-/// A run as far as it is followed.
-#[derive(Drop)]
-pub(crate) struct Follower {
-    pub(crate) table: Table,
-
-    /// Of each thread, its pending call.
-    pub(crate) pending: [Option<ThreadCall>; 8],
-    pub(crate) monitor: Monitor,
+/// What the pending call of the thread returns in these events; None if it does not return.
+fn next_return(thread: u8, more: &[RunEvent]) -> Option<SerialOutcome>
+    ensures { result ≡ next_return thread more.now }
+{
+    for event in more {
+        match *event {
+            RunEvent::Call { .. } => {}
+            RunEvent::Return {
+                thread: other,
+                outcome,
+            } => {
+                if other == thread {
+                    return Some(SerialOutcome::from(outcome));
+                }
+            }
+        }
+    }
+    None
 }
 
-/// The follower after one more event.
+/// The follower after one more event, where the events `more` come next.
 ///
 /// # Errors
 ///
 /// After some serial calls, a call takes more moves than the bound, or has two outcomes; or out of
 /// memory.
 fn advance(
-    alloc: Global,
-    component: &Component,
-    calls: &[Call],
-    bound: u16,
+    runs: SerialRuns<'_>,
+    table: &mut Table,
     follower: Follower,
     event: RunEvent,
+    more: &[RunEvent],
 ) -> Result<Follower, FollowFault>
-    requires ready { IsReady component.now calls.now follower }
-    requires calls { AreCallsOf component.now calls.now }
-    requires event { IsEventOf calls.now event }
-    requires few { bound ≤ MOST_MOVES }
-    ensures ready { IfOk result (IsReady component.now calls.now) }
-    ensures learns { IfLearns component.now calls.now follower result }
-    ensures advances { IfAdvances component.now calls.now event follower result }
-    ensures offends { IfErr result (IsFollowFault component.now calls.now bound follower.table) }
+    requires ready { IsReady runs.component.now runs.calls.now table.old follower }
+    requires calls { AreCallsOf runs.component.now runs.calls.now }
+    requires event { IsEventOf runs.calls.now event }
+    requires few { runs.bound ≤ MOST_MOVES }
+    ensures ready { IfReady runs.entry.component.now runs.entry.calls.now table.new result }
+    ensures learns { OnOk result
+        (Learns runs.entry.component.now runs.entry.calls.now table.old table.new) }
+    ensures advances { IfAdvances
+        runs.entry.component.now runs.entry.calls.now event more.now table.old follower
+        table.new result }
+    ensures offends { IfErr result (IsFollowFaultOf runs.entry table.old) }
 {
-    let Follower {
-        mut table,
-        mut pending,
-        monitor,
-    } = follower;
+    let mut next = follower;
     match event {
         RunEvent::Call { thread, call } => {
-            pending[usize::from(thread)] = Some(ThreadCall { thread, call });
-            let next = follow(
-                alloc, component, calls, bound, &mut table, &monitor, &pending, thread,
-            )?;
-            Ok(Follower {
-                table,
-                pending,
-                monitor: next,
-            })
+            next.pending[usize::from(thread)] = Some(ThreadCall { thread, call });
+            next.returns[usize::from(thread)] = next_return(thread, more);
+            next.monitor = follow(runs, table, &next, thread)?;
+            Ok(next)
         }
         RunEvent::Return { thread, outcome } => {
-            pending[usize::from(thread)] = None;
-            let next = monitor.ret(alloc, thread, outcome)?;
-            Ok(Follower {
-                table,
-                pending,
-                monitor: next,
-            })
+            next.pending[usize::from(thread)] = None;
+            next.monitor = next.monitor.ret(runs.alloc, thread, outcome)?;
+            Ok(next)
         }
     }
 }
@@ -145,7 +147,7 @@ fn end_verdict(
 
 /// The number of the first event after which no configuration is left, as far as the event with this
 /// number.
-fn first_lost(lost: Option<usize>, number: usize, monitor: &Monitor) -> Option<usize>
+fn note_lost(lost: Option<usize>, number: usize, monitor: &Monitor) -> Option<usize>
     ensures { FindsLost lost number monitor.now result }
 {
     if lost.is_some() {
@@ -155,6 +157,110 @@ fn first_lost(lost: Option<usize>, number: usize, monitor: &Monitor) -> Option<u
         return Some(number);
     }
     None
+}
+
+/// What was noted, if no configuration is left at the end; else None.
+fn lost_at_end(lost: Option<usize>, monitor: &Monitor) -> Option<usize>
+    ensures { EndsLost lost monitor.now result }
+{
+    if monitor.is_empty() {
+        return lost;
+    }
+    None
+}
+
+/// Events that are followed to their end.
+#[derive(Drop)]
+struct Followed {
+    follower: Follower,
+
+    /// The number of the first event after which no configuration is left, if none is left.
+    lost: Option<usize>,
+}
+
+/// Follows events from the start, which is the table's first state. What pending calls return later
+/// in these events is foreseen.
+///
+/// # Errors
+///
+/// After some serial calls, a call takes more moves than the bound, or has two outcomes; or out of
+/// memory.
+fn follow_all(
+    runs: SerialRuns<'_>,
+    table: &mut Table,
+    events: &[RunEvent],
+) -> Result<Followed, FollowFault>
+    requires table { IsTable runs.component.now runs.calls.now table.old }
+    requires start { HasState table.old 0 }
+    requires calls { AreCallsOf runs.component.now runs.calls.now }
+    requires events { AreEventsOf runs.calls.now events.now }
+    requires few { runs.bound ≤ MOST_MOVES }
+    ensures learns { OnOk result
+        (Learns runs.entry.component.now runs.entry.calls.now table.old table.new) }
+    ensures follows { IfOk result (λ all. FollowsAll
+        runs.entry.component.now runs.entry.calls.now table.old events.now table.new
+        all.follower) }
+    ensures tells { IfOk result (λ all. TellsOfEach
+        runs.entry.component.now runs.entry.calls.now table.old events.now all.lost) }
+    ensures offends { IfErr result (IsFollowFaultOf runs.entry table.old) }
+{
+    let mut follower = Follower {
+        pending: [None; 8],
+        returns: [None; 8],
+        monitor: Monitor::new(runs.alloc, 0)?,
+    };
+    let mut lost = None;
+    for number in 0..events.len() {
+        let more = &events[number + 1..];
+        follower = advance(runs, table, follower, events[number], more)?;
+        lost = note_lost(lost, number, &follower.monitor);
+    }
+    let lost = lost_at_end(lost, &follower.monitor);
+    Ok(Followed { follower, lost })
+}
+
+/// The number of the first event after which the events have no linearization, if they have none,
+/// and the first `kept` of them have one.
+///
+/// # Errors
+///
+/// After some serial calls, a call takes more moves than the bound, or has two outcomes; or out of
+/// memory.
+fn first_lost(
+    runs: SerialRuns<'_>,
+    table: &mut Table,
+    events: &[RunEvent],
+    kept: usize,
+) -> Result<usize, FollowFault>
+    requires table { IsTable runs.component.now runs.calls.now table.old }
+    requires start { HasState table.old 0 }
+    requires calls { AreCallsOf runs.component.now runs.calls.now }
+    requires events { AreEventsOf runs.calls.now events.now }
+    requires few { runs.bound ≤ MOST_MOVES }
+    ensures first { FindsFirst
+        runs.entry.component.now runs.entry.calls.now table.old events.now kept result }
+    ensures offends { IfErr result (IsFollowFaultOf runs.entry table.old) }
+{
+    let mut kept = kept;
+    let mut lost = events.len();
+    // (the event is near the one where the foreseen outcomes leave no configuration)
+    let mut step = 1usize;
+    while lost.saturating_sub(kept) > 1 {
+        let ahead = step.min((lost - kept) / 2);
+        let middle = kept + ahead;
+        let all = follow_all(runs, table, &events[..middle])?;
+        match all.lost {
+            None => {
+                kept = middle;
+                step = 2 * ahead;
+            }
+            Some(_) => {
+                lost = middle;
+                step = ahead;
+            }
+        }
+    }
+    Ok(kept)
 }
 
 /// The verdict on a run that is not followed.
@@ -201,27 +307,27 @@ pub fn judge_run(
     ensures { JudgesRun component.now matrix.now bound run.now result }
 {
     let start = start_of(alloc, component, matrix)?;
-    let mut follower = Follower {
-        table: first_table(alloc, start)?,
-        pending: [None; 8],
-        monitor: Monitor::new(alloc, 0)?,
+    let mut table = first_table(alloc, start)?;
+    let runs = SerialRuns {
+        alloc,
+        component,
+        calls: &run.calls,
+        bound,
     };
-    let mut lost = None;
-    for (number, event) in run.events.iter().enumerate() {
-        let next = match advance(alloc, component, &run.calls, bound, follower, *event) {
-            Ok(next) => next,
-            Err(fault) => return offence(fault),
-        };
-        lost = first_lost(lost, number, &next.monitor);
-        follower = next;
-    }
-    match lost {
-        Some(number) => Ok(RunVerdict::FailsAt(number)),
+    let all = match follow_all(runs, &mut table, &run.events) {
+        Ok(all) => all,
+        Err(fault) => return offence(fault),
+    };
+    match all.lost {
         None => Ok(end_verdict(
             run.is_stuck,
-            &follower.table,
-            &follower.monitor,
-            &follower.pending,
+            &table,
+            &all.follower.monitor,
+            &all.follower.pending,
         )),
+        Some(kept) => match first_lost(runs, &mut table, &run.events, kept) {
+            Ok(number) => Ok(RunVerdict::FailsAt(number)),
+            Err(fault) => offence(fault),
+        },
     }
 }

@@ -15,7 +15,7 @@ learn_at-requires-clause-state c =
 pub returns-in_err-new-clause-offends : goal.returns-in_err-new-clause-offends
 returns-in_err-new-clause-offends c =
     let p = err_from_is_err_and c.from_residual.result c.from_residual.ensures.1 in
-    rw (p.1, p.2) (fault_earlier c.args.component.now c.args.calls.now c.args.bound c.args.table.now c.loop-one.table c.in_err-new.field-0.0 c.loop-one.invariant.learns c.in_err-new.ensures.offends)
+    rw (p.1, p.2) (fault_earlier c.args.runs.component.now c.args.runs.calls.now c.args.runs.bound c.args.table.now c.loop-one.table c.in_err-new.field-0.0 c.loop-one.invariant.learns c.in_err-new.ensures.offends)
 
 pub loop-one-preserved : goal.loop-one-preserved
 loop-one-preserved c =
@@ -26,7 +26,7 @@ loop-one-preserved c =
     let new = c.learn_at.new.table in
     let pending = c.args.pending.now in
     record {
-      learns = learns_on c.args.component.now c.args.calls.now c.args.table.now c.loop-one.table new inv.learns learns;
+      learns = learns_on c.args.runs.component.now c.args.runs.calls.now c.args.table.now c.loop-one.table new inv.learns learns;
       known = all_next new pending list i (λ j one lt at. known_later c.loop-one.table new learns.grows pending one (inv.known j one lt at)) _ (slice_get-get_or list i _ c.loop-one-test.true) c.in_ok-new.ensures.known;
       same = λ e.
           (let both = neither c.loop-one.new c.in_ok-new.field-0 e in

@@ -19,12 +19,12 @@ learn-requires-clause-state c =
 pub returns-in_err-new-in-Some-clause-offends : goal.returns-in_err-new-in-Some-clause-offends
 returns-in_err-new-in-Some-clause-offends c =
     let p = err_from_is_err_and c.from_residual.result c.from_residual.ensures.1 in
-    rw (p.1, p.2) (fault_earlier c.args.component.now c.args.calls.now c.args.bound c.args.table.now c.loop-thread.table c.in_err-new-in-Some.field-0.0 c.loop-thread.invariant.learns c.in_err-new-in-Some.ensures.offends)
+    rw (p.1, p.2) (fault_earlier c.args.runs.component.now c.args.runs.calls.now c.args.runs.bound c.args.table.now c.loop-thread.table c.in_err-new-in-Some.field-0.0 c.loop-thread.invariant.learns c.in_err-new-in-Some.ensures.offends)
 
 pub loop-thread-preserved : goal.loop-thread-preserved
 loop-thread-preserved c =
-    let component = c.args.component.now in
-    let calls = c.args.calls.now in
+    let component = c.args.runs.component.now in
+    let calls = c.args.runs.calls.now in
     let old = c.args.table.now in
     let mid = c.loop-thread.table in
     let inv = c.loop-thread.invariant in
