@@ -1,5 +1,6 @@
 /* Memory of which one growth is refused: the call number LINEUP_REFUSE, from 1, of malloc, calloc, realloc,
- * aligned_alloc and posix_memalign in the life of a process. At the end the number of calls is written to the file
+ * aligned_alloc and posix_memalign in the life of a process. With LINEUP_ONWARD, all calls from that one on are refused.
+ * At the end the number of calls is written to the file
  * LINEUP_COUNT, where one is named. Where a file LINEUP_AGAIN is named, the program is run twice in the process: what it
  * was refused in is made again, from the beginning of standard input, and what it then prints goes to that file, behind
  * a line with the exit status of the first run; the process has that of the second. To be preloaded (LD_PRELOAD). */
@@ -27,11 +28,14 @@ static int is_ample;
 static int is_refused(void)
 {
     static long refused = -1;
+    static int is_onward;
     if (refused < 0) {
         const char *number = getenv("LINEUP_REFUSE");
         refused = number ? atol(number) : 0;
+        is_onward = refused > 0 && getenv("LINEUP_ONWARD");
     }
-    return atomic_fetch_add(&calls, 1) + 1 == refused && !is_ample;
+    long call = atomic_fetch_add(&calls, 1) + 1;
+    return (is_onward ? call >= refused : call == refused) && !is_ample;
 }
 
 static jmp_buf first_end;

@@ -5,14 +5,14 @@ use Rattle.std.proofs.lemmas.List.Elements.{All-cons, All-nil}
 use Rattle.std.specs.Map.{lookup}
 use Rattle.indexmap.specs.IndexMap.{IndexMap, get, insert_entry}
 use Rattle.indexmap.proofs.CallerLemmas.{insert_entry-new}
-use Rattle.lu_machine.specs.Positions.{CanStandAt, at_position}
 use Rattle.lu_machine.specs.States.{State}
 use Rattle.lu_conform.specs.declared.kept.Arrival.{Arrival}
 use Rattle.lu_conform.specs.declared.kept.Kept.{Kept}
 use Rattle.lu_conform.specs.Growing.{AddsStage, Entry, IsKeptAs, stands_for}
+use Rattle.lu_conform.specs.Packing.{CanStandWith, standing_with}
 use Rattle.lu_conform.specs.Stages.{stage_of}
 use Rattle.lu_conform.proofs.Among.{at_last}
-use Rattle.lu_conform.proofs.Same.{kept_eq, same_kept}
+use Rattle.lu_conform.proofs.Same.{equal_kept, kept_eq}
 
 -- where a key is found, it stands somewhere
 found_at : (key : Kept) (es : List Entry) → is_some (lookup (kept_eq key) es) ≡ true → (i : ℕ) × (entry : Entry) × (slice_get es i ≡ Some entry) × (kept_eq key entry.0 ≡ true)
@@ -28,7 +28,7 @@ none_of None h = refl
 none_of (Some x) h = absurd (cc)
 
 module _ {S : Type 0} where
-  module _ (s : State) (seen : ℕ) (key : Kept) (here : at_position s key.position ≡ s) (stands : CanStandAt s.component s.matrix key.position) (seen_is : key.seen ≡ seen) (arrival : Option Arrival) (old : IndexMap Kept (Option Arrival) S) where
+  module _ (s : State) (seen : ℕ) (key : Kept) (here : standing_with s key.numbers.items ≡ s) (stands : CanStandWith s.component s.matrix key.numbers.items) (seen_is : key.seen ≡ seen) (arrival : Option Arrival) (old : IndexMap Kept (Option Arrival) S) where
     stage_is : stands_for s.component s.matrix key ≡ stage_of s seen
     stage_is = ap (λ (x : State). stage_of x key.seen) here ∙ ap (λ n. stage_of s n) seen_is
 
@@ -36,7 +36,7 @@ module _ {S : Type 0} where
     pub stays : is_some (get kept_eq old key) ≡ true → AddsStage s.component s.matrix (stage_of s seen) arrival old.entries old.entries
     stays there =
         let found = found_at key old.entries there in
-        let same = (same_kept s.component s.matrix key found.1.0).0 found.3 in
+        let same = equal_kept s.component s.matrix key found.1.0 found.3 in
         record {
           there = (found.0, found.1, found.2, sym same ∙ stage_is);
           grows = ([], sym (append-nil old.entries), All-nil (IsKeptAs s.component s.matrix (stage_of s seen) arrival));

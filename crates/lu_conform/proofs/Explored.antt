@@ -8,7 +8,6 @@ use Rattle.std.proofs.lemmas.Option.{same_Some, slice_get_within}
 use Rattle.std.proofs.lemmas.List.{append-nil, length-reverse, reverse-reverse}
 use Rattle.lu_test.specs.declared.schedule.Move.{Move}
 use Rattle.lu_machine.specs.declared.event.Event.{Event}
-use Rattle.lu_machine.specs.Positions.{CanStandAt}
 use Rattle.lu_machine.specs.Runs.{Leads, with_event}
 use Rattle.lu_machine.specs.States.{State}
 use Rattle.lu_machine.specs.Steps.{Step}
@@ -17,6 +16,7 @@ use Rattle.lu_recorded.specs.declared.recorded.Recorded.{Recorded}
 use Rattle.lu_conform.specs.declared.kept.Arrival.{Arrival}
 use Rattle.lu_conform.specs.declared.kept.Kept.{Kept}
 use Rattle.lu_conform.specs.Growing.{AddsNext, AddsStage, Entry, IsKeptAs, IsNext, stands_for}
+use Rattle.lu_conform.specs.Packing.{CanStandWith}
 use Rattle.lu_conform.specs.Showing.{IsEndOf, IsStuckAs}
 use Rattle.lu_conform.specs.Stages.{Follows, Stage, stage_of}
 use Rattle.lu_conform.specs.Ways.{HasParentsBefore, IsWayBack, IsWayTo}
@@ -40,7 +40,7 @@ module _ (s : State) where
   module _ (recorded : Recorded) where
     -- a machine can stand there, and the way to this place leads there, with the first events of the history
     pub record IsReached (list : List Entry) (far : ℕ → ℕ) (place : ℕ) (entry : Entry) : Type 0 where
-      pub stands : CanStandAt s.component s.matrix entry.0.position
+      pub stands : CanStandWith s.component s.matrix entry.0.numbers.items
       pub back : List Move
       pub way : IsWayBack list place back
       pub deep : length back ≡ far place

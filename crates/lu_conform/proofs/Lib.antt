@@ -1,4 +1,5 @@
 mod Among
+mod Unpacking
 mod Same
 mod Added
 mod Grown

@@ -53,7 +53,7 @@ module _ (s : State) (recorded : Recorded) (list : List Entry) (far : ℕ → �
       let y = some_at list j within in
       let stages_same : its s x.0.0 ≡ its s y.0.0 =
       same_Some (its s x.0.0) (its s y.0.0) (sym (place_is i x.0 x.1) ∙ (ap (slice_get stages) same ∙ place_is j y.0 y.1)) in
-      let equal : kept_eq x.0.0 y.0.0 ≡ true = (same_kept s.component s.matrix x.0.0 y.0.0).1 stages_same in
+      let equal : kept_eq x.0.0 y.0.0 ≡ true = (same_kept s.component s.matrix x.0.0 y.0.0 (reached i x.0 x.1).stands (reached j y.0 y.1).stands) stages_same in
       let keys : List Kept = map key list in
       let many : length keys ≡ length list = length-map list key in
       let apart = apart_from_distinct kept_eq keys i j x.0.0 distinct lt (omega (arith, many, within)) in

@@ -11,7 +11,6 @@ use Rattle.lu_test.specs.Schedule.{IsMove}
 use Rattle.lu_machine.specs.declared.event.Event.{Event}
 use Rattle.lu_machine.specs.declared.thread.Activity.TheVariants.{Idle}
 use Rattle.lu_machine.specs.declared.thread.Thread.{Thread}
-use Rattle.lu_machine.specs.Positions.{CanStandAt, at_position}
 use Rattle.lu_machine.specs.Runs.{Leads}
 use Rattle.lu_machine.specs.Starts.{IsStart, Settles}
 use Rattle.lu_machine.specs.States.{State}
@@ -21,6 +20,7 @@ use Rattle.lu_machine.proofs.Starting.{start_component, start_matrix, start_same
 use Rattle.lu_machine.proofs.StepLaws.{step_feasible}
 use Rattle.lu_recorded.specs.declared.recorded.Recorded.{Recorded}
 use Rattle.lu_conform.specs.Growing.{AddsNext, AddsStage, Entry}
+use Rattle.lu_conform.specs.Packing.{CanStandWith, owners_in, standing_in, standing_with, values_in}
 use Rattle.lu_conform.specs.Showing.{HasManyStages, IsEndOf, IsShortest, IsShownBy, IsShownByNone}
 use Rattle.lu_conform.specs.Stages.{stage_of}
 use Rattle.lu_conform.specs.Ways.{HasParentsBefore, IsWayTo}
@@ -72,9 +72,10 @@ module _ (c : Component) (matrix : Matrix) (settles : Settles c matrix) (recorde
 
     module _ (m : State) (component : m.component ≡ c) (matrix_is : m.matrix ≡ matrix) (entry : Entry) (at : slice_get list place ≡ Some entry) where
       -- where the machine stands then
-      here : (s : State) → IsStart c matrix s → at_position m entry.0.position ≡ (its s entry.0).state
+      here : (s : State) → IsStart c matrix s → standing_with m entry.0.numbers.items ≡ (its s entry.0).state
       here s is =
-          let make : Component → Matrix → State = λ d x. record { component = d; matrix = x; cells = entry.0.position.cells.items; locks = entry.0.position.locks.items; threads = entry.0.position.threads.items } in
+          let numbers = entry.0.numbers.items in
+          let make : Component → Matrix → State = λ d x. record { component = d; matrix = x; cells = values_in d x numbers; locks = owners_in d numbers; threads = standing_in d x numbers } in
           ap (λ d. make d m.matrix) (component ∙ sym (start_component c matrix s is)) ∙ ap (λ x. make s.component x) (matrix_is ∙ sym (start_matrix c matrix s is))
 
       reached : (s : State) (is : IsStart c matrix s) → IsReached s recorded list (all s is).far place entry
@@ -83,13 +84,13 @@ module _ (c : Component) (matrix : Matrix) (settles : Settles c matrix) (recorde
       pub parents_before : HasParentsBefore list
       parents_before = let there = start_there c matrix settles in (all there.0 there.1).parents
 
-      pub can_stand : CanStandAt m.component m.matrix entry.0.position
+      pub can_stand : CanStandWith m.component m.matrix entry.0.numbers.items
       can_stand =
           let there = start_there c matrix settles in
           let s = there.0 in
           let x = (reached s there.1).stands in
-          let y = subst (λ d. CanStandAt d s.matrix entry.0.position) (start_component c matrix s there.1 ∙ sym component) x in
-          subst (λ d. CanStandAt m.component d entry.0.position) (start_matrix c matrix s there.1 ∙ sym matrix_is) y
+          let y = subst (λ d. CanStandWith d s.matrix entry.0.numbers.items) (start_component c matrix s there.1 ∙ sym component) x in
+          subst (λ d. CanStandWith m.component d entry.0.numbers.items) (start_matrix c matrix s there.1 ∙ sym matrix_is) y
 
       pub are_moves : IsComponent c → IsMatrix matrix → (u : List Move) → IsWayTo list place u → All IsMove u
       are_moves sound limits u way =
@@ -103,7 +104,7 @@ module _ (c : Component) (matrix : Matrix) (settles : Settles c matrix) (recorde
           subst (All IsMove) (sym is)
           (all_moves (reverse r.back) s (its s entry.0).state r.history (subst IsComponent (sym (start_component c matrix s there.1)) sound) (omega (arith, threads, most)) r.leads)
 
-      pub shortest_way : (u : List Move) → IsWayTo list place u → IsEndOf recorded (stage_of (at_position m entry.0.position) entry.0.seen) → IsShortest c matrix recorded u
+      pub shortest_way : (u : List Move) → IsWayTo list place u → IsEndOf recorded (stage_of (standing_with m entry.0.numbers.items) entry.0.seen) → IsShortest c matrix recorded u
       shortest_way u way ends =
           let there = start_there c matrix settles in
           let s = there.0 in
@@ -114,7 +115,7 @@ module _ (c : Component) (matrix : Matrix) (settles : Settles c matrix) (recorde
             shortest = λ v shows. best.1 v (from_start s there.1 v shows);
           }
 
-      pub known_more : (IsEndOf recorded (stage_of (at_position m entry.0.position) entry.0.seen) → ⊥) → (new : List Entry) → AddsNext (at_position m entry.0.position) recorded.history entry.0.seen place list new → KnownTo c matrix recorded new (place + 1)
+      pub known_more : (IsEndOf recorded (stage_of (standing_with m entry.0.numbers.items) entry.0.seen) → ⊥) → (new : List Entry) → AddsNext (standing_with m entry.0.numbers.items) recorded.history entry.0.seen place list new → KnownTo c matrix recorded new (place + 1)
       known_more not_here new adds s is =
           let same = here s is in
           explored_more s recorded list new place entry at (all s is)

@@ -5,12 +5,12 @@ use Rattle.lu_component.specs.Component.{Component}
 use Rattle.lu_test.specs.declared.schedule.Move.{Move}
 use Rattle.lu_test.specs.Matrix.{Matrix}
 use Rattle.lu_machine.specs.declared.event.Event.{Event}
-use Rattle.lu_machine.specs.Positions.{CanStandAt}
 use Rattle.lu_machine.specs.States.{State}
 use Rattle.lu_machine.specs.Steps.{Step}
 use Rattle.lu_conform.specs.declared.growing.SoFar.{SoFar}
 use Rattle.lu_conform.specs.declared.kept.Arrival.{Arrival}
 use Rattle.lu_conform.specs.declared.kept.Kept.{Kept}
+use Rattle.lu_conform.specs.Packing.{CanStandWith, owners_in, standing_in, values_in}
 use Rattle.lu_conform.specs.Stages.{Follows, Stage, stage_of}
 
 -- a stage, as it is kept, and how it was first reached: the start was not
@@ -27,9 +27,9 @@ stands_for c matrix kept = record {
   state = record {
     component = c;
     matrix = matrix;
-    cells = kept.position.cells.items;
-    locks = kept.position.locks.items;
-    threads = kept.position.threads.items;
+    cells = values_in c matrix kept.numbers.items;
+    locks = owners_in c kept.numbers.items;
+    threads = standing_in c matrix kept.numbers.items;
   };
   seen = kept.seen;
 }
@@ -37,7 +37,7 @@ stands_for c matrix kept = record {
 -- a machine can stand there, it stands for this stage, and it was reached so
 pub record IsKeptAs (c : Component) (matrix : Matrix) (stage : Stage) (arrival : Option Arrival)
     (entry : Entry) : Type 0 where
-  pub stands : CanStandAt c matrix entry.0.position
+  pub stands : CanStandWith c matrix entry.0.numbers.items
   pub stage_is : stands_for c matrix entry.0 ≡ stage
   pub arrival_is : entry.1 ≡ arrival
 

@@ -1,4 +1,5 @@
 pub mod Stages
+pub mod Packing
 pub mod Showing
 pub mod Growing
 pub mod Ways

@@ -5,6 +5,7 @@ ghost use Rattle.lu_conform.specs.Growing.{AddsAhead, AddsAfter, AddsHere};
 
 use crate::following::seen_after;
 use crate::kept::{Arrival, Kept, Stages};
+use crate::packing::numbers_at;
 use lu_machine::{Event, Machine};
 use lu_test::Move;
 use std::alloc::{AllocError, Global};
@@ -29,8 +30,10 @@ pub(crate) fn add(
 ) -> Result<(), AllocError>
     ensures { OnOk result (AddsHere machine.now seen arrival stages.old stages.new) }
 {
+    // For the proof: that a machine can stand here is known of a position.
+    let _here = machine.position(alloc)?;
     let kept = Kept {
-        position: machine.position(alloc)?,
+        numbers: numbers_at(alloc, machine)?,
         seen,
     };
     if stages.contains_key(&kept) {

@@ -1,13 +1,13 @@
 //! Stages, as they are kept.
 
 use indexmap::IndexMap;
-use lu_machine::Position;
 use lu_test::Move;
 
-/// Where a machine stands, and how many events of the recorded history are after it.
+/// Where a machine stands ([`numbers_at`](crate::packing::numbers_at)), and how many events of the
+/// recorded history are after it.
 #[derive(PartialEq, Eq, Hash, Drop)]
 pub(crate) struct Kept {
-    pub(crate) position: Position,
+    pub(crate) numbers: Vec<u32>,
     pub(crate) seen: usize,
 }
 

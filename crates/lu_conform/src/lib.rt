@@ -21,6 +21,7 @@ mod following;
 mod growing;
 mod kept;
 mod laws;
+mod packing;
 mod searching;
 mod shown;
 mod ways;

@@ -12,6 +12,7 @@ ghost use Rattle.lu_conform.specs.declared.shown.Shown.TheVariants.{By, Undecide
 
 use crate::ending::is_end;
 use crate::growing::{SoFar, add, add_next};
+use crate::packing::stand_at;
 use crate::shown::Shown;
 use crate::ways::way_to;
 use indexmap::IndexMap;
@@ -70,7 +71,7 @@ pub fn shown_by(
             None => return Ok(Shown::ByNone),
             Some(entry) => entry,
         };
-        machine.stand_at(&kept.position);
+        stand_at(alloc, &mut machine, &kept.numbers)?;
         let seen = kept.seen;
         if is_end(&machine, recorded, seen) {
             let moves = way_to(alloc, &stages, at)?;

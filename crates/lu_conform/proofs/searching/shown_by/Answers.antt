@@ -9,10 +9,10 @@ use Rattle.lu_conform.specs.declared.shown.Shown.TheVariants.{By, Undecided}
 use Rattle.lu_conform.specs.Showing.{IsEndOf, IsShortest, IsShown}
 use Rattle.lu_conform.specs.Stages.{stage_of}
 use Rattle.std.proofs.lemmas.Bool.{cases_lt}
-use Rattle.lu_machine.specs.Positions.{at_position}
 use Rattle.lu_machine.specs.States.{State}
 use Rattle.lu_machine.proofs.Starting.{start_component, start_matrix}
 use Rattle.lu_conform.specs.Growing.{AddsNext, Entry}
+use Rattle.lu_conform.specs.Packing.{CanStandWith, standing_with}
 use Rattle.lu_conform.proofs.Visiting.{are_moves, can_stand, known_more, known_none, none_there, parents_before, shortest_way, too_many}
 use Rattle.lu_conform.proofs.searching.shown_by.Goals as goal
 
@@ -51,8 +51,9 @@ returns c =
 pub stand_at-requires : goal.stand_at-requires
 stand_at-requires c =
     let entry : Entry = (c.in-Some.entry.0.now, c.in-Some.entry.1.now) in
-    can_stand c.args.component.now c.args.matrix.now c.requires.settles c.args.recorded.now c.loop-at.stages.entries c.loop-at.at c.loop-at.invariant.known
-    c.loop-at.machine c.loop-at.invariant.component c.loop-at.invariant.matrix_is entry (sym c.in-Some.ensures.entry)
+    subst (CanStandWith c.loop-at.machine.component c.loop-at.machine.matrix) (sym c.deref.ensures.value)
+    (can_stand c.args.component.now c.args.matrix.now c.requires.settles c.args.recorded.now c.loop-at.stages.entries c.loop-at.at c.loop-at.invariant.known
+    c.loop-at.machine c.loop-at.invariant.component c.loop-at.invariant.matrix_is entry (sym c.in-Some.ensures.entry))
 
 pub way_to-requires-clause-parents : goal.way_to-requires-clause-parents
 way_to-requires-clause-parents c =
@@ -78,8 +79,9 @@ told c matrix recorded moves shown short long best =
 pub returns-then-is_end : goal.returns-then-is_end
 returns-then-is_end c =
     let entry : Entry = (c.in-Some.entry.0.now, c.in-Some.entry.1.now) in
-    let ends : IsEndOf c.args.recorded.now (stage_of (at_position c.loop-at.machine entry.0.position) entry.0.seen) =
-    subst (λ (s : State). IsEndOf c.args.recorded.now (stage_of s entry.0.seen)) c.stand_at.ensures (c.is_end.ensures.0 c.if-is_end.true) in
+    let stood = c.in_ok-stand_at.ensures.stands ∙ ap (standing_with c.loop-at.machine) c.deref.ensures.value in
+    let ends : IsEndOf c.args.recorded.now (stage_of (standing_with c.loop-at.machine entry.0.numbers.items) entry.0.seen) =
+    subst (λ (s : State). IsEndOf c.args.recorded.now (stage_of s entry.0.seen)) stood (c.is_end.ensures.0 c.if-is_end.true) in
     told c.args.component.now c.args.matrix.now c.args.recorded.now c.in_ok-moves.moves.items c.by_way.result c.by_way.ensures.short c.by_way.ensures.long
     (shortest_way c.args.component.now c.args.matrix.now c.requires.settles c.args.recorded.now c.loop-at.stages.entries c.loop-at.at c.loop-at.invariant.known
     c.loop-at.machine c.loop-at.invariant.component c.loop-at.invariant.matrix_is entry (sym c.in-Some.ensures.entry) c.in_ok-moves.moves.items c.in_ok-moves.ensures ends)
@@ -91,14 +93,15 @@ different false p q = cc
 pub loop-at-preserved : goal.loop-at-preserved
 loop-at-preserved c =
     let entry : Entry = (c.in-Some.entry.0.now, c.in-Some.entry.1.now) in
-    let there = at_position c.loop-at.machine entry.0.position in
-    let home : c.add_next.new.machine ≡ there = c.in_ok-add_next.ensures.home ∙ c.stand_at.ensures in
-    let as_events : AddsNext c.stand_at.new.self c.args.recorded.now.history entry.0.seen c.loop-at.at c.loop-at.stages.entries c.add_next.new.stages.entries =
-    subst (λ (h : List Event). AddsNext c.stand_at.new.self h entry.0.seen c.loop-at.at c.loop-at.stages.entries c.add_next.new.stages.entries) c.events-events.ensures.events c.in_ok-add_next.ensures.next in
+    let there = standing_with c.loop-at.machine entry.0.numbers.items in
+    let stood = c.in_ok-stand_at.ensures.stands ∙ ap (standing_with c.loop-at.machine) c.deref.ensures.value in
+    let home : c.add_next.new.machine ≡ there = c.in_ok-add_next.ensures.home ∙ stood in
+    let as_events : AddsNext c.stand_at.new.machine c.args.recorded.now.history entry.0.seen c.loop-at.at c.loop-at.stages.entries c.add_next.new.stages.entries =
+    subst (λ (h : List Event). AddsNext c.stand_at.new.machine h entry.0.seen c.loop-at.at c.loop-at.stages.entries c.add_next.new.stages.entries) c.events-events.ensures.events c.in_ok-add_next.ensures.next in
     let adds : AddsNext there c.args.recorded.now.history entry.0.seen c.loop-at.at c.loop-at.stages.entries c.add_next.new.stages.entries =
-    subst (λ (s : State). AddsNext s c.args.recorded.now.history entry.0.seen c.loop-at.at c.loop-at.stages.entries c.add_next.new.stages.entries) c.stand_at.ensures as_events in
+    subst (λ (s : State). AddsNext s c.args.recorded.now.history entry.0.seen c.loop-at.at c.loop-at.stages.entries c.add_next.new.stages.entries) stood as_events in
     let not_here : IsEndOf c.args.recorded.now (stage_of there entry.0.seen) → ⊥ =
-    λ ends. different c.is_end.result (c.is_end.ensures.1 (subst (λ (s : State). IsEndOf c.args.recorded.now (stage_of s entry.0.seen)) (sym c.stand_at.ensures) ends)) c.if-is_end.false in
+    λ ends. different c.is_end.result (c.is_end.ensures.1 (subst (λ (s : State). IsEndOf c.args.recorded.now (stage_of s entry.0.seen)) (sym stood) ends)) c.if-is_end.false in
     record {
       component = ap (λ (s : State). s.component) home ∙ c.loop-at.invariant.component;
       matrix_is = ap (λ (s : State). s.matrix) home ∙ c.loop-at.invariant.matrix_is;
