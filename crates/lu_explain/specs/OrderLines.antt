@@ -30,24 +30,32 @@ stands_words c matrix broken =
     operation_words c matrix broken.second.t broken.second.k ++ codes " comes before "
     ++ operation_words c matrix broken.first.t broken.first.k
 
--- `, although the latter returned (move 7)`: the first of both
-abbrev pub returned_words : List Event → List ℕ → OpId → List ℕ
-returned_words h moves a =
-    codes ", although the latter returned (move " ++ decimal (number_of (is_return a) h moves)
-    ++ codes ")"
+-- ` here, but T0 push 5 returned (move 7)`: the first of both
+abbrev pub returned_words : Component → Matrix → OpId → ℕ → List ℕ
+returned_words c matrix a at =
+    codes " here, but " ++ operation_words c matrix a.t a.k
+    ++ (codes " returned (move " ++ (decimal at ++ codes ")"))
 
--- ` before the former was called (move 14)`: the second of both
-abbrev pub called_words : List Event → List ℕ → OpId → List ℕ
-called_words h moves b =
-    codes " before the former was called (move " ++ decimal (number_of (is_call b) h moves)
-    ++ codes ")"
+-- ` before T1 pop was called (move 14)`: the second of both
+abbrev pub called_words : Component → Matrix → OpId → ℕ → List ℕ
+called_words c matrix b at =
+    codes " before " ++ operation_words c matrix b.t b.k
+    ++ (codes " was called (move " ++ (decimal at ++ codes ")"))
+
+-- the number of the move by which an operation returned, or was called
+abbrev pub move_of_return : Run → OpId → ℕ
+move_of_return run a = number_of (is_return a) run.events run.moves
+
+abbrev pub move_of_call : Run → OpId → ℕ
+move_of_call run b = number_of (is_call b) run.events run.moves
 
 -- a precedence that an order breaks
 abbrev pub broken_line : Run → Precedence → List ℕ
 broken_line run broken =
     stands_words run.component run.matrix broken
-    ++ returned_words run.events run.moves broken.first
-    ++ called_words run.events run.moves broken.second ++ codes "\n"
+    ++ returned_words run.component run.matrix broken.first (move_of_return run broken.first)
+    ++ called_words run.component run.matrix broken.second (move_of_call run broken.second)
+    ++ codes "\n"
 
 -- the order, and the first precedence that it breaks, where there is such an order
 abbrev pub any_order_text : Run → Option AnyOrder → List ℕ

@@ -74,30 +74,36 @@ fn write_stands(
     write_operation(text, component, matrix, first.t, usize::from(first.k))
 }
 
-/// Adds at which move the operation returned.
+/// Adds that the operation returned at this move.
 fn write_returned(
     text: &mut String,
-    events: &[Event],
-    moves: &[usize],
+    component: &Component,
+    matrix: &Matrix,
     a: OpId,
+    at: usize,
 ) -> Result<(), AllocError>
-    ensures { Writes result text.old text.new (spec.returned_words events.now moves.now a) }
+    ensures { Writes result text.old text.new
+        (spec.returned_words component.now matrix.now a at) }
 {
-    text.push_str(", although the latter returned (move ")?;
-    write!(text, "{})", returned_at(a, events, moves))
+    text.push_str(" here, but ")?;
+    write_operation(text, component, matrix, a.t, usize::from(a.k))?;
+    write!(text, " returned (move {at})")
 }
 
-/// Adds at which move the operation was called.
+/// Adds that it returned before the operation was called, at this move.
 fn write_called(
     text: &mut String,
-    events: &[Event],
-    moves: &[usize],
+    component: &Component,
+    matrix: &Matrix,
     b: OpId,
+    at: usize,
 ) -> Result<(), AllocError>
-    ensures { Writes result text.old text.new (spec.called_words events.now moves.now b) }
+    ensures { Writes result text.old text.new
+        (spec.called_words component.now matrix.now b at) }
 {
-    text.push_str(" before the former was called (move ")?;
-    write!(text, "{})", called_at(b, events, moves))
+    text.push_str(" before ")?;
+    write_operation(text, component, matrix, b.t, usize::from(b.k))?;
+    write!(text, " was called (move {at})")
 }
 
 /// Adds the line of a precedence that an order breaks.
@@ -105,9 +111,12 @@ fn write_broken(text: &mut String, run: &Run<'_>, broken: Precedence) -> Result<
     ensures { Writes result text.old text.new (spec.broken_line run.now broken) }
 {
     let events = run.history.events();
-    write_stands(text, run.component, run.matrix, broken)?;
-    write_returned(text, events, run.moves, broken.first)?;
-    write_called(text, events, run.moves, broken.second)?;
+    let (component, matrix) = (run.component, run.matrix);
+    let returned = returned_at(broken.first, events, run.moves);
+    let called = called_at(broken.second, events, run.moves);
+    write_stands(text, component, matrix, broken)?;
+    write_returned(text, component, matrix, broken.first, returned)?;
+    write_called(text, component, matrix, broken.second, called)?;
     text.push('\n')
 }
 

@@ -130,7 +130,7 @@ owned_by (Some t) = codes ", which thread " ++ decimal t ++ codes " holds"
 
 abbrev pub present : Option ℕ → List ℕ
 present None = []
-present (Some n) = codes ", and it is " ++ decimal n
+present (Some n) = codes ", but it is " ++ decimal n
 
 -- the lock, and the thread that has it
 abbrev pub awaited_lock : State → ℕ → List ℕ

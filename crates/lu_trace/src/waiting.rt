@@ -32,7 +32,7 @@ fn write_present(text: &mut String, present: Option<u32>) -> Result<(), AllocErr
 {
     match present {
         None => Ok(()),
-        Some(value) => write!(text, ", and it is {value}"),
+        Some(value) => write!(text, ", but it is {value}"),
     }
 }
 
