@@ -18,15 +18,17 @@ lineup finds faults in concurrent components, such as locks, queues and counters
 usage: lineup COMMAND [OPTION..] < BUNDLE
 A bundle has the parts listed here, in this order, separated by lines `---`.
 Exit status: 0 success, 1 failure, 2 refused, 3 undecided or a serial cut,
-4 out of memory or a failed device.
+4 out of memory, or a read, a write or the start of a thread failed.
 
 ";
 
 /// The text between the commands and the options.
 const NOTES: &str = "\n\
 explain, draw and trace also take a schedule in place of the report, or the output
-of certify in place of matrix and report. Given a component and a matrix alone, they
-certify and show what fails.
+of certify in place of matrix and report. Given a component and a matrix alone,
+they certify and show what fails.
+
+witness also takes runs in place of matrix and histories.
 
 compile, explain, draw, trace and lint take a source in place of the component. The
 other commands do with --source.

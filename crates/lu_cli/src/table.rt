@@ -97,7 +97,7 @@ static COMMANDS: [CommandRow; 16] = [
     CommandRow {
         name: "campaign",
         parts: "component, matrix",
-        words: "the first small matrix over some calls that fails",
+        words: "the first small matrix that fails, over the calls given",
     },
     CommandRow {
         name: "witness",
@@ -227,7 +227,7 @@ static OPTIONS: [OptionRow; 29] = [
             most: 4_294_967_295,
         },
         default: Some("8388608"),
-        words: "maximum number of nodes of each cut; with --rounds or --forever, of the whole search",
+        words: "maximum number of states to search in each cut; with --rounds or --forever, in all",
         commands: &["certify"],
     },
     OptionRow {
@@ -235,7 +235,7 @@ static OPTIONS: [OptionRow; 29] = [
         letter: "L",
         kind: Kind::Number { least: 0, most: 16 },
         default: Some("0"),
-        words: "minimum number of local instructions that run with a move",
+        words: "how many local instructions may run with a move, if the component allows fewer",
         commands: &["certify"],
     },
     OptionRow {
@@ -251,7 +251,7 @@ static OPTIONS: [OptionRow; 29] = [
         letter: "D",
         kind: Kind::Number { least: 0, most: 8 },
         default: None,
-        words: "maximum number of moves in a piece of work; without --depth, one worker starts alone",
+        words: "workers share schedules by their first D moves; by default, one has a head start",
         commands: &["check", "certify"],
     },
     OptionRow {
