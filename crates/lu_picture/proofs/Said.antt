@@ -330,7 +330,7 @@ named_plain c matrix t k limits =
 nothing_plain : (c : AComponent) (matrix : Matrix) (stuck : Option (ℕ × ℕ)) → IsComponent c → IsPlain (nothing_words c matrix stuck)
 nothing_plain c matrix None limits = refl
 nothing_plain c matrix (Some (t, k)) limits =
-    plain_three (codes ", but ") (operation_words c matrix t k) (codes " is stuck") refl (named_plain c matrix t k limits) refl
+    plain_three (codes ", but nothing can follow ") (operation_words c matrix t k) (codes ", which is stuck") refl (named_plain c matrix t k limits) refl
 
 reason_plain : (c : AComponent) (matrix : Matrix) (order : List SerialOp) (reason : Reason) → IsComponent c → IsPlain (why_not c matrix order reason)
 reason_plain c matrix order (After a) limits =
