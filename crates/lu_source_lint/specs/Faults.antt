@@ -7,10 +7,11 @@ use Rattle.lu_text.specs.declared.fault.Fault.{Fault}
 use Rattle.lu_text.specs.declared.fault.Fault.TheVariants.{At, Memory}
 use Rattle.lu_text.specs.Faults.{meaning_of_lines}
 use Rattle.lu_text.specs.Lines.{lines_of}
+use Rattle.lu_text.specs.Names.{has_name_form}
 use Rattle.lu_text.specs.Words.{Word}
 use Rattle.lu_source.specs.Trees.{Program}
 use Rattle.lu_source_text.specs.declared.fault.SourceFaultKind.{SourceFaultKind as Kind}
-use Rattle.lu_source_text.specs.declared.fault.SourceFaultKind.TheVariants.{Limit, Missing}
+use Rattle.lu_source_text.specs.declared.fault.SourceFaultKind.TheVariants.{Form, Limit, Missing}
 use Rattle.lu_source_text.specs.Grammar.{is_word, source_grammar, source_words, where_some}
 use Rattle.lu_source_lint.specs.declared.faults.LineFault.{LineFault}
 use Rattle.lu_source_lint.specs.declared.message.SourceMessage.{SourceMessage}
@@ -35,6 +36,10 @@ abbrev pub is_whole_block : List Word → Bool
 is_whole_block words =
     not (word_is words 0 (codes "}")) && word_is words (length words - 1) (codes "}")
 
+-- whether a line is a `{` that stands alone, and so belongs to the line above
+abbrev pub is_brace_alone : List Word → Bool
+is_brace_alone words = length words == 1 && word_is words 0 (codes "{")
+
 abbrev pub ends_arguments : Word → Bool
 ends_arguments word = is_word word (codes ")") || is_word word (codes "{")
 
@@ -46,7 +51,7 @@ arguments_end words = unwrap_or (position ends_arguments words) (length words)
 -- that begins with `}`, and of one that begins with `op`, of which the first 4 arguments stay.
 abbrev pub meant_end : List Word → ℕ × List ℕ
 meant_end words =
-    if not (opens words) then (1, [])
+    if not (opens words || word_is words 1 (codes "else")) then (1, [])
     else (if word_is words 2 (codes "if") then (1, codes "else if 1 {") else (1, codes "else {"))
 
 abbrev pub meant_op : List Word → ℕ × List ℕ
@@ -55,12 +60,12 @@ meant_op words =
     else (min (arguments_end words) 10, codes ") {")
 
 -- The same of any line, by its fault and its first word: a name that the line declares is declared,
--- a block that it opens is open, one that it also closes is left out, and one that should have named
--- the object names it.
+-- a block that it begins is open (also where its `{` is missing, or alone on the next line), one
+-- that it also closes is left out, and one that should have named the object names it.
 abbrev pub meant : Kind → List Word → ℕ × List ℕ
 meant kind words =
     if is_missing kind || word_is words 0 (codes "object") then (0, codes "object a")
-    else (if is_whole_block words then (0, [])
+    else (if is_whole_block words || is_brace_alone words then (0, [])
     else (if word_is words 0 (codes "let") || word_is words 0 (codes "const") then (2, codes "= 0")
     else (if word_is words 0 (codes "word") && word_is words 2 (codes "[") then (2, codes "[1]")
     else (if word_is words 0 (codes "word") || word_is words 0 (codes "lock") then (2, [])
@@ -68,7 +73,7 @@ meant kind words =
     else (if word_is words 0 (codes "if") || word_is words 0 (codes "while") then (1, codes "1 {")
     else (if word_is words 0 (codes "loop") then (1, codes "{")
     else (if word_is words 0 (codes "}") then meant_end words
-    else (if opens words then (0, codes "if 1 {")
+    else (if opens words || word_is words 0 (codes "else") then (0, codes "if 1 {")
     else (0, []))))))))))
 
 -- each word, and a blank after it
@@ -110,9 +115,20 @@ with_line lines n line = set lines (n - 1) line
 abbrev pub or_line : List (List ℕ) → ℕ → List ℕ → List (List ℕ)
 or_line lines n line = if is_faulty lines n then with_line lines n line else lines
 
--- what a line that opens a block may have meant outside of operations
+-- the second word of a line, where it has the form of a name
+abbrev pub named_by : List Word → List ℕ
+named_by words =
+    where_some (slice_get words 1) [] (λ word. if has_name_form word then word else [])
+
+-- the line of an operation without arguments, whose name ends so
+abbrev pub unnamed : Word → List ℕ
+unnamed name = codes "op unnamed_" ++ name ++ codes "() {"
+
+-- what a line that opens a block may have meant outside of operations: an operation of a name that
+-- no other line has
 abbrev pub meant_outside : List ℕ → List ℕ
-meant_outside line = if opens (source_words line) then codes "op unnamed() {" else []
+meant_outside line =
+    let words = source_words line in if opens words then unnamed (named_by words) else []
 
 -- the lines with the faulty one as it may have been meant, in an operation or else outside of them;
 -- or with an empty one in its place, where that is faulty too
@@ -136,11 +152,32 @@ ends_all Limit words = word_is words 0 (codes "}")
 ends_all Missing words = is_declaration words
 ends_all _ words = false
 
--- whether nothing after the fault is reported: it is at the end of the text, or such a one
+abbrev pub is_form : Kind → Bool
+is_form Form = true
+is_form _ = false
+
+-- whether a fault is that line n has no form of a source
+abbrev pub formless_at : ℕ → Option LineFault → Bool
+formless_at n fault = where_some fault false (λ f. f.line == n && is_form f.kind)
+
+-- whether the first fault of these lines is that
+abbrev pub is_formless : List (List ℕ) → ℕ → Bool
+is_formless lines n = formless_at n (first_fault lines)
+
+-- whether line n, which has these words, begins an operation in another one: no line of the form of
+-- one is allowed there
+abbrev pub is_inner_operation : List (List ℕ) → ℕ → List Word → Bool
+is_inner_operation lines n words =
+    word_is words 0 (codes "op")
+    && is_formless (with_line lines n (codes "op unnamed() {")) n
+
+-- whether nothing after the fault is reported: it is at the end of the text, or such a one, or
+-- that of an operation in another one
 abbrev pub is_last : List (List ℕ) → LineFault → Bool
 is_last lines fault =
+    let words = source_words (line_at lines fault.line) in
     nat_lt (length lines) fault.line
-    || ends_all fault.kind (source_words (line_at lines fault.line))
+    || (ends_all fault.kind words || is_inner_operation lines fault.line words)
 
 abbrev pub message : LineFault → SourceMessage
 message fault = record { line = fault.line; what = AFault fault.kind }

@@ -1,6 +1,6 @@
 //! Every fault of a source.
 
-ghost use Rattle.std.specs.Prelude.{◌≡◌, IfOk, OnOk};
+ghost use Rattle.std.specs.Prelude.{◌≡◌, IfOk, OnOk, codes};
 ghost use Rattle.lu_text.specs.Lines.{lines_of, texts};
 ghost use Rattle.lu_text.specs.Faults.{meaning_of};
 ghost use Rattle.lu_text.specs.Results.{HasItems};
@@ -41,6 +41,17 @@ fn first_fault(alloc: Global, lines: &[Vec<u8>]) -> Result<Option<LineFault>, Al
 {
     let lines: Vec<&[u8]> = lines.iter().map(|line| line.as_slice()).collect(alloc)?;
     fault_of(alloc, &lines)
+}
+
+/// The lines, in memory of their own.
+fn copies(alloc: Global, lines: &[Vec<u8>]) -> Result<Vec<Vec<u8>>, AllocError>
+    ensures { IfOk result (λ copies. bytes_of copies.items ≡ bytes_of lines.now) }
+{
+    let mut copies = Vec::new(alloc);
+    for line in lines {
+        copies.push(Vec::from_slice(alloc, line.as_slice())?)?;
+    }
+    Ok(copies)
 }
 
 /// This line, or nothing where there are fewer.
@@ -88,7 +99,7 @@ fn mend(alloc: Global, lines: &mut [Vec<u8>], fault: LineFault) -> Result<(), Al
     let outside = meant_outside(alloc, line)?;
     let text = meant_line(alloc, fault.kind, line)?;
     set_line(lines, fault.line, text);
-    set_if_faulty(alloc, lines, fault.line, outside)?;
+    set_if_faulty(alloc, lines, fault.line, &outside)?;
     set_if_faulty(alloc, lines, fault.line, &[])
 }
 
@@ -103,8 +114,58 @@ fn is_declaration(words: &[&[u8]]) -> bool
         || word_is(words, 0, b"op")
 }
 
+/// Whether nothing after a line with these words can be read on, where it has this fault.
+fn ends_all(kind: SourceFaultKind, words: &[&[u8]]) -> bool
+    ensures { result ≡ spec.ends_all kind (texts words.now) }
+{
+    match kind {
+        SourceFaultKind::Limit => word_is(words, 0, b"}"),
+        SourceFaultKind::Missing => is_declaration(words),
+        _ => false,
+    }
+}
+
+/// Whether the fault is that this line has no form of a source.
+fn is_formless_at(line: usize, fault: Option<LineFault>) -> bool
+    ensures { result ≡ spec.formless_at line fault }
+{
+    match fault {
+        Some(fault) => fault.line == line && matches!(fault.kind, SourceFaultKind::Form),
+        None => false,
+    }
+}
+
+/// Whether the line has no form of a source where an operation without arguments is put in its
+/// place.
+fn refuses_operation(alloc: Global, lines: &mut [Vec<u8>], line: usize) -> Result<bool, AllocError>
+    ensures { IfOk result (λ refuses. refuses ≡ spec.is_formless
+        (spec.with_line (bytes_of lines.old) line (codes "op unnamed() {")) line) }
+{
+    let text = Vec::from_slice(alloc, b"op unnamed() {".as_slice())?;
+    set_line(lines, line, text);
+    let fault = first_fault(alloc, lines)?;
+    Ok(is_formless_at(line, fault))
+}
+
+/// Whether the line, which has these words, begins an operation in another one.
+fn is_inner_operation(
+    alloc: Global,
+    lines: &[Vec<u8>],
+    line: usize,
+    words: &[&[u8]],
+) -> Result<bool, AllocError>
+    ensures { IfOk result (λ inner. inner
+        ≡ spec.is_inner_operation (bytes_of lines.now) line (texts words.now)) }
+{
+    if !word_is(words, 0, b"op") {
+        return Ok(false);
+    }
+    let mut copies = copies(alloc, lines)?;
+    refuses_operation(alloc, &mut copies, line)
+}
+
 /// Whether nothing after the fault is reported: it is at the end of the text, or nothing after its
-/// line can be read on.
+/// line can be read on, or it is that of an operation in another one.
 fn is_last(alloc: Global, lines: &[Vec<u8>], fault: LineFault) -> Result<bool, AllocError>
     ensures { IfOk result (λ last. last ≡ spec.is_last (bytes_of lines.now) fault) }
 {
@@ -112,11 +173,10 @@ fn is_last(alloc: Global, lines: &[Vec<u8>], fault: LineFault) -> Result<bool, A
         return Ok(true);
     }
     let words = source_words(alloc, line_at(lines, fault.line))?;
-    match fault.kind {
-        SourceFaultKind::Limit => Ok(word_is(&words, 0, b"}")),
-        SourceFaultKind::Missing => Ok(is_declaration(&words)),
-        _ => Ok(false),
+    if ends_all(fault.kind, &words) {
+        return Ok(true);
     }
+    is_inner_operation(alloc, lines, fault.line, &words)
 }
 
 /// The faults of the lines, at most 20.

@@ -3,7 +3,7 @@
 use crate::meaning::word_is;
 
 /// Words of other languages.
-const FOREIGN: [(&str, &str); 33] = [
+const FOREIGN: [(&str, &str); 38] = [
     (
         ";",
         "unexpected `;`; help: remove it, since a statement ends with its line",
@@ -22,15 +22,15 @@ const FOREIGN: [(&str, &str); 33] = [
     ),
     (
         "&",
-        "`&` is not an operator of sources; help: `&&` is the logical operator",
+        "`&` is not an operator of sources; help: write `&&` for a logical and",
     ),
     (
         "|",
-        "`|` is not an operator of sources; help: `||` is the logical operator",
+        "`|` is not an operator of sources; help: write `||` for a logical or",
     ),
     (
         "^",
-        "`^` is not an operator of sources; help: `!=` tells whether two numbers differ",
+        "`^` is not an operator of sources; help: write `!=` to compare two values",
     ),
     (
         "and",
@@ -51,10 +51,22 @@ const FOREIGN: [(&str, &str); 33] = [
     ),
     ("mutex", "there is no `mutex`; help: declare `lock NAME`"),
     ("atomic", "there is no `atomic`; help: declare `word NAME`"),
-    ("var", "there is no `var`; help: write `let NAME = EXPR`"),
-    ("int", "there is no `int`; help: write `let NAME = EXPR`"),
-    ("u32", "there is no `u32`; help: write `let NAME = EXPR`"),
-    ("bool", "there is no `bool`; help: write `let NAME = EXPR`"),
+    (
+        "var",
+        "there is no `var`; help: write `let NAME = EXPR` in an operation, `word NAME` outside",
+    ),
+    (
+        "int",
+        "there is no `int`; help: write `let NAME = EXPR` in an operation, `word NAME` outside",
+    ),
+    (
+        "u32",
+        "there is no `u32`; help: write `let NAME = EXPR` in an operation, `word NAME` outside",
+    ),
+    (
+        "bool",
+        "there is no `bool`; help: write `let NAME = EXPR` in an operation, `word NAME` outside",
+    ),
     ("for", "there is no `for` loop; help: write `while EXPR {`"),
     (
         "match",
@@ -109,11 +121,42 @@ const FOREIGN: [(&str, &str); 33] = [
         "self",
         "there is no `self`; help: write the name of the word",
     ),
+    (
+        "null",
+        "there is no `null`; help: choose a number for it, as in `const NONE = 0`",
+    ),
+    (
+        "static",
+        "there is no `static`; help: write `word NAME` for a shared word",
+    ),
+    (
+        "do",
+        "there is no `do` loop; help: write `loop {`, and `break` in an `if`",
+    ),
+    (
+        "goto",
+        "there is no `goto`; help: write a loop with `break` and `continue`",
+    ),
+    (
+        "yield",
+        "there is no `yield`; help: wait with `await`; threads may switch at every step",
+    ),
 ];
 
 /// Two signs of other languages, side by side.
-const FOREIGN_PAIRS: [(&str, &str, &str); 10] = [
+const FOREIGN_PAIRS: [(&str, &str, &str); 11] = [
     ("/", "/", "unexpected `//`; help: a comment begins with `#`"),
+    ("/", "*", "unexpected `/*`; help: a comment begins with `#`"),
+    (
+        "-",
+        ">",
+        "unexpected `->`; help: leave types out, since every value is a number from 0 to 4294967295",
+    ),
+    (
+        "=",
+        ">",
+        "unexpected `=>`; help: write `if EXPR {` and `} else if EXPR {`",
+    ),
     (
         "<",
         "<",
@@ -149,16 +192,6 @@ const FOREIGN_PAIRS: [(&str, &str, &str); 10] = [
         "=",
         "`*=` is not an operator of sources; help: write `NAME = NAME * EXPR`",
     ),
-    (
-        "=",
-        "-",
-        "a number has no sign; help: write `0 - N`, which is taken modulo 2^32",
-    ),
-    (
-        "return",
-        "-",
-        "a number has no sign; help: write `0 - N`, which is taken modulo 2^32",
-    ),
 ];
 
 /// What to write in place of this word, where it is one of another language.
@@ -172,7 +205,7 @@ pub(crate) fn foreign_word(word: &[u8]) -> Option<&'static str> {
 }
 
 /// What to write in place of the first pair of signs, or else of the first word, of another
-/// language.
+/// language; or else of a `.`.
 pub(crate) fn foreign_words(words: &[&[u8]]) -> Option<&'static str> {
     for (first, second, help) in &FOREIGN_PAIRS {
         if words.windows(2).any(|pair| word_is(pair, 0, first.as_bytes())
@@ -185,6 +218,11 @@ pub(crate) fn foreign_words(words: &[&[u8]]) -> Option<&'static str> {
         if let Some(help) = foreign_word(word) {
             return Some(help);
         }
+    }
+    if words.contains(&b".".as_slice()) {
+        return Some(
+            "unexpected `.`; help: there are no fields or methods, so write the name alone",
+        );
     }
     None
 }

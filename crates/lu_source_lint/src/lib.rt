@@ -3,8 +3,13 @@
 
 mod faults;
 mod foreign;
+mod forming;
+mod keyword;
+mod limit;
 mod meaning;
 mod message;
+mod naming;
+mod operand;
 mod saying;
 mod scope;
 mod spelling;

@@ -1,11 +1,12 @@
 //! What a faulty line may have meant.
 
-ghost use Rattle.std.specs.Prelude.{◌≡◌, IfOk};
+ghost use Rattle.std.specs.Prelude.{◌≡◌};
 ghost use Rattle.lu_text.specs.Lines.{texts};
 ghost use Rattle.lu_text.specs.Results.{HasItems};
 ghost use Rattle.lu_source_lint.specs.Faults as spec;
 
 use lu_source_text::{SourceFaultKind, source_words};
+use lu_text::has_name_form;
 use std::alloc::{AllocError, Global};
 
 /// What a faulty line may have meant.
@@ -46,11 +47,18 @@ fn is_whole_block(words: &[&[u8]]) -> bool
     !word_is(words, 0, b"}") && words.last().is_some_and(|word| *word == b"}".as_slice())
 }
 
+/// Whether a line is a `{` that stands alone, and so belongs to the line above.
+fn is_brace_alone(words: &[&[u8]]) -> bool
+    ensures { result ≡ spec.is_brace_alone (texts words.now) }
+{
+    words.len() == 1 && word_is(words, 0, b"{")
+}
+
 /// A line that begins with `}`.
 fn meant_end(words: &[&[u8]]) -> Mending
     ensures { (result.kept, result.after.now) ≡ spec.meant_end (texts words.now) }
 {
-    if !opens(words) {
+    if !(opens(words) || word_is(words, 1, b"else")) {
         keep(1, b"")
     } else if word_is(words, 2, b"if") {
         keep(1, b"else if 1 {")
@@ -87,7 +95,7 @@ fn meant(kind: SourceFaultKind, words: &[&[u8]]) -> Mending
 {
     if matches!(kind, SourceFaultKind::Missing) || word_is(words, 0, b"object") {
         keep(0, b"object a")
-    } else if is_whole_block(words) {
+    } else if is_whole_block(words) || is_brace_alone(words) {
         keep(0, b"")
     } else if word_is(words, 0, b"let") || word_is(words, 0, b"const") {
         keep(2, b"= 0")
@@ -103,7 +111,7 @@ fn meant(kind: SourceFaultKind, words: &[&[u8]]) -> Mending
         keep(1, b"{")
     } else if word_is(words, 0, b"}") {
         meant_end(words)
-    } else if opens(words) {
+    } else if opens(words) || word_is(words, 0, b"else") {
         keep(0, b"if 1 {")
     } else {
         keep(0, b"")
@@ -138,14 +146,35 @@ pub(crate) fn meant_line(
     Ok(text)
 }
 
-/// What a line that opens a block may have meant outside of operations.
-pub(crate) fn meant_outside(alloc: Global, line: &[u8]) -> Result<&'static [u8], AllocError>
-    ensures { IfOk result (λ text. text.now ≡ spec.meant_outside line.now) }
+/// The second word of a line, where it has the form of a name.
+fn named_by<'a>(words: &[&'a [u8]]) -> &'a [u8]
+    ensures { result.now ≡ spec.named_by (texts words.now) }
+{
+    match words.get(1) {
+        Some(word) if has_name_form(word) => *word,
+        _ => &[],
+    }
+}
+
+/// The line of an operation without arguments, whose name ends so.
+fn unnamed(alloc: Global, name: &[u8]) -> Result<Vec<u8>, AllocError>
+    ensures { HasItems result (spec.unnamed name.now) }
+{
+    let mut text = Vec::from_slice(alloc, b"op unnamed_".as_slice())?;
+    text.extend_from_slice(name)?;
+    text.extend_from_slice(b"() {")?;
+    Ok(text)
+}
+
+/// What a line that opens a block may have meant outside of operations: an operation of a name that
+/// no other line has.
+pub(crate) fn meant_outside(alloc: Global, line: &[u8]) -> Result<Vec<u8>, AllocError>
+    ensures { HasItems result (spec.meant_outside line.now) }
 {
     let words = source_words(alloc, line)?;
     if opens(&words) {
-        Ok(b"op unnamed() {")
+        unnamed(alloc, named_by(&words))
     } else {
-        Ok(b"")
+        Ok(Vec::new(alloc))
     }
 }

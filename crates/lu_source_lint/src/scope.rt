@@ -19,6 +19,11 @@ pub(crate) enum Declared {
 }
 
 impl Declared {
+    /// Whether it shares its set of names with words, locks, constants and locals.
+    fn is_value(self) -> bool {
+        !matches!(self, Declared::Object | Declared::Operation)
+    }
+
     /// What it is, in words.
     pub(crate) fn words(self) -> &'static str {
         match self {
@@ -50,7 +55,7 @@ pub(crate) struct Scope<'a> {
     /// What is declared in the blocks that are open.
     names: Vec<Declaration<'a>>,
 
-    /// The lines, counted from 1, that opened the blocks in which the line is, and how far they are
+    /// The lines, counted from 1, that began the blocks in which the line is, and how far they are
     /// indented.
     open: Vec<(usize, usize)>,
 
@@ -80,7 +85,40 @@ fn kind_of(words: &[&[u8]]) -> Option<Declared> {
     }
 }
 
+/// Whether a line begins a block, also where its `{` is missing; a `{` alone belongs to the line
+/// above.
+fn begins_block(words: &[&[u8]]) -> bool {
+    if word_is(words, 0, b"{") || words.last().is_some_and(|word| *word == b"}".as_slice()) {
+        return false;
+    }
+    opens(words)
+        || word_is(words, 0, b"op")
+        || word_is(words, 0, b"if")
+        || word_is(words, 0, b"while")
+        || word_is(words, 0, b"loop")
+        || word_is(words, 0, b"else")
+        || word_is(words, 1, b"else")
+}
+
 impl<'a> Scope<'a> {
+    /// The scope of the line after those above, where these are below.
+    pub(crate) fn between(
+        alloc: Global,
+        above: &[&'a [u8]],
+        below: &[&'a [u8]],
+    ) -> Result<Scope<'a>, AllocError> {
+        let mut scope = Scope::after(alloc, above)?;
+        for line in below {
+            let words = source_words(alloc, line)?;
+            if word_is(&words, 0, b"op") {
+                if let Some(name) = words.get(1) {
+                    scope.add(name, Declared::Operation, 0)?;
+                }
+            }
+        }
+        Ok(scope)
+    }
+
     /// The scope of the line after these.
     pub(crate) fn after(alloc: Global, lines: &[&'a [u8]]) -> Result<Scope<'a>, AllocError> {
         let mut scope = Scope {
@@ -135,7 +173,7 @@ impl<'a> Scope<'a> {
             let depth = self.open.len();
             self.names.retain(|declaration| declaration.depth <= depth);
         }
-        if opens(words) {
+        if begins_block(words) {
             self.open.push((line, indent))?;
         }
         Ok(())
@@ -156,12 +194,30 @@ impl<'a> Scope<'a> {
         }
     }
 
-    /// What the name is declared as.
-    pub(crate) fn declared(&self, name: &[u8]) -> Option<Declared> {
+    /// Whether a line above names the object.
+    pub(crate) fn has_object(&self) -> bool {
         self.names
             .iter()
-            .find(|declaration| declaration.name == name)
+            .any(|declaration| declaration.kind == Declared::Object)
+    }
+
+    /// What the name is declared as, apart from the object and the operations, which have names of
+    /// their own.
+    pub(crate) fn value_declared(&self, name: &[u8]) -> Option<Declared> {
+        self.names
+            .iter()
+            .find(|declaration| declaration.kind.is_value() && declaration.name == name)
             .map(|declaration| declaration.kind)
+    }
+
+    /// What the name is declared as; the object or an operation where it is nothing else.
+    pub(crate) fn declared(&self, name: &[u8]) -> Option<Declared> {
+        self.value_declared(name).or(
+            self.names
+                .iter()
+                .find(|declaration| declaration.name == name)
+                .map(|declaration| declaration.kind),
+        )
     }
 
     /// A declared name for which this one may be a slip.

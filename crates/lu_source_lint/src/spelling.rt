@@ -17,14 +17,34 @@ fn common_back(left: &[u8], right: &[u8]) -> usize {
         .unwrap_or(left.len().min(right.len()))
 }
 
-/// Whether one word may be a slip for the other: capitals apart, one byte more, less or other, or
-/// two neighbours in the wrong order.
+/// Whether two words have the same two bytes here in the other order, capitals apart.
+fn are_swapped(left: &[u8], right: &[u8], position: usize) -> bool {
+    let next = position.saturating_add(1);
+    match (
+        left.get(position),
+        left.get(next),
+        right.get(position),
+        right.get(next),
+    ) {
+        (Some(a), Some(b), Some(c), Some(d)) => {
+            a.eq_ignore_ascii_case(d) && b.eq_ignore_ascii_case(c)
+        }
+        _ => false,
+    }
+}
+
+/// Whether one word may be a slip for the other: capitals apart, one byte more, less or different,
+/// or two neighbours in the wrong order.
 pub fn is_near(word: &[u8], meant: &[u8]) -> bool {
     if word.eq_ignore_ascii_case(meant) {
         return true;
     }
     let most = word.len().max(meant.len());
-    let slack = if word.len() == meant.len() { 2 } else { 1 };
-    let left = most.saturating_sub(common_front(word, meant));
-    most > slack && left.saturating_sub(common_back(word, meant)) <= slack
+    let front = common_front(word, meant);
+    let left = most.saturating_sub(front);
+    let different = left.saturating_sub(common_back(word, meant));
+    if word.len() != meant.len() {
+        return most > 1 && different <= 1;
+    }
+    most > 2 && (different <= 1 || (different == 2 && are_swapped(word, meant, front)))
 }

@@ -7,5 +7,5 @@ use Rattle.lu_source_lint.proofs.faults.mend.Goals as goal
 pub returns : goal.returns
 returns c =
     on_ok_weaker c.set_if_faulty-2.result
-    (λ last. mended_is (bytes_of c.args.lines.now) (bytes_of c.set_line.new.lines) (bytes_of c.set_if_faulty.new.lines) (bytes_of c.set_if_faulty-2.new.lines) c.args.fault c.in_ok-text.text.items c.in_ok-outside.outside.now (c.in_ok-text.ensures ∙ ap (meant_line c.args.fault.kind) c.line_at-line.ensures) (c.in_ok-outside.ensures ∙ ap meant_outside c.line_at-line.ensures) c.set_line.ensures c.in_ok-set_if_faulty.ensures last)
+    (λ last. mended_is (bytes_of c.args.lines.now) (bytes_of c.set_line.new.lines) (bytes_of c.set_if_faulty.new.lines) (bytes_of c.set_if_faulty-2.new.lines) c.args.fault c.in_ok-text.text.items c.deref.result.now (c.in_ok-text.ensures ∙ ap (meant_line c.args.fault.kind) c.line_at-line.ensures) (c.deref.ensures.value ∙ c.in_ok-outside.ensures ∙ ap meant_outside c.line_at-line.ensures) c.set_line.ensures c.in_ok-set_if_faulty.ensures last)
     c.set_if_faulty-2.ensures

@@ -1,0 +1,235 @@
+//! What is said of a name that is not declared, is declared twice, or is not used as what it is.
+
+use crate::foreign::foreign_word;
+use crate::keyword::near_keyword;
+use crate::meaning::word_is;
+use crate::scope::{Declared, Scope};
+use lu_source_text::is_free_name;
+use std::alloc::{AllocError, Global};
+use std::str;
+
+/// A word as text; what is no ASCII is no word of a source.
+pub(crate) fn shown(word: &[u8]) -> &str {
+    str::from_utf8(word).unwrap_or("?")
+}
+
+/// Whether the line begins with a word that declares a name, which is its second word.
+pub(crate) fn declares(words: &[&[u8]]) -> bool {
+    word_is(words, 0, b"let")
+        || word_is(words, 0, b"const")
+        || word_is(words, 0, b"word")
+        || word_is(words, 0, b"lock")
+        || word_is(words, 0, b"op")
+        || word_is(words, 0, b"object")
+}
+
+/// The first name among these words that is not declared.
+fn unknown_among<'a>(scope: &Scope<'_>, words: &[&'a [u8]]) -> Option<&'a [u8]> {
+    for word in words {
+        if is_free_name(word) && scope.declared(word).is_none() {
+            return Some(*word);
+        }
+    }
+    None
+}
+
+/// Whether the line begins with this name, and neither assigns to it nor to a cell of it.
+fn begins_statement(words: &[&[u8]], name: &[u8]) -> bool {
+    word_is(words, 0, name) && !word_is(words, 1, b"=") && !word_is(words, 1, b"[")
+}
+
+/// A keyword for which this name may be a slip: one that begins a statement, or else one that is
+/// near to no name.
+fn meant_keyword(scope: &Scope<'_>, words: &[&[u8]], name: &[u8]) -> Option<&'static str> {
+    if begins_statement(words, name) || scope.near(name).is_none() {
+        near_keyword(name)
+    } else {
+        None
+    }
+}
+
+/// A name that is not declared, in a line with these words.
+fn unknown_words(
+    alloc: Global,
+    scope: &Scope<'_>,
+    words: &[&[u8]],
+    name: &[u8],
+) -> Result<String, AllocError> {
+    if let Some(foreign) = foreign_word(name) {
+        return String::from_str(alloc, foreign);
+    }
+    let said = shown(name);
+    if let Some(keyword) = meant_keyword(scope, words, name) {
+        return format!(in alloc;
+            "cannot find `{said}` in this scope; help: a similar keyword exists: `{keyword}`"
+        );
+    }
+    if let Some(near) = scope.near(name) {
+        let near = shown(near);
+        return format!(in alloc;
+            "cannot find `{said}` in this scope; help: a similar name exists: `{near}`"
+        );
+    }
+    if word_is(words, 0, name) && word_is(words, 1, b"=") {
+        return format!(in alloc;
+            "cannot find `{said}` in this scope; help: declare it with `let {said} = ..`"
+        );
+    }
+    format!(in alloc; "cannot find `{said}` in this scope")
+}
+
+/// What is wrong with the use of a name that is declared so, before the word `next`, where the line
+/// begins with it or not.
+fn misuse_words(
+    alloc: Global,
+    name: &str,
+    declared: Declared,
+    is_first: bool,
+    next: &[u8],
+) -> Result<Option<String>, AllocError> {
+    let is_indexed = next == b"[".as_slice();
+    let is_assigned = is_first && next == b"=".as_slice();
+    let said = match declared {
+        Declared::Operation => format!(in alloc;
+            "an operation cannot call another one, found `{name}`"
+        )?,
+        Declared::Object => format!(in alloc; "`{name}` is the object and has no value")?,
+        Declared::Array if !is_indexed => format!(in alloc;
+            "`{name}` is an array; help: write `{name}[EXPR]`"
+        )?,
+        Declared::Lock => format!(in alloc;
+            "`{name}` is a lock and has no value; help: write `lock {name}` and `unlock {name}`"
+        )?,
+        Declared::Constant if is_assigned => format!(in alloc;
+            "cannot assign to constant `{name}`"
+        )?,
+        Declared::Constant | Declared::Word | Declared::Argument | Declared::Local if is_indexed =>
+            {
+                let kind = declared.words();
+                format!(in alloc; "`{name}` is {kind} and has no index")?
+            }
+        _ => return Ok(None),
+    };
+    Ok(Some(said))
+}
+
+/// The first name among these words, which are those of a line from word `from` on, that is not used
+/// as what it is.
+pub(crate) fn misused_among(
+    alloc: Global,
+    scope: &Scope<'_>,
+    words: &[&[u8]],
+    from: usize,
+) -> Result<Option<String>, AllocError> {
+    for index in from..words.len() {
+        let word = words[index];
+        let Some(declared) = scope.declared(word) else {
+            continue;
+        };
+        let next = words.get(index.saturating_add(1)).copied().unwrap_or(&[]);
+        if let Some(said) = misuse_words(alloc, shown(word), declared, index == 0, next)? {
+            return Ok(Some(said));
+        }
+    }
+    Ok(None)
+}
+
+/// A name after `lock` or `unlock` in an operation that is not a lock.
+fn no_lock_words(
+    alloc: Global,
+    scope: &Scope<'_>,
+    words: &[&[u8]],
+) -> Result<Option<String>, AllocError> {
+    let locks = word_is(words, 0, b"lock") || word_is(words, 0, b"unlock");
+    if !locks || !scope.is_in_operation() {
+        return Ok(None);
+    }
+    let Some(name) = words.get(1) else {
+        return Ok(None);
+    };
+    let Some(declared) = scope.declared(name) else {
+        return Ok(None);
+    };
+    if declared == Declared::Lock {
+        return Ok(None);
+    }
+    let (name, kind) = (shown(name), declared.words());
+    Ok(Some(format!(in alloc; "expected a lock, found `{name}`, which is {kind}")?))
+}
+
+/// A name that is declared above as this, and declared again.
+fn declared_again(alloc: Global, name: &[u8], declared: Declared) -> Result<String, AllocError> {
+    let (name, kind) = (shown(name), declared.words());
+    format!(in alloc; "`{name}` is already declared, as {kind}; help: choose another name")
+}
+
+/// A line that declares an operation: an argument that is declared already or stands twice, or else
+/// the operation's name.
+fn operation_words(
+    alloc: Global,
+    scope: &Scope<'_>,
+    words: &[&[u8]],
+) -> Result<String, AllocError> {
+    let (_, arguments) = words.split_at(words.len().min(2));
+    for (index, argument) in arguments.iter().enumerate() {
+        if !is_free_name(argument) {
+            continue;
+        }
+        if let Some(declared) = scope.value_declared(argument) {
+            return declared_again(alloc, argument, declared);
+        }
+        let (before, _) = arguments.split_at(index);
+        if before.contains(argument) {
+            return declared_again(alloc, argument, Declared::Argument);
+        }
+    }
+    let name = words.get(1).copied().unwrap_or(&[]);
+    declared_again(alloc, name, Declared::Operation)
+}
+
+/// The name that a line declares, where it is declared above.
+fn again_words(
+    alloc: Global,
+    scope: &Scope<'_>,
+    words: &[&[u8]],
+) -> Result<Option<String>, AllocError> {
+    let Some(name) = words.get(1) else {
+        return Ok(None);
+    };
+    match scope.value_declared(name) {
+        Some(declared) => Ok(Some(declared_again(alloc, name, declared)?)),
+        None => Ok(None),
+    }
+}
+
+/// The name that is at fault in a line, where it can be found.
+pub(crate) fn name_words(
+    alloc: Global,
+    scope: &Scope<'_>,
+    words: &[&[u8]],
+) -> Result<String, AllocError> {
+    if word_is(words, 0, b"op") {
+        return operation_words(alloc, scope, words);
+    }
+    let declares = declares(words) && !(scope.is_in_operation() && word_is(words, 0, b"lock"));
+    if declares {
+        if let Some(said) = again_words(alloc, scope, words)? {
+            return Ok(said);
+        }
+    }
+    let from = if declares { 2 } else { 0 };
+    let (_, read) = words.split_at(from.min(words.len()));
+    if let Some(name) = unknown_among(scope, read) {
+        return unknown_words(alloc, scope, words, name);
+    }
+    if let Some(said) = no_lock_words(alloc, scope, words)? {
+        return Ok(said);
+    }
+    if let Some(said) = misused_among(alloc, scope, words, from)? {
+        return Ok(said);
+    }
+    String::from_str(
+        alloc,
+        "a name on this line is not declared, perhaps because of a fault above, or cannot be used here",
+    )
+}
