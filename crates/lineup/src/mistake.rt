@@ -109,7 +109,7 @@ fn is_given(words: &[String], name: &str) -> bool {
 /// A word that is not an option.
 fn unexpected(alloc: Global, word: &str) -> Result<String, AllocError> {
     format!(in alloc;
-        "unexpected `{word}`; help: the input is read from standard input, or by `./lineup` from one file"
+        "unexpected `{word}`; help: `lineup` reads standard input; `./lineup` also takes one file"
     )
 }
 

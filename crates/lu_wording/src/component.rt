@@ -15,7 +15,7 @@ pub(crate) fn shown(word: &[u8]) -> &str {
     }
 }
 
-/// The name for which a word may be a slip, if there is one: the help at the end of a message.
+/// The word for which another may be a slip, if there is one: the help at the end of a message.
 #[derive(Clone, Copy)]
 pub(crate) struct Slip<'a> {
     pub(crate) name: Option<&'a str>,
@@ -25,7 +25,7 @@ impl fmt::Display for Slip<'_> {
     fn fmt<W: fmt::Write>(&self, f: &mut fmt::Formatter<W>) -> fmt::Result {
         match self.name {
             None => Ok(()),
-            Some(name) => write!(f, "; help: a similar name exists: `{name}`"),
+            Some(name) => write!(f, "; help: a similar word exists: `{name}`"),
         }
     }
 }
@@ -33,6 +33,11 @@ impl fmt::Display for Slip<'_> {
 /// Whether a word ends with a comma or a semicolon, which part no words here.
 fn is_comma(word: &[u8]) -> bool {
     matches!(word, [_front @ .., b',' | b';'])
+}
+
+/// `one`, or `many` for another number.
+pub(crate) fn counted(count: usize, one: &'static str, many: &'static str) -> &'static str {
+    if count == 1 { one } else { many }
 }
 
 pub(crate) fn is_register(word: &[u8]) -> bool {
@@ -107,7 +112,7 @@ fn no_declaration(alloc: Global, word: &[u8]) -> Result<String, AllocError> {
     let said = shown(word);
     if instruction(word).is_some() {
         return format!(in alloc;
-            "`{said}` is only allowed inside an operation; help: begin one with `op NAME ARGS`"
+            "`{said}` is only allowed inside an operation; help: begin one with `op NAME N`, with the number of arguments N"
         );
     }
     let slip = Slip {
@@ -464,6 +469,14 @@ fn form(
     }
 }
 
+/// A word in the place of the number of an operation's arguments.
+fn no_count(alloc: Global, word: &[u8]) -> Result<String, AllocError> {
+    let word = shown(word);
+    format!(in alloc;
+        "expected the number of arguments (0 to 4), found `{word}`; help: write `op NAME N`"
+    )
+}
+
 fn number(
     alloc: Global,
     draft: &ComponentDraft,
@@ -474,6 +487,7 @@ fn number(
         return no_operand(alloc, word, rest);
     }
     match rest {
+        [_, count] if word == b"op".as_slice() => no_count(alloc, count),
         [_, numbers @ ..] if word != b"local".as_slice() => no_number(alloc, numbers),
         _ => no_number(alloc, rest),
     }
@@ -562,11 +576,13 @@ pub(crate) fn jump_wording(
 }
 
 fn no_label(alloc: Global, op: &OpenOp, label: &Name) -> Result<String, AllocError> {
-    let slip = Slip {
-        name: near(&op.labels, label.as_bytes()),
-    };
-    let (name, label) = (op.name.as_str(), label.as_str());
-    format!(in alloc; "undefined label `{label}` in `{name}`{slip}")
+    let (name, said) = (op.name.as_str(), label.as_str());
+    match near(&op.labels, label.as_bytes()) {
+        Some(near) => format!(in alloc;
+            "undefined label `{said}` in `{name}`; help: a similar label exists: `{near}`"
+        ),
+        None => format!(in alloc; "undefined label `{said}` in `{name}`"),
+    }
 }
 
 /// The words for a fault at the end of the text.

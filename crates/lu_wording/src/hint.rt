@@ -9,12 +9,13 @@ use std::str;
 fn meaning_of_case(code: &str) -> Option<&'static str> {
     Some(match code {
         "L1" | "M1" | "H1" | "O1" => "invalid byte; only ASCII, tabs and line ends are allowed",
-        "L2" => "not a line of a component; `lineup lint` says what was expected",
+        "L2" => "not a line of a component; `lineup lint` says what is expected",
         "L3" => "a name that is declared twice or not at all; `lineup lint` says which",
         "L4" | "M5" | "C2" | "H3" => "not a number, or a number that is too large",
         "L5" => "a limit is exceeded (docs/LANGUAGE.md, Limits); `lineup lint` says which",
         "L6" => "an operation must end with `return` or `jump`",
-        "L7" => "expected `component` first, and `end` after each operation",
+        "L7" =>
+            "expected `component NAME` first, or `object NAME` for a source (with `--source`), and `end` after each operation",
         "M2" => "expected `thread` or, on the first line, `setup`, and calls separated by `;`",
         "M3" => "the component has no such operation",
         "M4" => "wrong number of arguments",
@@ -40,7 +41,7 @@ fn meaning_of_finding(code: &str) -> Option<&'static str> {
         "R1" => "invalid byte; only ASCII, tabs and line ends are allowed",
         "R2" => "expected `call`, `return` or `stuck`; a run begins with the line `run`",
         "R3" => "not a number, or a number that is too large; threads are numbered from 0 to 7",
-        "R4" => "the component has no such operation, or it takes another number of arguments",
+        "R4" => "the component has no such operation, or it takes a different number of arguments",
         _ => return None,
     })
 }
@@ -48,7 +49,7 @@ fn meaning_of_finding(code: &str) -> Option<&'static str> {
 /// The meaning of a refusal of a source.
 fn meaning_of_source(code: &str) -> Option<&'static str> {
     Some(match code {
-        "O2" => "unexpected word or sign; `lineup lint` says what was expected (docs/SOURCE.md)",
+        "O2" => "unexpected word or sign; `lineup lint` says what is expected (docs/SOURCE.md)",
         "O3" =>
             "a name that is declared twice or not at all, or is not what the line needs; `lineup lint` says which",
         "O4" => "expected a number or a constant",
@@ -67,7 +68,7 @@ fn meaning_of_request(code: &str) -> Option<&'static str> {
         "command" =>
             "these words are not a command; `lineup commands` lists the commands and their options",
         "B1" =>
-            "wrong number of parts; `lineup commands` lists the parts of each command, and lines that are exactly `---`, without a carriage return, separate them",
+            "wrong number of parts; `lineup commands` lists the parts of each command; a line between two parts is exactly `---`, without a carriage return",
         "B2" => "the input is longer than 1,048,576 bytes",
         "B3" => "a part after the source is not UTF-8",
         "F2" => "the report is not a failure, or a run of its schedule does not confirm it",
@@ -75,7 +76,7 @@ fn meaning_of_request(code: &str) -> Option<&'static str> {
         "G2" =>
             "a campaign takes one `thread` line with 1 to 8 calls, or with `--by-thread` one for each thread",
         "G3" => "the matrices of this campaign have more than 16 calls",
-        "G4" => "the trusted component has other operations, or has them in another order",
+        "G4" => "the trusted component has different operations, or has them in a different order",
         _ => return None,
     })
 }

@@ -1,6 +1,6 @@
 //! The words for a fault of a recorded history.
 
-use crate::component::unknown_byte;
+use crate::component::{counted, unknown_byte};
 use crate::third::FoundLine;
 use lu_recorded::RecordedFaultKind;
 use lu_test::Matrix;
@@ -33,8 +33,9 @@ pub(crate) fn recorded_wording(
         ),
         RecordedFaultKind::Foreign => {
             let threads = matrix.threads();
+            let many = counted(usize::from(threads), "thread", "threads");
             format!(in alloc;
-                "the matrix has no such call; it has {threads} threads, and threads and their calls are numbered from 0"
+                "the matrix has no such call; it has {threads} {many}, and threads and their calls are numbered from 0"
             )
         }
         RecordedFaultKind::Order => String::from_str(

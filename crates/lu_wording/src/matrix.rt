@@ -1,6 +1,6 @@
 //! The words for a fault of a matrix's line: what was found, and what was expected.
 
-use crate::component::{Slip, first_no_number, is_register, shown, unknown_byte};
+use crate::component::{Slip, counted, first_no_number, is_register, shown, unknown_byte};
 use crate::spelling::near;
 use lu_source_lint::is_near;
 use lu_test::{MatrixDraft, MatrixFaultKind, Signature};
@@ -97,11 +97,6 @@ fn no_operation(
             format!(in alloc; "cannot find operation `{said}`; the component has {names}")
         }
     }
-}
-
-/// `one`, or `many` for another number.
-fn counted(count: usize, one: &'static str, many: &'static str) -> &'static str {
-    if count == 1 { one } else { many }
 }
 
 fn arguments(alloc: Global, name: &Name, takes: u8, given: usize) -> Result<String, AllocError> {

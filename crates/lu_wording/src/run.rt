@@ -6,17 +6,19 @@ use lu_test::Call;
 use std::alloc::{AllocError, Global};
 use std::fmt::Write;
 
-/// Adds call `number` of these: the operation and the arguments, as a matrix says them.
+/// Adds call `number` of these, in quotes: the operation and the arguments, as a matrix has them.
 fn write_call(
     text: &mut String,
     runs: MatrixRuns<'_>,
     calls: &[Call],
     number: usize,
 ) -> Result<(), AllocError> {
-    match calls.get(number) {
-        None => text.push_str("a call"),
-        Some(call) => lu_test::write_call(text, runs.component.operations(), call),
-    }
+    let Some(call) = calls.get(number) else {
+        return text.push_str("a call");
+    };
+    text.push_str("`")?;
+    lu_test::write_call(text, runs.component.operations(), call)?;
+    text.push_str("`")
 }
 
 /// Adds call `number` of the thread.

@@ -1,6 +1,6 @@
 //! The words for a fault of a schedule, a report or a specification.
 
-use crate::component::shown;
+use crate::component::{counted, shown};
 use lu_report::{LineForm, ReportLineFault};
 use lu_spec::{SpecFaultKind, SpecLineFault};
 use lu_test::{Matrix, ScheduleFault};
@@ -47,14 +47,14 @@ fn wrong_end(text: &[u8]) -> &'static str {
     match text.strip_suffix(b"\n") {
         None => "no line end",
         Some(line) if line.contains(&b'\n') => "more than one line",
-        Some(_) => "expected it to begin with `schedule`",
+        Some(_) => "it must begin with `schedule`",
     }
 }
 
 /// Why a text has not the form of a schedule.
 fn no_schedule(text: &[u8]) -> &'static str {
     if !text.starts_with(b"schedule") {
-        return "expected it to begin with `schedule`";
+        return "it must begin with `schedule`";
     }
     match wrong_bytes(text) {
         None => wrong_end(text),
@@ -267,7 +267,7 @@ fn marked_entries_wording(alloc: Global, entries: &[&[u8]]) -> Result<String, Al
     }
     String::from_str(
         alloc,
-        "a history needs an entry, and `stuck` must be the last",
+        "a history needs an entry, and `stuck` must be its last",
     )
 }
 
@@ -294,7 +294,7 @@ fn free_wording(
         SpecFaultKind::Foreign => foreign_wording(alloc, matrix),
         SpecFaultKind::Nondeterministic => String::from_str(
             alloc,
-            "conflict with an earlier history: after the same entries, the same call has another outcome, and neither has the mark `?`",
+            "conflict with an earlier history: after the same entries, the same call has a different outcome, and neither has the mark `?`",
         ),
     }
 }
@@ -302,8 +302,9 @@ fn free_wording(
 /// The words for a history that the matrix does not have.
 fn foreign_wording(alloc: Global, matrix: &Matrix) -> Result<String, AllocError> {
     let threads = matrix.threads();
+    let many = counted(usize::from(threads), "thread", "threads");
     format!(in alloc;
-        "the matrix has no such call; it has {threads} threads, numbered from 0, and a thread has at most as many entries as calls"
+        "the matrix has no such call; it has {threads} {many}, numbered from 0, and a thread has at most as many entries as calls"
     )
 }
 
@@ -332,7 +333,7 @@ pub(crate) fn specification_wording(
         SpecFaultKind::Foreign => foreign_wording(alloc, matrix),
         SpecFaultKind::Nondeterministic => String::from_str(
             alloc,
-            "conflict with an earlier history: after the same entries, the same call has another outcome",
+            "conflict with an earlier history: after the same entries, the same call has a different outcome",
         ),
     }
 }
