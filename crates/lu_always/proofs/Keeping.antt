@@ -1,18 +1,18 @@
 -- Nodes that are kept.
-use Rattle.std.proofs.Common.{arith, ◌≡◌, ◌⊎◌, map, ℕ, zero, suc, ◌+◌, ◌<◌, ◌≤◌, true, List, [], ◌∷◌, ◌++◌, length, Option, Some, None, get_or, slice_get, refl, sym, ◌∙◌, ap, subst, inl, inr, append_assoc, length-append}
+use Rattle.std.proofs.Common.{arith, ◌≡◌, ◌⊎◌, map, ℕ, zero, suc, ◌+◌, ◌<◌, ◌≤◌, List, [], ◌∷◌, ◌++◌, length, Option, Some, None, Result, Ok, Err, IfOk, slice_get, refl, sym, ◌∙◌, ap, subst, inl, inr, append_assoc, length-append}
 use Rattle.std.proofs.lemmas.Bool.{cases_lt}
 use Rattle.std.proofs.lemmas.List.{append-nil}
-use Rattle.std.proofs.lemmas.Option.{get_or_from_slice_get, same_Some, slice_get-map, slice_get_past, slice_get_within}
+use Rattle.std.proofs.lemmas.Option.{same_Some, slice_get-map, slice_get_past, slice_get_within}
+use Rattle.std.specs.Prelude.{OnOk}
 use Rattle.std.specs.Option.{option_and_then, option_map}
 use Rattle.lu_test.specs.declared.schedule.Move.{Move}
 use Rattle.lu_machine.specs.declared.event.Event.{Event}
 use Rattle.lu_machine.specs.declared.event.Event.TheVariants.{Call, Return}
 use Rattle.lu_machine.specs.declared.position.Position.{Position}
-use Rattle.lu_machine.specs.Positions.{CanStandAt, at_position}
+use Rattle.lu_machine.specs.Positions.{CanStand, CanStandAt, at_position}
 use Rattle.lu_machine.specs.States.{State}
 use Rattle.lu_machine.specs.Steps.{picks_of}
 use Rattle.lu_machine.proofs.Keeping.{step_moved}
-use Rattle.lu_machine.proofs.Positions.{HaveSame, position_eq, same_position}
 use Rattle.lu_machine.proofs.StepLaws.{step_feasible}
 use Rattle.lu_horizon.specs.Dead.{DeadTable}
 use Rattle.lu_history.proofs.Events.{at_push, kept_at}
@@ -24,9 +24,9 @@ use Rattle.lu_client.specs.Clients.{ClientStep}
 use Rattle.lu_client.specs.Stages.{IsIn, Stage}
 use Rattle.lu_client.proofs.OneCalls.{within_some}
 use Rattle.lu_always.specs.declared.stored.Arrival.{Arrival}
-use Rattle.lu_always.specs.declared.stored.StoredNode.{StoredNode}
+use Rattle.lu_always.specs.Stored.{CanStandAtStored, HasMonitorAt, StandsAt, StandsWhereItCan, StoredNode, StoredPosition, Stores, at_stored, position_in, stored_for}
 use Rattle.lu_always.specs.Clearing.{IsCleared}
-use Rattle.lu_always.specs.Searching.{AddsAt, AddsBy, AddsFrom, AddsOnly, AllCanStand, AreArrivals, AreSearched, ComesFrom, Grows, HasAllNext, HasNext, HoldsOf, IsArrival, IsNodeAt, IsStoredFor, Leads, arrived, moves_of, node_at, node_of}
+use Rattle.lu_always.specs.Searching.{AddsAt, AddsBy, AddsFrom, AddsOnly, AllCanStand, AreArrivals, ComesFrom, Grows, HasNext, HoldsOf, IsArrival, IsNodeAt, IsStoredFor, Leads, MonitorAfter, StoresAfter, moves_of, node_at, node_of}
 use Rattle.lu_always.specs.Ways.{AreBack, HasParentsBefore, IsWayTo, all_moves, arrival_at}
 use Rattle.lu_always.specs.Livelocks.{AreAllNodes}
 use Rattle.lu_always.specs.Nodes.{IsAfterMove, IsMove, MovesLead, Node, Represents}
@@ -35,15 +35,6 @@ use Rattle.lu_answers.specs.Tables.{Rows, Table, table_of}
 use Rattle.lu_answers.specs.Ways.{limit_of, way_of}
 use Rattle.lu_always.proofs.Cleared.{cleared_alike}
 use Rattle.lu_always.proofs.Likeness.{in_order_once}
-
-stands_same : (s : State) (p q : Position) → HaveSame p q → at_position s p ≡ at_position s q
-stands_same s p q is =
-    ap (λ x. let y : State = record s { cells = x; locks = p.locks.items; threads = p.threads.items } in y) is.0
-    ∙ (ap (λ x. let y : State = record s { cells = q.cells.items; locks = x; threads = p.threads.items } in y) is.1.0
-    ∙ ap (λ x. let y : State = record s { cells = q.cells.items; locks = q.locks.items; threads = x } in y) is.1.1)
-
-pub equal_stand : (s : State) (p q : Position) → position_eq p q ≡ true → at_position s p ≡ at_position s q
-equal_stand s p q is = stands_same s p q ((same_position p q).0 is)
 
 pub grows_none : (s : State) (all : List StoredNode) → Grows s all all
 grows_none s all = record { more = []; parts = sym (append-nil all); stand = λ can. can }
@@ -55,16 +46,37 @@ grows_on s a b c x y = record {
   stand = λ can. y.stand (x.stand can);
 }
 
-pub grows_one : (s : State) (all : List StoredNode) (kept : StoredNode) → CanStandAt s.component s.matrix kept.position → Grows s all (all ++ kept ∷ [])
+pub grows_one : (s : State) (all : List StoredNode) (kept : StoredNode) → CanStandAtStored s.component s.matrix kept.position → Grows s all (all ++ kept ∷ [])
 grows_one s all kept can = record {
   more = kept ∷ [];
   parts = refl;
   stand = λ old other is.
-      elim (at_push all kept other is.0 is.1) as (λ _. CanStandAt s.component s.matrix other.position) [
+      elim (at_push all kept other is.0 is.1) as (λ _. CanStandAtStored s.component s.matrix other.position) [
         | inl before ↦ old other (is.0, before.1)
-        | inr last ↦ subst (λ (x : StoredNode). CanStandAt s.component s.matrix x.position) (sym last.1) can
+        | inr last ↦ subst (λ (x : StoredNode). CanStandAtStored s.component s.matrix x.position) (sym last.1) can
       ];
 }
+
+-- a position of lu_machine
+abbrev pub stored_position : Position → StoredPosition
+stored_position p = record { cells = p.cells.items; locks = p.locks.items; threads = p.threads.items }
+
+-- a machine stands where it can
+pub position_stands : (s : State) (p : Position) → at_position s p ≡ s → CanStandAt s.component s.matrix p → StandsWhereItCan s
+position_stands s p here can =
+    subst (λ (x : State). CanStand s.component s.matrix x.cells x.locks x.threads) here can
+
+-- ---- a node that was stored
+
+pub stores_grows : (s : State) (monitor : List Shown) (arrival : Option Arrival) (old new : List StoredNode) (index : ℕ) → CanStandAtStored s.component s.matrix (position_in s) → Stores s monitor arrival old new index → Grows s old new
+stores_grows s monitor arrival old new index can stores =
+    elim stores.only as (λ _. Grows s old new) [
+      | inl same ↦ subst (Grows s old) (sym same) (grows_none s old)
+      | inr more ↦ subst (Grows s old) (sym more) (grows_one s old (stored_for s monitor arrival) can)
+    ]
+
+pub stores_node : (s : State) (monitor : List Shown) (arrival : Option Arrival) (old new : List StoredNode) (index : ℕ) → Stores s monitor arrival old new index → IsNodeAt new index (node_at s monitor)
+stores_node s monitor arrival old new index stores = (stores.stored, stores.at, (ap (at_stored s) stores.position, stores.monitor_is))
 
 pub in_more : (s : State) (old new : List StoredNode) → Grows s old new → (kept : StoredNode) → IsIn old kept → IsIn new kept
 in_more s old new grows kept is = (is.0, ap (λ (x : List StoredNode). slice_get x is.0) grows.parts ∙ kept_at old grows.more kept is.0 is.1)
@@ -91,14 +103,14 @@ moved_base rounds a m b event step =
       matrix_is = ap (λ (x : State). x.matrix) step.2.2;
     }
 
-pub base_stand : (a b : State) (p : Position) → SameBase a b → CanStandAt a.component a.matrix p → CanStandAt b.component b.matrix p
+pub base_stand : (a b : State) (p : StoredPosition) → SameBase a b → CanStandAtStored a.component a.matrix p → CanStandAtStored b.component b.matrix p
 base_stand a b p same can =
-    subst (λ x. CanStandAt x b.matrix p) (sym same.component) (subst (λ x. CanStandAt a.component x p) (sym same.matrix_is) can)
+    subst (λ x. CanStandAtStored x b.matrix p) (sym same.component) (subst (λ x. CanStandAtStored a.component x p) (sym same.matrix_is) can)
 
-pub base_at : (a b : State) (p : Position) → SameBase a b → at_position b p ≡ at_position a p
+pub base_at : (a b : State) (p : StoredPosition) → SameBase a b → at_stored b p ≡ at_stored a p
 base_at a b p same =
-    ap (λ x. let y : State = record { component = x; matrix = b.matrix; cells = p.cells.items; locks = p.locks.items; threads = p.threads.items } in y) same.component
-    ∙ ap (λ x. let y : State = record { component = a.component; matrix = x; cells = p.cells.items; locks = p.locks.items; threads = p.threads.items } in y) same.matrix_is
+    ap (λ x. let y : State = record { component = x; matrix = b.matrix; cells = p.cells; locks = p.locks; threads = p.threads } in y) same.component
+    ∙ ap (λ x. let y : State = record { component = a.component; matrix = x; cells = p.cells; locks = p.locks; threads = p.threads } in y) same.matrix_is
 
 pub base_back : (a b : State) → SameBase a b → SameBase b a
 base_back a b same = record { component = sym same.component; matrix_is = sym same.matrix_is }
@@ -110,7 +122,7 @@ base_grows a b old new same grows = record {
   stand = λ can kept is. base_stand b a kept.position (base_back a b same) (grows.stand (λ x at. base_stand a b x.position same (can x at)) kept is);
 }
 
-pub home_again : (a b new : State) (home : Position) → SameBase a b → at_position a home ≡ a → new ≡ at_position b home → new ≡ a
+pub home_again : (a b new : State) (home : StoredPosition) → SameBase a b → at_stored a home ≡ a → new ≡ at_stored b home → new ≡ a
 home_again a b new home same here is = is ∙ (base_at a b home same ∙ here)
 
 -- the state whose dead registers are cleared after the move
@@ -121,7 +133,7 @@ cleared_base dead rounds a m b event cleared step is =
     record { component = alike.component ∙ moved.component; matrix_is = alike.matrix_is ∙ moved.matrix_is }
 
 -- what is stored of it represents the state after the move
-pub stored_alike : (dead : DeadTable) (rounds : Rounds) (a : State) (m : Move) (b : State) (event : Option Event) (cleared : State) (p : Position) → ClientStep (way_of rounds) a m b event → IsCleared dead b cleared → at_position cleared p ≡ cleared → AreAlike dead b (at_position a p)
+pub stored_alike : (dead : DeadTable) (rounds : Rounds) (a : State) (m : Move) (b : State) (event : Option Event) (cleared : State) (p : StoredPosition) → ClientStep (way_of rounds) a m b event → IsCleared dead b cleared → at_stored cleared p ≡ cleared → AreAlike dead b (at_stored a p)
 stored_alike dead rounds a m b event cleared p step is here =
     subst (AreAlike dead b) (sym here ∙ base_at a cleared p (cleared_base dead rounds a m b event cleared step is)) (cleared_alike dead b cleared is)
 
@@ -131,7 +143,7 @@ next_made dead rounds rows a m b event cleared all j monitor after made clear ke
     let now : IsAfterMove (table_of [] rows) b event monitor keeps.0.monitor = subst (λ x. IsAfterMove (table_of [] rows) b event monitor x) (sym keeps.2.1) is in (
       keeps.0,
       (j, keeps.1),
-      subst (λ x. AreAlike dead x (at_position a keeps.0.position)) same.0 (stored_alike dead rounds a m b event cleared keeps.0.position made clear keeps.2.0),
+      subst (λ x. AreAlike dead x (at_stored a keeps.0.position)) same.0 (stored_alike dead rounds a m b event cleared keeps.0.position made clear keeps.2.0),
       subst (λ e. IsAfterMove (table_of [] rows) other e monitor keeps.0.monitor) same.1 (subst (λ x. IsAfterMove (table_of [] rows) x event monitor keeps.0.monitor) same.0 now),
     )
 
@@ -145,14 +157,6 @@ adds_made dead rounds rows a one b event cleared old new monitor after step clea
           inr (mine.1, (node_of a kept, event, move, refl)))
     ]
 
--- a move alone
-pub adds_one : (dead : DeadTable) (rounds : Rounds) (rows : Rows) (a : State) (monitor : List Shown) (index : ℕ) (m : Move) (old new : List StoredNode) → AddsBy dead rounds rows a monitor (arrived index m) old new → AddsFrom dead rounds rows a index (node_at a monitor) old new
-adds_one dead rounds rows a monitor index m old new adds kept at =
-    elim (adds kept at) as (λ _. IsIn old kept ⊎ ComesFrom dead rounds rows a index (node_at a monitor) kept) [
-      | inl before ↦ inl before
-      | inr mine ↦ inr (arrived index m, mine.0, refl, mine.1)
-    ]
-
 pub only_one : (For : StoredNode → Type 0) (all new : List StoredNode) (one : StoredNode) → new ≡ all ++ one ∷ [] → For one → (kept : StoredNode) → IsIn new kept → IsIn all kept ⊎ For kept
 only_one For all new one is for kept at =
     elim (at_push all one kept at.0 (ap (λ (xs : List StoredNode). slice_get xs at.0) (sym is) ∙ at.1)) as (λ _. IsIn all kept ⊎ For kept) [
@@ -160,82 +164,17 @@ only_one For all new one is for kept at =
       | inr last ↦ inr (subst For (sym last.1) for)
     ]
 
--- ---- all moves
+pub stores_only : (s : State) (monitor : List Shown) (arrival : Option Arrival) (old new : List StoredNode) (index : ℕ) → Stores s monitor arrival old new index → AddsOnly s monitor arrival old new
+stores_only s monitor arrival old new index stores =
+    elim stores.only as (λ _. AddsOnly s monitor arrival old new) [
+      | inl same ↦ λ kept at. inl (subst (λ xs. IsIn xs kept) same at)
+      | inr more ↦ only_one (λ kept. IsStoredFor (node_at s monitor) kept × (kept.arrival ≡ arrival)) old new (stored_for s monitor arrival) more ((refl, refl), refl)
+    ]
 
--- of threads before this one, and of this thread picks before this one
-abbrev pub IsBelow : ℕ → ℕ → Move → Type 0
-IsBelow t p m = (m.thread < t) ⊎ ((m.thread ≡ t) × (m.pick < p))
-
-pub record SoFar (dead : DeadTable) (rounds : Rounds) (rows : Rows) (s : State) (monitor : List Shown) (index : ℕ) (old : List StoredNode) (machine : State) (all : List StoredNode) (t p : ℕ) : Type 0 where
-  pub machine_is : machine ≡ s
-  pub grows : Grows s old all
-  pub below : (m : Move) → IsBelow t p m → HasNext dead rounds rows all (node_at s monitor) m
-  pub adds : AddsFrom dead rounds rows s index (node_at s monitor) old all
-
-module _ (dead : DeadTable) (rounds : Rounds) (rows : Rows) (s : State) (monitor : List Shown) (index : ℕ) (old : List StoredNode) where
-  pub far_none : SoFar dead rounds rows s monitor index old s old 0 0
-  far_none = record { machine_is = refl; grows = grows_none s old; below = λ m below. elim below [ inl lt ↦ absurd (omega (arith, lt)) | inr at ↦ (let lt = at.1 in absurd (omega (arith, lt))) ]; adds = λ kept at. inl at }
-
-  pub far_more : (machine next : State) (all new : List StoredNode) (t p : ℕ) → SoFar dead rounds rows s monitor index old machine all t p → next ≡ machine → Grows machine all new → HasNext dead rounds rows new (node_at machine monitor) (record { thread = t; pick = p }) → AddsFrom dead rounds rows machine index (node_at machine monitor) all new → SoFar dead rounds rows s monitor index old next new t (p + 1)
-  far_more machine next all new t p far home grows keeps adds =
-      let more : Grows s all new = subst (λ x. Grows x all new) far.machine_is grows in
-      let here : HasNext dead rounds rows new (node_at s monitor) (record { thread = t; pick = p }) = subst (λ x. HasNext dead rounds rows new (node_at x monitor) (record { thread = t; pick = p })) far.machine_is keeps in
-      record {
-        machine_is = home ∙ far.machine_is;
-        grows = grows_on s old all new far.grows more;
-        below = λ m below.
-            elim below as (λ _. HasNext dead rounds rows new (node_at s monitor) m) [
-              | inl lt ↦ next_more dead rounds rows s all new more (node_at s monitor) m (far.below m (inl lt))
-              | inr at ↦ elim (cases_lt m.pick p) as (λ _. HasNext dead rounds rows new (node_at s monitor) m) [
-                | inl less ↦ next_more dead rounds rows s all new more (node_at s monitor) m (far.below m (inr (at.0, less)))
-                | inr past ↦
-                    (let lt = at.1 in
-                    let pick : m.pick ≡ p = omega (arith, lt, past) in
-                    let one : Move = record { thread = t; pick = p } in
-                    let same : m ≡ one = ap (λ (x : ℕ). let y : Move = record { thread = x; pick = m.pick } in y) at.0 ∙ ap (λ (x : ℕ). let y : Move = record { thread = t; pick = x } in y) pick in
-                    subst (HasNext dead rounds rows new (node_at s monitor)) (sym same) here)
-              ]
-            ];
-        adds = λ kept at.
-            elim (subst (λ x. AddsFrom dead rounds rows x index (node_at x monitor) all new) far.machine_is adds kept at) as (λ _. IsIn old kept ⊎ ComesFrom dead rounds rows s index (node_at s monitor) kept) [
-              | inl before ↦ far.adds kept before
-              | inr mine ↦ inr mine
-            ];
-      }
-
-  never : (all : List StoredNode) (m : Move) → picks_of s m.thread ≤ m.pick → HasNext dead rounds rows all (node_at s monitor) m
-  never all m past b event step = let it = (moves_in_order (limit_of rounds) s m b event).0 step in let lt = step_feasible s m it.0 event it.1 in absurd (omega (arith, lt, past))
-
-  pub far_turn : (machine : State) (all : List StoredNode) (t p : ℕ) → picks_of s t ≤ p → SoFar dead rounds rows s monitor index old machine all t p → SoFar dead rounds rows s monitor index old machine all (t + 1) 0
-  far_turn machine all t p over far =
-      record {
-        machine_is = far.machine_is;
-        grows = far.grows;
-        below = λ m below.
-            elim below as (λ _. HasNext dead rounds rows all (node_at s monitor) m) [
-              | inl lt ↦ elim (cases_lt m.thread t) as (λ _. HasNext dead rounds rows all (node_at s monitor) m) [
-                | inl less ↦ far.below m (inl less)
-                | inr same ↦
-                    (let here : m.thread ≡ t = omega (arith, lt, same) in
-                    elim (cases_lt m.pick p) as (λ _. HasNext dead rounds rows all (node_at s monitor) m) [
-                      | inl less ↦ far.below m (inr (here, less))
-                      | inr more ↦ never all m (let few : picks_of s m.thread ≤ p = subst (λ x. picks_of s x ≤ p) (sym here) over in omega (arith, few, more))
-                    ])
-              ]
-              | inr at ↦ (let lt = at.1 in absurd (omega (arith, lt)))
-            ];
-        adds = far.adds;
-      }
-
-  picks_past : (t : ℕ) → length s.threads ≤ t → picks_of s t ≡ 0
-  picks_past t past = rw (slice_get_past s.threads t past) refl
-
-  pub far_all : (machine : State) (all : List StoredNode) (t p : ℕ) → length s.threads ≤ t → SoFar dead rounds rows s monitor index old machine all t p → HasAllNext dead rounds rows all (node_at s monitor)
-  far_all machine all t p past far m =
-      elim (cases_lt m.thread t) as (λ _. HasNext dead rounds rows all (node_at s monitor) m) [
-        | inl less ↦ far.below m (inl less)
-        | inr over ↦ never all m (let zero_picks = picks_past m.thread (omega (arith, past, over)) in omega (arith, zero_picks))
-      ]
+-- what is stored after a move
+pub stored_after : {E : Type 0} (dead : DeadTable) (rows : Rows) (s : State) (event : Option Event) (monitor : List Shown) (arrival : Arrival) (cleared : State) (old new : List StoredNode) (after : List Shown) → MonitorAfter rows s event monitor after → IsCleared dead s cleared → (result : Result ℕ E) → OnOk result (Grows cleared old new) → IfOk result (λ index. IsNodeAt new index (node_at cleared after)) → OnOk result (AddsOnly cleared after (Some arrival) old new) → IfOk result (StoresAfter dead rows s event monitor arrival cleared old new)
+stored_after dead rows s event monitor arrival cleared old new after follows clear (Ok index) grows there only = record { after = after; follows = follows; clear = clear; grows = grows; there = there; only = only }
+stored_after dead rows s event monitor arrival cleared old new after follows clear (Err e) grows there only = tt
 
 -- ---- node after node
 
@@ -243,12 +182,18 @@ pub base_node : (s machine : State) (kept : StoredNode) → SameBase s machine �
 base_node s machine kept same = ap (λ (x : State). node_at x kept.monitor) (base_at s machine kept.position same)
 
 -- the node that is kept under this number
-pub here_node : (machine new : State) (items xs ys : List StoredNode) (number : ℕ) (d e kept : StoredNode) (monitor : List Shown) → xs ≡ items → ys ≡ items → monitor ≡ (get_or xs number d).monitor → new ≡ at_position machine (get_or ys number e).position → slice_get items number ≡ Some kept → node_at new monitor ≡ node_of machine kept
-here_node machine new items xs ys number d e kept monitor first second same is at =
-    let mine : get_or xs number d ≡ kept = ap (λ (zs : List StoredNode). get_or zs number d) first ∙ get_or_from_slice_get items number kept d at in
-    let other : get_or ys number e ≡ kept = ap (λ (zs : List StoredNode). get_or zs number e) second ∙ get_or_from_slice_get items number kept e at in
-    ap (λ x. node_at x monitor) (is ∙ ap (λ (x : StoredNode). at_position machine x.position) other)
-    ∙ ap (λ m. node_at (at_position machine kept.position) m) (same ∙ ap (λ (x : StoredNode). x.monitor) mine)
+pub here_node : (machine new : State) (items : List StoredNode) (number : ℕ) (monitor : List Shown) → StandsAt items number machine new → HasMonitorAt items number monitor → (kept : StoredNode) → slice_get items number ≡ Some kept → node_at new monitor ≡ node_of machine kept
+here_node machine new items number monitor stands has kept at =
+    let position : new ≡ at_stored machine kept.position = stands.2 ∙ ap (λ (x : StoredNode). at_stored machine x.position) (same_Some stands.0 kept (sym stands.1 ∙ at)) in
+    let its : monitor ≡ kept.monitor = sym has.2 ∙ ap (λ (x : StoredNode). x.monitor) (same_Some has.0 kept (sym has.1 ∙ at)) in
+    ap (λ x. node_at x monitor) position ∙ ap (λ m. node_at (at_stored machine kept.position) m) its
+
+pub copied_monitor : (items : List StoredNode) (number : ℕ) (monitor copy : List Shown) → copy ≡ monitor → HasMonitorAt items number monitor → HasMonitorAt items number copy
+copied_monitor items number monitor copy same has = (has.0, has.1, has.2 ∙ sym same)
+
+-- and its component and matrix are those of before
+pub stands_base : (machine new : State) (items : List StoredNode) (number : ℕ) → StandsAt items number machine new → SameBase machine new
+stands_base machine new items number stands = record { component = ap (λ (x : State). x.component) stands.2; matrix_is = ap (λ (x : State). x.matrix) stands.2 }
 
 pub adds_here : (dead : DeadTable) (rounds : Rounds) (rows : Rows) (machine new : State) (index : ℕ) (node here : Node) (old all : List StoredNode) → SameBase machine new → node ≡ here → AddsFrom dead rounds rows new index node old all → AddsFrom dead rounds rows machine index here old all
 adds_here dead rounds rows machine new index node here old all same is adds kept at =
@@ -357,27 +302,11 @@ first_more s n all new Holds within grows stays before here i lt kept at =
       | inr past ↦ (let same : i ≡ n = omega (arith, lt, past) in here kept (ap (slice_get all) (sym same) ∙ old))
     ]
 
-pub searched_next : (dead : DeadTable) (rounds : Rounds) (rows : Rows) (first_monitor : List Shown) (s : State) (n : ℕ) (all new : List StoredNode) → n < length all → AreSearched dead rounds rows first_monitor s n all → Grows s all new → HoldsOf s all n (HasAllNext dead rounds rows new) → AddsAt dead rounds rows s n all new → AreSearched dead rounds rows first_monitor s (n + 1) new
-searched_next dead rounds rows first_monitor s n all new within are grows visited adds = record {
-  starts = (are.starts.0, in_more s all new grows are.starts.0 are.starts.1, are.starts.2);
-  arrivals = arrivals_more dead rounds rows first_monitor s n all new within are.arrivals grows adds;
-  stand = grows.stand are.stand;
-  closed = first_more s n all new (λ list node. HasAllNext dead rounds rows list node) within grows (λ node has m. next_more dead rounds rows s all new grows node m (has m)) are.closed visited;
-}
-
 -- the first node alone
 pub first_arrivals : (dead : DeadTable) (rounds : Rounds) (rows : Rows) (first_monitor : List Shown) (s : State) (all : List StoredNode) → ((kept : StoredNode) → IsIn all kept → IsStoredFor (node_at s first_monitor) kept × (kept.arrival ≡ None)) → AreArrivals dead rounds rows first_monitor s all
 first_arrivals dead rounds rows first_monitor s all only i kept at =
     let mine = only kept (i, at) in
     subst (IsArrival dead rounds rows first_monitor s all i kept) (sym mine.1) mine.0
-
-pub searched_none : (dead : DeadTable) (rounds : Rounds) (rows : Rows) (first_monitor : List Shown) (s : State) (all : List StoredNode) (j : ℕ) → IsNodeAt all j (node_at s first_monitor) → AllCanStand s all → ((kept : StoredNode) → IsIn all kept → IsStoredFor (node_at s first_monitor) kept × (kept.arrival ≡ None)) → AreSearched dead rounds rows first_monitor s 0 all
-searched_none dead rounds rows first_monitor s all j keeps can only = record {
-  starts = (keeps.0, (j, keeps.1), keeps.2);
-  arrivals = first_arrivals dead rounds rows first_monitor s all only;
-  stand = can;
-  closed = λ i lt kept at. absurd (omega (arith, lt));
-}
 
 -- ---- which stages a table has changes nothing
 
@@ -449,21 +378,3 @@ from s all node (i, at) = by (slice_get all i) refl
       at = e;
       is_node = same_Some (node_of s kept) node (sym (slice_get-map (node_of s) all i ∙ ap (option_map (node_of s)) e) ∙ at);
     }
-
--- ---- where all moves of all nodes were made
-
-module _ (dead : DeadTable) (rounds : Rounds) (rows : Rows) (first_monitor : List Shown) (s : State) (place : ℕ) (all : List StoredNode) (past : length all ≤ place) (are : AreSearched dead rounds rows first_monitor s place all) where
-  closed_at : (kept : StoredNode) (i : ℕ) → slice_get all i ≡ Some kept → (m : Move) (b : State) (event : Option Event) → ClientStep (way_of rounds) (node_of s kept).state m b event → (next : Node) × IsIn (map (node_of s) all) next × Represents dead next b × IsAfterMove (table_of [] rows) b event kept.monitor next.monitor
-  closed_at kept i at m b event step =
-      let within = slice_get_within all i kept at in
-      let on = are.closed i (omega (arith, within, past)) kept at m b event step in
-      (node_of s on.0, there s all on.0 on.1, on.2, on.3)
-
-  pub nodes : AreAllNodes dead (table_of [] rows) (way_of rounds) s (map (node_of s) all)
-  nodes = record {
-    starts = (node_of s are.starts.0, there s all are.starts.0 are.starts.1, subst (AreAlike dead s) (sym are.starts.2.0) (alike_itself dead s));
-    closed = λ node m b event at step.
-        let f = from s all node at in
-        subst (λ (x : Node). (next : Node) × IsIn (map (node_of s) all) next × Represents dead next b × IsAfterMove (table_of [] rows) b event x.monitor next.monitor) f.is_node
-        (closed_at f.kept f.i f.at m b event (subst (λ (x : Node). ClientStep (way_of rounds) x.state m b event) (sym f.is_node) step));
-  }

@@ -139,7 +139,7 @@ module _ (s r : State) (same : HaveSamePlaces s r) where
       by_thread (Some b) stands h = by_activity b.done b.activity stands h
 
 module _ (s r : State) (same : HaveSamePlaces s r) where
-  first_there : (m : Move) → GoesFirst s m → GoesFirst r m
+  pub first_there : (m : Move) → GoesFirst s m → GoesFirst r m
   first_there m first t is =
       first t (record {
         aside = aside_there r s (places_back s r same) t is.aside;

@@ -26,7 +26,7 @@ use Rattle.lu_answers.specs.Ways.{limit_of, way_of}
 use Rattle.lu_always.specs.declared.judging.Judged.TheVariants.{Good}
 use Rattle.lu_always.specs.declared.steps.Origin.{Origin}
 use Rattle.lu_always.specs.declared.stored.Arrival.{Arrival}
-use Rattle.lu_always.specs.declared.stored.StoredNode.{StoredNode}
+use Rattle.lu_always.specs.Stored.{StoredNode}
 use Rattle.lu_always.specs.Nodes.{IsAfterMove, IsMove, Node}
 use Rattle.lu_always.specs.Searching.{Adds, AddsAt, AddsBy, AddsFrom, AllCanStand, ComesFrom, Grows, HasNext, HoldsOf, IsNodeAt, IsStoredFor, Leads, node_at, node_of}
 use Rattle.lu_always.specs.StepSearch.{AddsMoves, AreStepped, HasCall, HasMoves, HasSteps, HasStepsOf, IsJudged, IsJudgedIn}

@@ -1,12 +1,11 @@
 -- What a search by steps tells of all unrolled matrices.
-use Rattle.std.proofs.Common.{arith, ◌≡◌, ℕ, ◌<◌, ◌≤◌, Bool, List, [], ◌∷◌, length, map, Some, None, slice_get, refl, sym, ◌∙◌, ap, subst}
+use Rattle.std.proofs.Common.{arith, ◌≡◌, ℕ, ◌<◌, ◌≤◌, Bool, List, [], ◌∷◌, length, map, Option, Some, None, slice_get, refl, sym, ◌∙◌, ap, subst}
 use Rattle.std.specs.Global.{Vec}
 use Rattle.std.proofs.lemmas.List.{append-nil}
 use Rattle.std.proofs.lemmas.Option.{slice_get_within}
 use Rattle.lu_component.specs.Component.{Component}
 use Rattle.lu_test.specs.declared.schedule.Move.{Move}
 use Rattle.lu_test.specs.Matrix.{Matrix}
-use Rattle.lu_machine.specs.Positions.{at_position}
 use Rattle.lu_machine.specs.States.{State}
 use Rattle.lu_machine.specs.Starts.{IsStart}
 use Rattle.lu_horizon.specs.Dead.{DeadTable, IsDeadTable}
@@ -24,15 +23,16 @@ use Rattle.lu_answers.specs.Ways.{limit_of, way_of}
 use Rattle.lu_answers.proofs.Lines.{same_matrix}
 use Rattle.lu_always.specs.declared.judging.Judged.{Judged}
 use Rattle.lu_always.specs.declared.judging.Judged.TheVariants.{Bad, BadAfterCall}
-use Rattle.lu_always.specs.declared.steps.Linearizability.TheVariants.{Fails}
-use Rattle.lu_always.specs.declared.stored.StoredNode.{StoredNode}
+use Rattle.lu_always.specs.declared.steps.Visited.TheVariants.{Fails as Visits}
+use Rattle.lu_always.specs.declared.verdicts.Verdict.TheVariants.{Fails}
+use Rattle.lu_always.specs.Stored.{StoredNode, at_stored}
 use Rattle.lu_always.specs.Always.{FailsBy}
 use Rattle.lu_always.specs.Nodes.{IsGoodNode, Node}
 use Rattle.lu_history.proofs.Events.{kept_at}
 use Rattle.lu_client.proofs.OneCalls.{within_some}
-use Rattle.lu_always.specs.Searching.{AddsAt, AreArrivals, Grows, HasNext, IsLinearizableBy, node_at, node_of}
+use Rattle.lu_always.specs.Searching.{AddsAt, AreArrivals, Grows, HasNext, IsLinearizableBy, IsVerdict, node_at, node_of}
 use Rattle.lu_always.specs.Steps.{AreStepNodes, HasNodeAfter, IsGoodBeforeCalls}
-use Rattle.lu_always.specs.StepSearch.{AreStepped, HasSteps, IsFound, IsJudged, IsJudgedIn}
+use Rattle.lu_always.specs.StepSearch.{AreStepped, HasSteps, IsJudged, IsJudgedIn, IsStepVisit}
 use Rattle.lu_always.specs.Ways.{HasParentsBefore, IsWayTo, IsWayWith}
 use Rattle.lu_always.proofs.Decided.{bad_node_fails}
 use Rattle.lu_always.proofs.Exiting.{client_feasible}
@@ -51,7 +51,7 @@ module _ (dead : DeadTable) (rounds : Rounds) (rows : Rows) (first : List Shown)
   list = map (node_of s) all
 
   -- the move leads to nodes of the list from this state, whose component and matrix are those of s
-  after_move : (a : State) (monitor : List Shown) → ((kept : StoredNode) → at_position a kept.position ≡ at_position s kept.position) → (m : Move) → HasNext dead rounds rows all (node_at a monitor) m → HasNodeAfter dead table (way_of rounds) list a (m ∷ []) monitor
+  after_move : (a : State) (monitor : List Shown) → ((kept : StoredNode) → at_stored a kept.position ≡ at_stored s kept.position) → (m : Move) → HasNext dead rounds rows all (node_at a monitor) m → HasNodeAfter dead table (way_of rounds) list a (m ∷ []) monitor
   after_move a monitor base m has b event step =
       let (kept, at, alike, after) = has b event step in (
         kept.monitor,
@@ -73,7 +73,7 @@ module _ (dead : DeadTable) (rounds : Rounds) (rows : Rows) (first : List Shown)
       )
   after_step kept (m ∷ k ∷ l ∷ u) has is = absurd is
 
-  step_nodes : AreInitial 0 first → AreStepNodes dead table (way_of rounds) s list
+  pub step_nodes : AreInitial 0 first → AreStepNodes dead table (way_of rounds) s list
   step_nodes initial = record {
     starts = (node_of s are.starts.0, there s all are.starts.0 are.starts.1, (subst (AreAlike dead s) (sym are.starts.2.0) (alike_itself dead s), subst (AreInitial 0) (sym are.starts.2.1) initial));
     closed = λ node step at is.
@@ -120,7 +120,7 @@ module _ (c : Component) (dead : DeadTable) (sound : IsDeadTable c dead) (rounds
   judged_here : (judged : Judged) → IsJudgedIn rounds rows machine old n judged → IsJudged rounds rows (node_of s here.0) judged
   judged_here judged told = subst (λ (x : Node). IsJudged rounds rows x judged) (base_node s machine here.0 same) (told here.0 here.1)
 
-  pub bad_fails : IsJudgedIn rounds rows machine old n Bad → (moves : Vec Move) → IsWayWith new n None moves.items → IsFound c rounds matrix rows (Fails moves)
+  bad_fails : IsJudgedIn rounds rows machine old n Bad → (moves : Vec Move) → IsWayWith new n None moves.items → IsVerdict c rounds matrix rows (Fails moves)
   bad_fails told moves (u, to, whole) stages bound tables =
       let way = way_here u to in
       let bad = judged_here Bad told in
@@ -128,10 +128,14 @@ module _ (c : Component) (dead : DeadTable) (sound : IsDeadTable c dead) (rounds
       (bad_node_fails c (limit_of rounds) matrix bound s dead (table_of stages rows) way.first u (node_of s here.0) client sound (tables s is) (way.state, subst (AreInitial 0) (sym way.monitor) initial)
       (moves_any dead rounds stages [] rows u way.first (node_of s here.0) way.lead) bad.0 (λ good. bad.1 (good_any [] stages rows (node_of s here.0) good)))
 
-  pub bad_call_fails : (m : Move) → IsJudgedIn rounds rows machine old n (BadAfterCall m) → (moves : Vec Move) → IsWayWith new n (Some m) moves.items → IsFound c rounds matrix rows (Fails moves)
+  bad_call_fails : (m : Move) → IsJudgedIn rounds rows machine old n (BadAfterCall m) → (moves : Vec Move) → IsWayWith new n (Some m) moves.items → IsVerdict c rounds matrix rows (Fails moves)
   bad_call_fails m told moves (u, to, whole) stages bound tables =
       let way = way_here u to in
       let bad = judged_here (BadAfterCall m) told in
       subst (FailsBy c matrix (way_of rounds)) (sym whole)
       (blocked_call_fails c (limit_of rounds) matrix bound s dead (table_of stages rows) way.first u (node_of s here.0) m client sound (tables s is) (way.state, subst (AreInitial 0) (sym way.monitor) initial)
       (moves_any dead rounds stages [] rows u way.first (node_of s here.0) way.lead) bad.0 bad.1.0 bad.1.1)
+
+  pub fails : (call : Option Move) → IsStepVisit dead rounds rows machine old n new (Visits call) → (moves : Vec Move) → IsWayWith new n call moves.items → IsVerdict c rounds matrix rows (Fails moves)
+  fails None told moves way = bad_fails told moves way
+  fails (Some m) told moves way = bad_call_fails m told moves way

@@ -1,11 +1,15 @@
 pub mod Always
 pub mod OneRound
 pub mod Nodes
+pub mod Numbered
+pub mod Stored
+pub mod Rows
 pub mod Steps
 pub mod Sinks
 pub mod Marking
 pub mod Exits
 pub mod Livelocks
+pub mod StepLivelocks
 pub mod Clearing
 pub mod Searching
 pub mod StepSearch

@@ -7,8 +7,6 @@ use Rattle.lu_test.specs.declared.schedule.Move.{Move}
 use Rattle.lu_test.specs.Matrix.{Matrix}
 use Rattle.lu_machine.specs.declared.event.Event.{Event}
 use Rattle.lu_machine.specs.declared.thread.Thread.{Thread}
-use Rattle.lu_machine.specs.declared.position.Position.{Position}
-use Rattle.lu_machine.specs.Positions.{CanStandAt, at_position}
 use Rattle.lu_machine.specs.States.{State}
 use Rattle.lu_horizon.specs.Dead.{DeadTable}
 use Rattle.lu_serial.specs.Serial.{HasOpen}
@@ -19,9 +17,10 @@ use Rattle.lu_client.specs.Clients.{ClientStep, around}
 use Rattle.lu_client.specs.Stages.{IsIn, Stage}
 use Rattle.lu_always.specs.declared.given.Given.{Given}
 use Rattle.lu_always.specs.declared.stored.Arrival.{Arrival}
-use Rattle.lu_always.specs.declared.stored.StoredNode.{StoredNode}
+use Rattle.lu_always.specs.Stored.{CanStandAtStored, StoredNode, at_stored}
 use Rattle.lu_always.specs.declared.verdicts.Verdict.{Verdict}
 use Rattle.lu_always.specs.declared.verdicts.Verdict.TheVariants.{AlwaysLinearizable, Fails, Livelock, Undecided}
+use Rattle.lu_always.specs.Clearing.{IsCleared}
 use Rattle.lu_always.specs.Exits.{AreExits, MovesTo}
 use Rattle.lu_always.specs.Livelocks.{HasLivelockBy, NeverLivelocks}
 use Rattle.lu_always.specs.Sinks.{Graph}
@@ -52,21 +51,9 @@ CanBeStuckIfOpen rows s monitor t =
 abbrev pub AllCanBeStuck : Rows → State → List Shown → Type 0
 AllCanBeStuck rows s monitor = (t : ℕ) → CanBeStuckIfOpen rows s monitor t
 
--- the stored node has this position and this monitor
-abbrev pub IsStored : StoredNode → Position → List Shown → Type 0
-IsStored stored position monitor =
-    ((s : State) → at_position s stored.position ≡ at_position s position)
-    × (stored.monitor ≡ monitor)
-
--- the node that is stored at this index has this position and this monitor
-abbrev pub IsStoredAt : List StoredNode → ℕ → Position → List Shown → Type 0
-IsStoredAt all index position monitor =
-    (stored : StoredNode) × (slice_get all index ≡ Some stored)
-    × IsStored stored position monitor
-
 -- the node that is stored, where the component and the matrix are those of s
 abbrev pub node_of : State → StoredNode → Node
-node_of s stored = record { state = at_position s stored.position; monitor = stored.monitor }
+node_of s stored = record { state = at_stored s stored.position; monitor = stored.monitor }
 
 -- the node of this state and this monitor
 abbrev pub node_at : State → List Shown → Node
@@ -75,17 +62,21 @@ node_at s monitor = record { state = s; monitor = monitor }
 -- it is this node that is stored
 abbrev pub IsStoredFor : Node → StoredNode → Type 0
 IsStoredFor node stored =
-    (at_position node.state stored.position ≡ node.state) × (stored.monitor ≡ node.monitor)
+    (at_stored node.state stored.position ≡ node.state) × (stored.monitor ≡ node.monitor)
 
 -- it is stored at this index
 abbrev pub IsNodeAt : List StoredNode → ℕ → Node → Type 0
 IsNodeAt all index node =
     (stored : StoredNode) × (slice_get all index ≡ Some stored) × IsStoredFor node stored
 
+-- it is that of this state and this monitor
+abbrev pub IsNodeOf : State → List Shown → List StoredNode → ℕ → Type 0
+IsNodeOf s monitor all index = IsNodeAt all index (node_at s monitor)
+
 -- a machine with the component and the matrix of s can stand at each stored node
 abbrev pub AllCanStand : State → List StoredNode → Type 0
 AllCanStand s all =
-    (stored : StoredNode) → IsIn all stored → CanStandAt s.component s.matrix stored.position
+    (stored : StoredNode) → IsIn all stored → CanStandAtStored s.component s.matrix stored.position
 
 -- The old nodes stay, and others may come after them. Machines can stand there too.
 pub record Grows (s : State) (old new : List StoredNode) : Type 0 where
@@ -100,31 +91,14 @@ HasNext dead rounds rows all node m =
     → (stored : StoredNode) × IsIn all stored × Represents dead (node_of node.state stored) b
     × MonitorAfter rows b event node.monitor stored.monitor
 
--- the list has nodes for all states to which moves lead from this one
-abbrev pub HasAllNext : DeadTable → Rounds → Rows → List StoredNode → Node → Type 0
-HasAllNext dead rounds rows all node = (m : Move) → HasNext dead rounds rows all node m
-
 -- the same for the node of this state and this monitor
 abbrev pub HasNextOf : DeadTable → Rounds → Rows → State → List Shown → Move → List StoredNode
     → Type 0
 HasNextOf dead rounds rows s monitor m all = HasNext dead rounds rows all (node_at s monitor) m
 
-abbrev pub HasAllNextOf : DeadTable → Rounds → Rows → State → List Shown → List StoredNode
-    → Type 0
-HasAllNextOf dead rounds rows s monitor all = HasAllNext dead rounds rows all (node_at s monitor)
-
--- these are the exits of the node of this state and this monitor
-abbrev pub AreExitsOf : DeadTable → Rounds → State → List Shown → List StoredNode → Vec ℕ
-    → Type 0
-AreExitsOf dead rounds s monitor all exits = AreExits dead rounds all exits.items s
-
 -- the moves of the arrival: the call, if it has one, and the move after it
 abbrev pub moves_of : Arrival → List Move
 moves_of a = option_map_or (λ call. call ∷ a.by ∷ []) a.call (a.by ∷ [])
-
--- by the move m alone, from the node stored at this index
-abbrev pub arrived : ℕ → Move → Arrival
-arrived index m = record { parent = index; call = None; by = m }
 
 -- these moves lead from one node to the other
 abbrev pub Leads : DeadTable → Rounds → Rows → Node → List Move → Node → Type 0
@@ -166,17 +140,21 @@ AddsOnly s monitor arrival old new =
     (stored : StoredNode) → IsIn new stored
     → IsIn old stored ⊎ (IsStoredFor (node_at s monitor) stored × (stored.arrival ≡ arrival))
 
+-- A move with this event, or with none, has led from this monitor to state s. The node after it is
+-- stored at the index, with 0 in dead registers. No other node is added.
+pub record StoresAfter (dead : DeadTable) (rows : Rows) (s : State) (event : Option Event)
+    (monitor : List Shown) (arrival : Arrival) (cleared : State) (old new : List StoredNode)
+    (index : ℕ) : Type 0 where
+  pub after : List Shown
+  pub follows : MonitorAfter rows s event monitor after
+  pub clear : IsCleared dead s cleared
+  pub grows : Grows cleared old new
+  pub there : IsNodeAt new index (node_at cleared after)
+  pub only : AddsOnly cleared after (Some arrival) old new
+
 -- the property holds of the node stored at this index
 abbrev pub HoldsOf : State → List StoredNode → ℕ → (Node → Type 0) → Type 0
 HoldsOf s all i P = (stored : StoredNode) → slice_get all i ≡ Some stored → P (node_of s stored)
-
--- The new list has nodes for all states to which moves lead from the node at this index, and these are
--- its exits.
-abbrev pub IsVisit : DeadTable → Rounds → Rows → State → List StoredNode → ℕ → List StoredNode
-    → Vec ℕ → Type 0
-IsVisit dead rounds rows s old index new exits =
-    HoldsOf s old index (HasAllNext dead rounds rows new)
-    × HoldsOf s old index (λ node. AreExits dead rounds new exits.items node.state)
 
 -- each new node was reached from the one stored at this index
 abbrev pub AddsAt : DeadTable → Rounds → Rows → State → ℕ → List StoredNode → List StoredNode
@@ -199,15 +177,6 @@ abbrev pub AreArrivals : DeadTable → Rounds → Rows → List Shown → State 
 AreArrivals dead rounds rows first s all =
     (i : ℕ) (stored : StoredNode) → slice_get all i ≡ Some stored
     → IsArrival dead rounds rows first s all i stored stored.arrival
-
--- The list has the first node, and each node was reached by its arrival. The list has nodes for all
--- states to which moves lead from the nodes before this index.
-pub record AreSearched (dead : DeadTable) (rounds : Rounds) (rows : Rows) (first : List Shown)
-    (s : State) (index : ℕ) (all : List StoredNode) : Type 0 where
-  pub starts : (stored : StoredNode) × IsIn all stored × IsStoredFor (node_at s first) stored
-  pub stand : AllCanStand s all
-  pub arrivals : AreArrivals dead rounds rows first s all
-  pub closed : (i : ℕ) → i < index → HoldsOf s all i (HasAllNext dead rounds rows all)
 
 -- these are the exits of the first nodes, one list for each
 abbrev pub AreExitsOfFirst : DeadTable → Rounds → State → List StoredNode → Graph → Type 0
@@ -235,21 +204,16 @@ IsVerdict c rounds matrix rows (Livelock moves) =
     IsLinearizableBy c rounds matrix rows × HasLivelockBy c matrix (way_of rounds) moves.items
 IsVerdict c rounds matrix rows Undecided = Unit {0}
 
--- none, or these moves are a livelock of an unrolled matrix
-abbrev pub IsLivelockIfAny : Component → Rounds → Matrix → Option (Vec Move) → Type 0
-IsLivelockIfAny c rounds matrix None = NeverLivelocks c matrix (way_of rounds)
-IsLivelockIfAny c rounds matrix (Some moves) =
-    HasLivelockBy c matrix (way_of rounds) moves.items
-
 -- ---- by what a search is given
 
 abbrev pub HasNextBy : Given → State → List Shown → Move → List StoredNode → Type 0
 HasNextBy given s monitor m all =
     HasNextOf given.dead.now given.rounds given.table.now s monitor m all
 
-abbrev pub HasAllNextBy : Given → State → List Shown → List StoredNode → Type 0
-HasAllNextBy given s monitor all =
-    HasAllNextOf given.dead.now given.rounds given.table.now s monitor all
+abbrev pub StoresAfterBy : Given → State → Option Event → List Shown → Arrival → State
+    → List StoredNode → List StoredNode → ℕ → Type 0
+StoresAfterBy given s event monitor arrival cleared old new index =
+    StoresAfter given.dead.now given.table.now s event monitor arrival cleared old new index
 
 abbrev pub AddsByOf : Given → State → List Shown → Arrival → List StoredNode → List StoredNode
     → Type 0
@@ -260,16 +224,8 @@ abbrev pub AddsOf : Given → State → List Shown → ℕ → List StoredNode �
 AddsOf given s monitor index old new =
     Adds given.dead.now given.rounds given.table.now s monitor index old new
 
-abbrev pub AreExitsBy : Given → State → List Shown → List StoredNode → Vec ℕ → Type 0
-AreExitsBy given s monitor all exits =
-    AreExitsOf given.dead.now given.rounds s monitor all exits
-
 abbrev pub MovesToBy : Given → State → Move → List StoredNode → ℕ → Type 0
 MovesToBy given s m all index = MovesTo given.dead.now given.rounds all s m index
-
-abbrev pub IsVisitBy : Given → State → List StoredNode → ℕ → List StoredNode → Vec ℕ → Type 0
-IsVisitBy given s old index new exits =
-    IsVisit given.dead.now given.rounds given.table.now s old index new exits
 
 abbrev pub AddsAtBy : Given → State → ℕ → List StoredNode → List StoredNode → Type 0
 AddsAtBy given s index old new =

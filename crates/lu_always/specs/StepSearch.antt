@@ -1,4 +1,5 @@
 -- A search of nodes by steps (lu_late).
+use Rattle.std.specs.Global.{Vec}
 use Rattle.std.specs.Prelude.{◌≡◌, ◌⊎◌, ℕ, ◌<◌, List, [], ◌∷◌, Option, Some, None}
 use Rattle.lu_component.specs.Component.{Component}
 use Rattle.lu_test.specs.declared.schedule.Move.{Move}
@@ -10,23 +11,24 @@ use Rattle.lu_graph.specs.First.{GoesFirst}
 use Rattle.lu_horizon.specs.Dead.{DeadTable}
 use Rattle.lu_late.specs.Steps.{IsIdle}
 use Rattle.lu_linearization.specs.declared.configuration.Configuration.{Configuration as Shown}
-use Rattle.lu_linearization.specs.Monitors.{CanBeStuck}
+use Rattle.lu_linearization.specs.Monitors.{AreInitial, CanBeStuck}
 use Rattle.lu_client.specs.Clients.{AllBlocked}
-use Rattle.lu_client.specs.Stages.{IsIn, Stage}
+use Rattle.lu_client.specs.Stages.{IsIn}
 use Rattle.lu_answers.specs.declared.rounds.Rounds.{Rounds}
-use Rattle.lu_answers.specs.Tables.{Goes, IsTableFrom, Rows, table_of}
+use Rattle.lu_answers.specs.Tables.{Goes, Rows, table_of}
 use Rattle.lu_answers.specs.Ways.{way_of}
 use Rattle.lu_always.specs.declared.given.Given.{Given}
 use Rattle.lu_always.specs.declared.judging.Judged.{Judged}
 use Rattle.lu_always.specs.declared.judging.Judged.TheVariants.{BadAfterCall, Bad, Good}
 use Rattle.lu_always.specs.declared.steps.Origin.{Origin}
 use Rattle.lu_always.specs.declared.stored.Arrival.{Arrival}
-use Rattle.lu_always.specs.declared.steps.Linearizability.{Linearizability}
-use Rattle.lu_always.specs.declared.steps.Linearizability.TheVariants.{Always, Fails, Open}
-use Rattle.lu_always.specs.declared.stored.StoredNode.{StoredNode}
-use Rattle.lu_always.specs.Always.{FailsBy}
+use Rattle.lu_always.specs.declared.steps.Visited.{Visited}
+use Rattle.lu_always.specs.declared.steps.Visited.TheVariants.{Exits, Fails}
+use Rattle.lu_always.specs.declared.verdicts.Verdict.{Verdict}
+use Rattle.lu_always.specs.Stored.{StoredNode}
+use Rattle.lu_always.specs.Exits.{AreExits, AreExitsOf, AreReachedBy}
 use Rattle.lu_always.specs.Nodes.{IsGoodNode, Node}
-use Rattle.lu_always.specs.Searching.{AllCanStand, AreArrivals, HasNext, HoldsOf, IsLinearizableBy, IsStoredFor, Leads, MonitorAfter, RoundStep, node_at, node_of}
+use Rattle.lu_always.specs.Searching.{AllCanStand, AreArrivals, HasNext, HoldsOf, IsStoredFor, IsVerdict, Leads, MonitorAfter, RoundStep, node_at, node_of}
 use Rattle.lu_always.specs.Steps.{IsBlockedCall, IsGoodBeforeCalls}
 
 -- ---- judging
@@ -113,27 +115,17 @@ pub record AreStepped (dead : DeadTable) (rounds : Rounds) (rows : Rows) (first 
   pub closed : (i : ℕ) → i < index → HoldsOf s all i (HasSteps dead rounds rows all)
   pub good : (i : ℕ) → i < index → IsJudgedIn rounds rows s all i Good
 
--- What the visit of the node at this index finds: it is good, and the new list has nodes for the states
--- to which steps lead from it; or it is not.
+-- What the visit of the node at this index finds: it is good, the new list has nodes for the states to
+-- which steps lead from it, and these are its exits; or it is not good; or it is not after this call.
 abbrev pub IsStepVisit : DeadTable → Rounds → Rows → State → List StoredNode → ℕ
-    → List StoredNode → Judged → Type 0
-IsStepVisit dead rounds rows s old index new Good =
-    IsJudgedIn rounds rows s old index Good × HoldsOf s old index (HasSteps dead rounds rows new)
-IsStepVisit dead rounds rows s old index new Bad = IsJudgedIn rounds rows s old index Bad
-IsStepVisit dead rounds rows s old index new (BadAfterCall m) =
+    → List StoredNode → Visited → Type 0
+IsStepVisit dead rounds rows s old index new (Exits exits) =
+    IsJudgedIn rounds rows s old index Good
+    × HoldsOf s old index (HasSteps dead rounds rows new)
+    × HoldsOf s old index (λ node. AreExits dead rounds new exits.items node.state)
+IsStepVisit dead rounds rows s old index new (Fails None) = IsJudgedIn rounds rows s old index Bad
+IsStepVisit dead rounds rows s old index new (Fails (Some m)) =
     IsJudgedIn rounds rows s old index (BadAfterCall m)
-
--- ---- what the search finds
-
--- all unrolled matrices are linearizable, or these moves are a schedule of one that fails, if the rows
--- are the table of the serial histories
-abbrev pub IsFound : Component → Rounds → Matrix → Rows → Linearizability → Type 0
-IsFound c rounds matrix rows Always = IsLinearizableBy c rounds matrix rows
-IsFound c rounds matrix rows (Fails moves) =
-    (stages : List Stage) (bound : ℕ) →
-    IsTableFrom c rounds matrix rows stages bound
-    → FailsBy c matrix (way_of rounds) moves.items
-IsFound c rounds matrix rows Open = Unit {0}
 
 -- ---- by what a search is given
 
@@ -179,10 +171,27 @@ abbrev pub AddsMovesBy : Given → State → List Shown → Origin → List Stor
 AddsMovesBy given s monitor origin old new =
     AddsMoves given.dead.now given.rounds given.table.now s monitor origin old new
 
-abbrev pub IsStepVisitBy : Given → State → List StoredNode → ℕ → List StoredNode → Judged
-    → Type 0
-IsStepVisitBy given s old index new judged =
-    IsStepVisit given.dead.now given.rounds given.table.now s old index new judged
+abbrev pub AreReachedByThread : Given → State → ℕ → List StoredNode → Vec ℕ → Type 0
+AreReachedByThread given s t all indexes =
+    AreReachedBy t given.dead.now given.rounds all indexes.items s
 
-abbrev pub IsFoundBy : Given → Component → Matrix → Linearizability → Type 0
-IsFoundBy given c matrix found = IsFound c given.rounds matrix given.table.now found
+abbrev pub AreExitsByThread : Given → State → ℕ → List StoredNode → Vec ℕ → Type 0
+AreExitsByThread given s t all exits =
+    AreExitsOf t given.dead.now given.rounds all exits.items s
+
+abbrev pub AreExitsBy : Given → State → List StoredNode → Vec ℕ → Type 0
+AreExitsBy given s all exits = AreExits given.dead.now given.rounds all exits.items s
+
+abbrev pub IsStepVisitBy : Given → State → List StoredNode → ℕ → List StoredNode → Visited
+    → Type 0
+IsStepVisitBy given s old index new visited =
+    IsStepVisit given.dead.now given.rounds given.table.now s old index new visited
+
+-- the first node is stored, and none is searched yet
+abbrev pub IsBegunBy : Given → State → List StoredNode → Type 0
+IsBegunBy given s all =
+    (first : List Shown) × AreInitial 0 first
+    × AreStepped given.dead.now given.rounds given.table.now first s 0 all
+
+abbrev pub IsVerdictBy : Given → Component → Matrix → Verdict → Type 0
+IsVerdictBy given c matrix verdict = IsVerdict c given.rounds matrix given.table.now verdict

@@ -1,17 +1,13 @@
 -- The moves that lead to stored nodes.
-use Rattle.std.specs.Prelude.{◌≡◌, ℕ, ◌<◌, List, [], ◌∷◌, ◌++◌, length, Option, Some, None, slice_get}
+use Rattle.std.specs.Prelude.{◌≡◌, ℕ, ◌<◌, List, [], ◌∷◌, ◌++◌, length, Option, Some, None}
 use Rattle.std.specs.Global.{Vec}
-use Rattle.std.specs.Option.{option_and_then, option_map_or}
+use Rattle.std.specs.Option.{option_map_or}
 use Rattle.lu_test.specs.declared.schedule.Move.{Move}
 use Rattle.lu_always.specs.declared.stored.Arrival.{Arrival}
-use Rattle.lu_always.specs.declared.stored.StoredNode.{StoredNode}
+use Rattle.lu_always.specs.Stored.{StoredNode}
+pub use Rattle.lu_always.specs.Stored.{arrival_at}
 use Rattle.lu_always.specs.Sinks.{Graph, IsFirstWithoutSink}
 use Rattle.lu_always.specs.Searching.{moves_of}
-
--- the arrival of the node at this index; none for the first node
-abbrev pub arrival_at : List StoredNode → ℕ → Option Arrival
-arrival_at list index =
-    option_and_then (λ (stored : StoredNode). stored.arrival) (slice_get list index)
 
 -- each node was reached from one before it
 abbrev pub HasParentsBefore : List StoredNode → Type 0

@@ -4,6 +4,7 @@ ghost use Rattle.std.specs.Prelude.{All, IfOk, OnOk};
 ghost use Rattle.lu_machine.specs.Layout.{IsStanding, StandsIn};
 ghost use Rattle.lu_graph.specs.Rows.{AreLive};
 ghost use Rattle.lu_always.specs.Clearing.{IsCleared};
+ghost use Rattle.lu_always.specs.Stored.{StandsWhereItCan};
 
 use lu_horizon::DeadRegisters;
 use lu_machine::{Machine, Thread};
@@ -35,7 +36,8 @@ pub(crate) fn clear_dead(
     machine: &mut Machine<'_>,
     dead: &DeadRegisters,
 ) -> Result<(), AllocError>
-    ensures { OnOk result (IsCleared dead.now machine.old machine.new) }
+    ensures cleared { OnOk result (IsCleared dead.now machine.old machine.new) }
+    ensures stands { OnOk result (StandsWhereItCan machine.new) }
 {
     let here = machine.position(alloc)?;
     let threads = live_threads(alloc, machine, dead)?;

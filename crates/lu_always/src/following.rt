@@ -11,7 +11,7 @@ use lu_machine::{Event, Machine};
 use std::alloc::{AllocError, Global};
 
 /// The monitor after the event, which has led the machine to where it is.
-fn after_event(
+pub(crate) fn after_event(
     alloc: Global,
     machine: &Machine<'_>,
     monitor: &Monitor,

@@ -5,6 +5,7 @@ ghost use Rattle.lu_always.specs.Certified.{CertifiedInOneRound, LivelockInOneRo
 ghost use Rattle.lu_always.specs.Livelocks.{LivelocksNever, LostNodeLivelocks, NodesNeverLivelock};
 ghost use Rattle.lu_always.specs.Nodes.{BadNodeFails, NodesServeAll, NodesTellAll, NoneDead};
 ghost use Rattle.lu_always.specs.OneRound.{OneRoundIsAllCuts, OneRoundIsCut};
+ghost use Rattle.lu_always.specs.StepLivelocks.{LostStepNodeLivelocks, StepNodesNeverLivelock};
 ghost use Rattle.lu_always.specs.Steps.{BlockedCallFails, StepNodesServeAll, StepNodesTellAll};
 
 /// What it means that all unrolled matrices are linearizable. The prefixes of the serial histories
@@ -58,4 +59,13 @@ pub fn livelock_laws()
     ensures none { NodesNeverLivelock }
     ensures some { LostNodeLivelocks }
     ensures never { LivelocksNever }
+{}
+
+/// Steps suffice for livelocks too. A list of nodes with all nodes to which steps lead, from each of
+/// which steps of open operations alone may lead to where all of them are blocked, shows that no
+/// unrolled matrix has a livelock. A path to a node from which they may not shows that one of them has
+/// a livelock. The arrays that locks guard are given.
+pub fn step_livelock_laws()
+    ensures none { StepNodesNeverLivelock }
+    ensures some { LostStepNodeLivelocks }
 {}

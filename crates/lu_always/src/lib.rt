@@ -11,20 +11,25 @@ mod given;
 mod judging;
 mod laws;
 mod livelock;
+mod monitors;
 mod nodes;
+mod rows;
 mod searching;
 mod sinks;
 mod standing;
 mod stepping;
 mod steps;
 mod stored;
+mod tables;
 mod verdicts;
 mod ways;
 
 pub use following::after_move;
 pub use judging::is_good;
-pub use laws::{always_laws, livelock_laws, node_laws, one_round_laws, step_laws};
+pub use laws::{
+    always_laws, livelock_laws, node_laws, one_round_laws, step_laws, step_livelock_laws,
+};
 pub use searching::find_verdict;
 pub use stepping::client_step;
-pub use stored::{Arrival, StoredNode};
+pub use stored::Arrival;
 pub use verdicts::Verdict;

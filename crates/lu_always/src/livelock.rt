@@ -3,8 +3,8 @@
 ghost use Rattle.std.specs.Prelude.{◌≡◌, IfOk, length};
 ghost use Rattle.lu_always.specs.Ways.{HasParentsBefore, IsWayToLivelock};
 
+use crate::nodes::Nodes;
 use crate::sinks::first_without_sink;
-use crate::stored::StoredNode;
 use crate::ways::way_to;
 use lu_test::Move;
 use std::alloc::{AllocError, Global};
@@ -14,7 +14,7 @@ use std::alloc::{AllocError, Global};
 /// of the nodes to which moves of its open operations lead.
 pub(crate) fn way_to_livelock(
     alloc: Global,
-    all: &[StoredNode],
+    all: &Nodes,
     exits: &[Vec<usize>],
 ) -> Result<Option<Vec<Move>>, AllocError>
     requires many { length exits.now ≡ length all.now }

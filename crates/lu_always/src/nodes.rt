@@ -1,61 +1,69 @@
 //! The list of nodes, with an index.
 
-ghost use Rattle.std.specs.Prelude.{◌≡◌, [], ◌∷◌, ◌++◌, IfSome, IsTrue, OnOk, length};
-ghost use Rattle.lu_always.specs.Searching.{IsStoredAt};
+ghost use Rattle.std.specs.Prelude.{◌≡◌, ◌<◌, [], IfOk, length};
+ghost use Rattle.lu_always.specs.Rows.{AddsEntry, HasRow, IsRowAt};
+ghost use Rattle.lu_always.specs.Stored.{CanStandAtNode, HasMonitorAt, StandsAt, Stores, arrival_at as its_arrival};
 
-use crate::stored::{StoredNode, is_stored};
+use crate::rows::{Parts, Row};
+use crate::stored::Arrival;
 use indexmap::IndexMap;
 use lu_linearization::Monitor;
-use lu_machine::Position;
+use lu_machine::Machine;
 use std::alloc::{AllocError, Global};
-use std::hash::{FoldHasher, Hash, Hasher};
 use std::marker::Model;
 
-/// The nodes in the order in which they were reached, with the numbers of the nodes of each hash. In
-/// clauses it is the list of nodes.
+/// The nodes in the order in which they were reached, by the numbers of their parts. In clauses it is
+/// the list of nodes.
 #[derive(Drop)]
 pub(crate) struct Nodes {
-    pub(crate) list: Vec<StoredNode>,
-    numbers: IndexMap<u64, Vec<usize>>,
+    parts: Parts,
+    rows: IndexMap<Row, Option<Arrival>>,
 }
 
 impl Model for Nodes {
     ghost use Rattle.std.specs.Prelude.{List};
-    ghost use Rattle.lu_always.specs.declared.stored.StoredNode.{StoredNode};
+    ghost use Rattle.lu_always.specs.Rows.{AreWhole, stored_in};
+    ghost use Rattle.lu_always.specs.Stored.{StoredNode};
 
     ghost Value = { List StoredNode };
 
-    ghost view = { λ nodes. nodes.list.items };
+    ghost view = { λ nodes. stored_in nodes.parts nodes.rows.entries };
+
+    ghost invariant = { λ nodes. AreWhole nodes.parts nodes.rows.entries };
 }
 
-/// A hash of the position and of the states of the monitor's configurations.
-fn hash_of(position: &Position, monitor: &Monitor) -> u64 {
-    let mut hasher = FoldHasher::default();
-    position.hash(&mut hasher);
-    for one in monitor.configurations() {
-        hasher.write_u32(one.state);
+/// The index of the row, which is added with this arrival if it is not there.
+fn store_row(
+    rows: &mut IndexMap<Row, Option<Arrival>>,
+    row: Row,
+    arrival: Option<Arrival>,
+) -> Result<usize, AllocError>
+    ensures only { AddsEntry row arrival rows.old.entries rows.new.entries }
+    ensures there { IfOk result (HasRow rows.new.entries row) }
+{
+    if let Some((index, _, _)) = rows.get_full(&row) {
+        return Ok(index);
     }
-    hasher.finish()
+    let index = rows.len();
+    rows.insert(row, arrival)?;
+    Ok(index)
 }
 
-/// Adds a number to those with this hash.
-fn note(
-    alloc: Global,
-    numbers: &mut IndexMap<u64, Vec<usize>>,
-    hash: u64,
-    number: usize,
-) -> Result<(), AllocError> {
-    match numbers.get_mut(&hash) {
-        Some(same) => {
-            same.push(number)?;
-            Ok(())
-        }
-        None => {
-            let mut same = Vec::new(alloc);
-            same.push(number)?;
-            numbers.insert(hash, same)?;
-            Ok(())
-        }
+/// The row at this index. Where there is none, it is that of no node.
+fn row_at(rows: &IndexMap<Row, Option<Arrival>>, index: usize) -> Row
+    ensures { IsRowAt rows.now.entries index result }
+{
+    match rows.get_index(index) {
+        None => Row::NOTHING,
+        Some((row, _)) => *row,
+    }
+}
+
+/// The row from which the arrival is: a node that is reached from another mostly has the same parts.
+fn likely_row(rows: &IndexMap<Row, Option<Arrival>>, arrival: Option<Arrival>) -> Row {
+    match arrival {
+        None => Row::NOTHING,
+        Some(arrival) => row_at(rows, arrival.parent),
     }
 }
 
@@ -65,8 +73,8 @@ impl Nodes {
         ensures { result ≡ [] }
     {
         Nodes {
-            list: Vec::new(alloc),
-            numbers: IndexMap::new(alloc),
+            parts: Parts::new(alloc),
+            rows: IndexMap::new(alloc),
         }
     }
 
@@ -74,49 +82,54 @@ impl Nodes {
     pub(crate) fn len(&self) -> usize
         ensures { result ≡ length self.now }
     {
-        self.list.len()
+        self.rows.len()
     }
 
-    /// The nodes.
-    pub(crate) fn list(&self) -> &[StoredNode]
-        ensures { result.now ≡ self.now }
+    /// How the node at this index was first reached. None for the first node.
+    pub(crate) fn arrival(&self, index: usize) -> Option<Arrival>
+        ensures { result ≡ its_arrival self.now index }
     {
-        self.list.as_slice()
-    }
-
-    /// The index of a node with this position and this monitor, if one is found.
-    pub(crate) fn find(&self, position: &Position, monitor: &Monitor) -> Option<usize>
-        ensures { IfSome result
-            (λ index. IsStoredAt self.now index position.now monitor.now) }
-    {
-        let Some(same) = self.numbers.get(&hash_of(position, monitor)) else {
-            return None;
-        };
-        for number in same {
-            if is_stored_at(self.list.as_slice(), *number, position, monitor) {
-                return Some(*number);
-            }
+        match self.rows.get_index(index) {
+            None => None,
+            Some((_, arrival)) => *arrival,
         }
-        None
     }
 
-    /// Adds a node at the end.
-    pub(crate) fn push(&mut self, alloc: Global, node: StoredNode) -> Result<(), AllocError>
-        ensures { OnOk result (self.new ≡ self.old ++ node ∷ []) }
+    /// Puts the machine at the position of the node at this index.
+    pub(crate) fn stand_at(&self, machine: &mut Machine<'_>, index: usize)
+        requires there { index < length self.now }
+        requires can { CanStandAtNode self.now index machine.old }
+        ensures { StandsAt self.now index machine.old machine.new }
     {
-        let hash = hash_of(&node.position, &node.monitor);
-        note(alloc, &mut self.numbers, hash, self.list.len())?;
-        self.list.push(node)?;
-        Ok(())
+        let (row, _) = self.rows.get_index(index).unwrap();
+        self.parts.stand_at(machine, row);
     }
-}
 
-/// Whether the node at this index has this position and this monitor.
-fn is_stored_at(all: &[StoredNode], index: usize, position: &Position, monitor: &Monitor) -> bool
-    ensures { IsTrue result → IsStoredAt all.now index position.now monitor.now }
-{
-    match all.get(index) {
-        None => false,
-        Some(stored) => is_stored(stored, position, monitor),
+    /// The monitor of the node at this index.
+    pub(crate) fn monitor(&self, index: usize) -> &Monitor
+        requires { index < length self.now }
+        ensures { HasMonitorAt self.now index result.now }
+    {
+        let (row, _) = self.rows.get_index(index).unwrap();
+        self.parts.monitor(row.monitor)
+    }
+
+    /// Stores the node of this state and this monitor, with this arrival, unless it is stored
+    /// already. Returns its index.
+    pub(crate) fn store(
+        &mut self,
+        alloc: Global,
+        machine: &Machine<'_>,
+        monitor: &Monitor,
+        arrival: Option<Arrival>,
+    ) -> Result<usize, AllocError>
+        ensures { IfOk result (Stores machine.now monitor.now arrival self.old self.new) }
+    {
+        let likely = likely_row(&self.rows, arrival);
+        let number = self
+            .parts
+            .number_of_monitor(alloc, monitor, likely.monitor)?;
+        let row = self.parts.row_at(alloc, machine, number, &likely)?;
+        store_row(&mut self.rows, row, arrival)
     }
 }

@@ -2,35 +2,22 @@
 
 ghost use Rattle.std.specs.Prelude.{◌≡◌, ◌++◌, ◌<◌, IfOk, OnOk, length};
 ghost use Rattle.lu_always.specs.Searching.{moves_of};
-ghost use Rattle.lu_always.specs.Ways.{AreBack, HasParentsBefore, IsWayTo, all_moves, arrival_at as its_arrival};
+ghost use Rattle.lu_always.specs.Ways.{AreBack, HasParentsBefore, IsWayTo, all_moves};
 
-use crate::stored::{Arrival, StoredNode};
+use crate::nodes::Nodes;
+use crate::stored::Arrival;
 use lu_test::Move;
 use std::alloc::{AllocError, Global};
 
-/// How the node at this index was first reached. None for the first node.
-fn arrival_at(all: &[StoredNode], index: usize) -> Option<Arrival>
-    ensures { result ≡ its_arrival all.now index }
-{
-    match all.get(index) {
-        None => None,
-        Some(stored) => stored.arrival,
-    }
-}
-
 /// The arrivals that lead back from the node at this index to the first node.
-fn arrivals_back(
-    alloc: Global,
-    all: &[StoredNode],
-    index: usize,
-) -> Result<Vec<Arrival>, AllocError>
+fn arrivals_back(alloc: Global, all: &Nodes, index: usize) -> Result<Vec<Arrival>, AllocError>
     requires within { index < length all.now }
     requires parents { HasParentsBefore all.now }
     ensures { IfOk result (λ back. AreBack all.now index back.items) }
 {
     let mut back = Vec::new(alloc);
     let mut at = index;
-    while let Some(arrival) = arrival_at(all, at) {
+    while let Some(arrival) = all.arrival(at) {
         back.push(arrival)?;
         at = arrival.parent;
     }
@@ -67,11 +54,7 @@ fn moves_in(alloc: Global, back: &mut Vec<Arrival>) -> Result<Vec<Move>, AllocEr
 }
 
 /// The moves that lead from the first node to the one at this index.
-pub(crate) fn way_to(
-    alloc: Global,
-    all: &[StoredNode],
-    index: usize,
-) -> Result<Vec<Move>, AllocError>
+pub(crate) fn way_to(alloc: Global, all: &Nodes, index: usize) -> Result<Vec<Move>, AllocError>
     requires within { index < length all.now }
     requires parents { HasParentsBefore all.now }
     ensures { IfOk result (λ moves. IsWayTo all.now index moves.items) }

@@ -228,8 +228,7 @@ fn a_spin_lock_that_is_given_back_has_no_livelock(rt: HostRuntime) -> Result<(),
 }
 
 /// A delay that is picked is never read, and after a failed compare-and-swap the registers have old
-/// values. There are 114 nodes and 266 states. If such values told them apart, there would be 1478
-/// and 3026.
+/// values. There are 114 nodes. If such values told them apart, there would be 1478.
 #[test]
 fn states_that_differ_in_dead_registers_only_are_one(rt: HostRuntime) -> Result<(), Fail> {
     let verdict = verdict_on(&rt, b"thread swap\nthread swap\n", 500)?;

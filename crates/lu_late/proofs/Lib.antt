@@ -8,3 +8,5 @@ pub mod Begun
 pub mod Alone
 pub mod Judged
 pub mod Enough
+pub mod Fronts
+pub mod Freed

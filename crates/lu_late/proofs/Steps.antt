@@ -97,13 +97,13 @@ aside_ahead s u end h t owned is leads ended =
 
 module _ (guarded : List Bool) where
   -- what each move preserves
-  abbrev Goes : State → Type 0
+  abbrev pub Goes : State → Type 0
   Goes s = TellsGuarded s.component guarded × IsOwned s
 
   goes_on : (s : State) (m : Move) (next : State) (event : Option Event) → Step s m next event → Goes s → Goes next
   goes_on s m next event step (told, owned) = (told_on guarded s m next event step told, step_owned s m next event step owned)
 
-  tell : (n : ℕ) (s : State) (u : List Move) (end : State) (h : List Event) → length u < n → Goes s → Leads s u end h → IsEnded end → LeadsInSteps s (length u) end h
+  pub tell : (n : ℕ) (s : State) (u : List Move) (end : State) (h : List Event) → length u < n → Goes s → Leads s u end h → IsEnded end → LeadsInSteps s (length u) end h
   tell zero s u end h few goes leads ended = absurd (omega (arith, few))
   tell (suc n) s u end h few goes leads ended = elim (first_or_none s guarded goes.0) as (λ _. LeadsInSteps s (length u) end h) [
     | inl found ↦

@@ -1,6 +1,7 @@
 //! Laws of searches by steps. Their functions do nothing.
 
 ghost use Rattle.lu_late.specs.LastCalls.{BlockedEndByCalls, JudgedBeforeLastCalls, StepsAreEnough};
+ghost use Rattle.lu_late.specs.Rests.{StepsTellRests};
 ghost use Rattle.lu_late.specs.Steps.{StepsTellAll};
 
 /// Last calls need not be made. Calls alone lead to an end exactly where each open operation is
@@ -18,4 +19,11 @@ pub fn last_call_laws()
 pub fn step_laws()
     ensures ends { StepsTellAll }
     ensures enough { StepsAreEnough }
+{}
+
+/// A search by steps finds livelocks. Suppose that from each state that is reached by steps, steps of
+/// open operations lead to where all of these are blocked. Then a schedule leads there from each
+/// state. The arrays that locks guard are given.
+pub fn rest_law()
+    ensures { StepsTellRests }
 {}

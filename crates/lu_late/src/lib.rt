@@ -8,4 +8,4 @@
 
 mod laws;
 
-pub use laws::{last_call_laws, step_laws};
+pub use laws::{last_call_laws, rest_law, step_laws};

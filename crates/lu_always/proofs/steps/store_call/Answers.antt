@@ -1,7 +1,7 @@
 use Rattle.std.proofs.Common.{◌∙◌, ap}
 use Rattle.lu_machine.specs.Positions.{at_position}
 use Rattle.lu_machine.specs.States.{State}
-use Rattle.lu_always.proofs.Keeping.{base_grows, base_stand, home_again, moved_base}
+use Rattle.lu_always.proofs.Keeping.{base_grows, base_stand, home_again, moved_base, stored_position}
 use Rattle.lu_always.proofs.StepsMade.{adds_called, call_made}
 use Rattle.lu_always.proofs.steps.store_call.Goals as goal
 
@@ -10,14 +10,14 @@ stand_at-requires c =
     let a = c.args.machine.now in
     let b = c.client_step.new.machine in
     let same = moved_base c.args.given.rounds a c.args.call b c.in_ok-event.event c.in_ok-event.ensures.step in
-    rw c.in_ok-store_moves.ensures.home (base_stand a b c.args.home.now same c.requires.stands)
+    rw c.in_ok-store_moves.ensures.home (base_stand a b (stored_position c.args.home.now) same c.requires.stands)
 
 pub returns-clause-home : goal.returns-clause-home
 returns-clause-home c =
     let a = c.args.machine.now in
     let b = c.client_step.new.machine in
     let same = moved_base c.args.given.rounds a c.args.call b c.in_ok-event.event c.in_ok-event.ensures.step in
-    home_again a b c.stand_at.new.self c.args.home.now same c.requires.here (c.stand_at.ensures ∙ ap (λ (x : State). at_position x c.args.home.now) c.in_ok-store_moves.ensures.home)
+    home_again a b c.stand_at.new.self (stored_position c.args.home.now) same c.requires.here (c.stand_at.ensures ∙ ap (λ (x : State). at_position x c.args.home.now) c.in_ok-store_moves.ensures.home)
 
 pub returns-clause-grows : goal.returns-clause-grows
 returns-clause-grows c =

@@ -8,5 +8,5 @@ pub returns : goal.returns
 returns c =
     let list = c.args.all.now in
     let found : List Arrival = c.loop-arrival.back.items in
-    let back : AreBack list c.args.index (found ++ []) = c.loop-arrival.invariant.onward [] (c.loop-arrival.invariant.within, sym c.arrival_at.ensures ∙ c.in_default.is) in
+    let back : AreBack list c.args.index (found ++ []) = c.loop-arrival.invariant.onward [] (c.loop-arrival.invariant.within, sym c.arrival.ensures ∙ c.in_default.is) in
     subst (AreBack list c.args.index) (append-nil found) back

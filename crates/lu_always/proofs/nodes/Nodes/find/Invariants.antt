@@ -1,4 +1,0 @@
-use Rattle.lu_always.proofs.nodes.Nodes.find.Given as goal
-
-abbrev pub invariant-loop-number : goal.invariant-loop-number
-invariant-loop-number l = Unit {0}
