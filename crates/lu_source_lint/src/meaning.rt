@@ -47,7 +47,7 @@ fn is_whole_block(words: &[&[u8]]) -> bool
     !word_is(words, 0, b"}") && words.last().is_some_and(|word| *word == b"}".as_slice())
 }
 
-/// Whether a line is a `{` that stands alone, and so belongs to the line above.
+/// Whether a line is only a `{`, which belongs at the end of the line above.
 fn is_brace_alone(words: &[&[u8]]) -> bool
     ensures { result ≡ spec.is_brace_alone (texts words.now) }
 {
