@@ -1,5 +1,5 @@
 -- One fault after the other, and lines that are changed.
-use Rattle.std.proofs.Common.{true, false, if◌then◌else◌, ◌≡◌, ◌≢◌, ℕ, add-one, ◌+◌, ◌-◌, List, [], ◌∷◌, ◌++◌, set, Option, Some, None, Result, Ok, Err, refl, sym, ap, ◌∙◌, arith, append_assoc}
+use Rattle.std.proofs.Common.{true, false, if◌then◌else◌, ◌≡◌, ◌≢◌, ℕ, suc, add-one, ◌+◌, ◌-◌, List, [], ◌∷◌, ◌++◌, set, Option, Some, None, Result, Ok, Err, refl, sym, ap, ◌∙◌, arith, append_assoc}
 use Rattle.std.specs.Prelude.{Vec, slice_set}
 use Rattle.std.proofs.lemmas.List.{append-nil, map-set}
 use Rattle.lu_text.specs.Words.{Word}
@@ -8,10 +8,10 @@ use Rattle.lu_text.specs.declared.fault.Fault.{Fault}
 use Rattle.lu_text.specs.declared.fault.Fault.TheVariants.{At, Memory}
 use Rattle.lu_source.specs.Trees.{Program}
 use Rattle.lu_source_text.specs.declared.fault.SourceFaultKind.{SourceFaultKind as Kind}
-use Rattle.lu_source_text.specs.Grammar.{source_grammar, where_some}
+use Rattle.lu_source_text.specs.Grammar.{source_grammar, source_words, where_some}
 use Rattle.lu_source_lint.specs.declared.faults.LineFault.{LineFault}
 use Rattle.lu_source_lint.specs.declared.message.SourceMessage.{SourceMessage}
-use Rattle.lu_source_lint.specs.Faults.{AgreeOn, bytes_of, fault_of, is_last, mended, message, faults_of_lines, first_fault, line_at, meant_line, meant_outside, or_line, spelled, with_line}
+use Rattle.lu_source_lint.specs.Faults.{AgreeOn, bytes_of, fault_of, has_no_words, is_last, leaves, leaving_line, mended, mended_line, message, faults_of_lines, first_fault, line_at, meant_line, meant_outside, or_line, spelled, with_line}
 
 -- this fault, and at most so many after it
 abbrev faults_from : ℕ → List (List ℕ) → LineFault → List SourceMessage
@@ -74,11 +74,22 @@ spelled_more text mid now word rest total one blank so =
 pub mended_is : (lines first second last : List (List ℕ)) (fault : LineFault) (text outside : List ℕ)
     → text ≡ meant_line fault.kind (line_at lines fault.line) → outside ≡ meant_outside (line_at lines fault.line)
     → first ≡ with_line lines fault.line text → second ≡ or_line first fault.line outside → last ≡ or_line second fault.line []
-    → last ≡ mended lines fault
+    → last ≡ mended_line lines fault
 mended_is lines first second last fault text outside is_text is_outside is_first is_second is_last =
     is_last ∙ ap (λ l. or_line l fault.line [])
     (is_second ∙ ap (or_line first fault.line) is_outside
     ∙ ap (λ l. or_line l fault.line (meant_outside (line_at lines fault.line))) (is_first ∙ ap (with_line lines fault.line) is_text))
+
+-- The line above is looked at where line n has no words.
+pub line_without_words : (lines : List (List ℕ)) (n : ℕ) (words : List Word) → n ≢ 0 → words ≡ source_words (line_at lines n) → has_no_words words ≡ true
+    → leaving_line lines n ≡ leaving_line lines (n - 1)
+line_without_words lines n words some is none =
+    let e : n ≡ (n - 1) + 1 = omega arith in
+    let s : n ≡ suc (n - 1) = e ∙ add-one (n - 1) in
+    let same : source_words (line_at lines (suc (n - 1))) ≡ words = ap (λ k. source_words (line_at lines k)) (sym s) ∙ sym is in
+    ap (leaving_line lines) s
+    ∙ ap (λ w. if has_no_words w then leaving_line lines (n - 1) else (if leaves w then suc (n - 1) else 0)) same
+    ∙ ap (λ b. if b then leaving_line lines (n - 1) else (if leaves words then suc (n - 1) else 0)) none
 
 -- one line changed
 pub line_set : {Z : Type 0} (lines : List (Vec ℕ Z)) (n place : ℕ) (text : Vec ℕ Z) → place ≡ n - 1 → bytes_of (slice_set lines place text) ≡ set (bytes_of lines) (n - 1) text.items

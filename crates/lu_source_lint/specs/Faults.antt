@@ -11,7 +11,7 @@ use Rattle.lu_text.specs.Names.{has_name_form}
 use Rattle.lu_text.specs.Words.{Word}
 use Rattle.lu_source.specs.Trees.{Program}
 use Rattle.lu_source_text.specs.declared.fault.SourceFaultKind.{SourceFaultKind as Kind}
-use Rattle.lu_source_text.specs.declared.fault.SourceFaultKind.TheVariants.{Form, Limit, Missing}
+use Rattle.lu_source_text.specs.declared.fault.SourceFaultKind.TheVariants.{Flow, Form, Limit, Missing}
 use Rattle.lu_source_text.specs.Grammar.{is_word, source_grammar, source_words, where_some}
 use Rattle.lu_source_lint.specs.declared.faults.LineFault.{LineFault}
 use Rattle.lu_source_lint.specs.declared.message.SourceMessage.{SourceMessage}
@@ -132,11 +132,45 @@ meant_outside line =
 
 -- the lines with the faulty one as it may have been meant, in an operation or else outside of them;
 -- or with an empty one in its place, where that is faulty too
-abbrev pub mended : List (List ℕ) → LineFault → List (List ℕ)
-mended lines fault =
+abbrev pub mended_line : List (List ℕ) → LineFault → List (List ℕ)
+mended_line lines fault =
     let line = line_at lines fault.line in
     let first = with_line lines fault.line (meant_line fault.kind line) in
     or_line (or_line first fault.line (meant_outside line)) fault.line []
+
+-- whether a line leaves its block, and ends no loop
+abbrev pub leaves : List Word → Bool
+leaves words = word_is words 0 (codes "return") || word_is words 0 (codes "continue")
+
+abbrev pub has_no_words : List Word → Bool
+has_no_words words = length words == 0
+
+-- the last of the first lines, this many, that has words, where it leaves its block; else 0
+abbrev pub leaving_line : List (List ℕ) → ℕ → ℕ
+leaving_line lines zero = 0
+leaving_line lines (suc n) =
+    let words = source_words (line_at lines (suc n)) in
+    if has_no_words words then leaving_line lines n else (if leaves words then suc n else 0)
+
+abbrev pub is_flow : Kind → Bool
+is_flow Flow = true
+is_flow _ = false
+
+-- the line that leaves the block before the faulty one, where that is why it is at fault; else 0
+abbrev pub left_at : List (List ℕ) → LineFault → ℕ
+left_at lines fault = if is_flow fault.kind then leaving_line lines (fault.line - 1) else 0
+
+-- the lines without the one that leaves the block before line n, and without that where it still is
+-- at fault
+abbrev pub reached : List (List ℕ) → ℕ → ℕ → List (List ℕ)
+reached lines leaving n = or_line (with_line lines leaving []) n []
+
+-- The lines as they may have been meant: without the one that leaves the block before the faulty
+-- one, if there is such a line, and else with another line in place of the faulty one.
+abbrev pub mended : List (List ℕ) → LineFault → List (List ℕ)
+mended lines fault =
+    if left_at lines fault == 0 then mended_line lines fault
+    else reached lines (left_at lines fault) fault.line
 
 -- whether a line declares something, and is not the one that names the object
 abbrev pub is_declaration : List Word → Bool
@@ -171,13 +205,19 @@ is_inner_operation lines n words =
     word_is words 0 (codes "op")
     && is_formless (with_line lines n (codes "op unnamed() {")) n
 
--- whether nothing after the fault is reported: it is at the end of the text, or such a one, or
--- that of an operation in another one
+-- whether a fault is that of a block that cannot be reached, whatever is meant
+abbrev pub is_unreachable_block : List (List ℕ) → LineFault → List Word → Bool
+is_unreachable_block lines fault words =
+    is_flow fault.kind && (opens words && left_at lines fault == 0)
+
+-- whether nothing after the fault is reported: it is at the end of the text, or such a one, or that
+-- of a block that cannot be reached, or that of an operation in another one
 abbrev pub is_last : List (List ℕ) → LineFault → Bool
 is_last lines fault =
     let words = source_words (line_at lines fault.line) in
     nat_lt (length lines) fault.line
-    || (ends_all fault.kind words || is_inner_operation lines fault.line words)
+    || (ends_all fault.kind words
+    || (is_unreachable_block lines fault words || is_inner_operation lines fault.line words))
 
 abbrev pub message : LineFault → SourceMessage
 message fault = record { line = fault.line; what = AFault fault.kind }

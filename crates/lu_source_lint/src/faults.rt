@@ -8,7 +8,7 @@ ghost use Rattle.lu_source_text.specs.Grammar.{source_grammar};
 ghost use Rattle.lu_source_lint.specs.Faults as spec;
 ghost use Rattle.lu_source_lint.specs.Faults.{AgreeOn, bytes_of, faults_in, faults_of_lines};
 
-use crate::meaning::{meant_line, meant_outside, word_is};
+use crate::meaning::{meant_line, meant_outside, opens, word_is};
 use crate::message::{SourceMessage, What};
 use lu_source_text::{SourceFaultKind, read_source_lines, source_words};
 use lu_text::{Fault, lines_of};
@@ -91,9 +91,46 @@ fn set_if_faulty(
     }
 }
 
+/// Whether the line with these words leaves its block, and ends no loop.
+fn leaves(words: &[&[u8]]) -> bool
+    ensures { result ≡ spec.leaves (texts words.now) }
+{
+    word_is(words, 0, b"return") || word_is(words, 0, b"continue")
+}
+
+fn has_no_words(words: &[&[u8]]) -> bool
+    ensures { result ≡ spec.has_no_words (texts words.now) }
+{
+    words.is_empty()
+}
+
+/// The last of the first `count` lines that has words, where it leaves its block; else 0.
+fn leaving_line(alloc: Global, lines: &[Vec<u8>], count: usize) -> Result<usize, AllocError>
+    ensures { IfOk result (λ line. line ≡ spec.leaving_line (bytes_of lines.now) count) }
+{
+    if count == 0 {
+        return Ok(0);
+    }
+    let words = source_words(alloc, line_at(lines, count))?;
+    if has_no_words(&words) {
+        return leaving_line(alloc, lines, count - 1);
+    }
+    Ok(if leaves(&words) { count } else { 0 })
+}
+
+/// The line that leaves the block before the faulty one, where that is why it is at fault; else 0.
+fn left_at(alloc: Global, lines: &[Vec<u8>], fault: LineFault) -> Result<usize, AllocError>
+    ensures { IfOk result (λ line. line ≡ spec.left_at (bytes_of lines.now) fault) }
+{
+    match fault.kind {
+        SourceFaultKind::Flow => leaving_line(alloc, lines, fault.line.saturating_sub(1)),
+        _ => Ok(0),
+    }
+}
+
 /// Makes the faulty line what it may have meant, or an empty one.
-fn mend(alloc: Global, lines: &mut [Vec<u8>], fault: LineFault) -> Result<(), AllocError>
-    ensures { OnOk result (bytes_of lines.new ≡ spec.mended (bytes_of lines.old) fault) }
+fn mend_line(alloc: Global, lines: &mut [Vec<u8>], fault: LineFault) -> Result<(), AllocError>
+    ensures { OnOk result (bytes_of lines.new ≡ spec.mended_line (bytes_of lines.old) fault) }
 {
     let line = line_at(lines, fault.line);
     let outside = meant_outside(alloc, line)?;
@@ -101,6 +138,33 @@ fn mend(alloc: Global, lines: &mut [Vec<u8>], fault: LineFault) -> Result<(), Al
     set_line(lines, fault.line, text);
     set_if_faulty(alloc, lines, fault.line, &outside)?;
     set_if_faulty(alloc, lines, fault.line, &[])
+}
+
+/// Empties the line that leaves the block before the faulty one, and the faulty one where it still
+/// is.
+fn reach(
+    alloc: Global,
+    lines: &mut [Vec<u8>],
+    leaving: usize,
+    line: usize,
+) -> Result<(), AllocError>
+    ensures { OnOk result (bytes_of lines.new ≡ spec.reached (bytes_of lines.old) leaving line) }
+{
+    set_line(lines, leaving, Vec::new(alloc));
+    set_if_faulty(alloc, lines, line, &[])
+}
+
+/// Makes the lines what they may have meant: the faulty one, or the one that leaves the block
+/// before it.
+fn mend(alloc: Global, lines: &mut [Vec<u8>], fault: LineFault) -> Result<(), AllocError>
+    ensures { OnOk result (bytes_of lines.new ≡ spec.mended (bytes_of lines.old) fault) }
+{
+    let leaving = left_at(alloc, lines, fault)?;
+    if leaving == 0 {
+        mend_line(alloc, lines, fault)
+    } else {
+        reach(alloc, lines, leaving, fault.line)
+    }
 }
 
 /// Whether a line declares something, and is not the one that names the object.
@@ -164,6 +228,23 @@ fn is_inner_operation(
     refuses_operation(alloc, &mut copies, line)
 }
 
+/// Whether the fault is that of a block, with these words, that can't be reached, whatever is meant.
+fn is_unreachable_block(
+    alloc: Global,
+    lines: &[Vec<u8>],
+    fault: LineFault,
+    words: &[&[u8]],
+) -> Result<bool, AllocError>
+    ensures { IfOk result (λ is. is
+        ≡ spec.is_unreachable_block (bytes_of lines.now) fault (texts words.now)) }
+{
+    if !matches!(fault.kind, SourceFaultKind::Flow) || !opens(words) {
+        return Ok(false);
+    }
+    let leaving = left_at(alloc, lines, fault)?;
+    Ok(leaving == 0)
+}
+
 /// Whether nothing after the fault is reported: it is at the end of the text, or nothing after its
 /// line can be read on, or it is that of an operation in another one.
 fn is_last(alloc: Global, lines: &[Vec<u8>], fault: LineFault) -> Result<bool, AllocError>
@@ -173,7 +254,7 @@ fn is_last(alloc: Global, lines: &[Vec<u8>], fault: LineFault) -> Result<bool, A
         return Ok(true);
     }
     let words = source_words(alloc, line_at(lines, fault.line))?;
-    if ends_all(fault.kind, &words) {
+    if ends_all(fault.kind, &words) || is_unreachable_block(alloc, lines, fault, &words)? {
         return Ok(true);
     }
     is_inner_operation(alloc, lines, fault.line, &words)

@@ -3,7 +3,7 @@
 use crate::meaning::word_is;
 
 /// Words of other languages.
-const FOREIGN: [(&str, &str); 38] = [
+const FOREIGN: [(&str, &str); 39] = [
     (
         ";",
         "unexpected `;`; help: remove it, since a statement ends with its line",
@@ -13,34 +13,26 @@ const FOREIGN: [(&str, &str); 38] = [
         "unexpected `:`; help: leave types out, since every value is a number from 0 to 4294967295",
     ),
     (
-        "%",
-        "`%` is not an operator of sources; help: subtract in a loop",
+        "?",
+        "unexpected `?`; help: there is no conditional operator, so write `if EXPR {`",
     ),
-    (
-        "/",
-        "`/` is not an operator of sources; help: subtract in a loop",
-    ),
+    ("%", "there is no `%` operator; help: subtract in a loop"),
+    ("/", "there is no `/` operator; help: subtract in a loop"),
     (
         "&",
-        "`&` is not an operator of sources; help: write `&&` for a logical and",
+        "there is no `&` operator; help: write `&&` for a logical and",
     ),
     (
         "|",
-        "`|` is not an operator of sources; help: write `||` for a logical or",
+        "there is no `|` operator; help: write `||` for a logical or",
     ),
     (
         "^",
-        "`^` is not an operator of sources; help: write `!=` to compare two values",
+        "there is no `^` operator; help: write `!=` to compare two values",
     ),
-    (
-        "and",
-        "`and` is not an operator of sources; help: write `&&`",
-    ),
-    ("or", "`or` is not an operator of sources; help: write `||`"),
-    (
-        "not",
-        "`not` is not an operator of sources; help: write `!`",
-    ),
+    ("and", "there is no `and` operator; help: write `&&`"),
+    ("or", "there is no `or` operator; help: write `||`"),
+    ("not", "there is no `not` operator; help: write `!`"),
     (
         "mut",
         "unexpected `mut`; help: a local may always be assigned, so write `let NAME = EXPR`",
@@ -160,39 +152,43 @@ const FOREIGN_PAIRS: [(&str, &str, &str); 11] = [
     (
         "<",
         "<",
-        "`<<` is not an operator of sources; help: multiply by a power of two",
+        "there is no `<<` operator; help: multiply by a power of two",
     ),
     (
         ">",
         ">",
-        "`>>` is not an operator of sources; help: subtract in a loop",
+        "there is no `>>` operator; help: subtract in a loop",
     ),
     (
         "+",
         "+",
-        "`++` is not an operator of sources; help: write `NAME = NAME + 1`",
+        "there is no `++` operator; help: write `NAME = NAME + 1`",
     ),
     (
         "-",
         "-",
-        "`--` is not an operator of sources; help: write `NAME = NAME - 1`",
+        "there is no `--` operator; help: write `NAME = NAME - 1`",
     ),
     (
         "+",
         "=",
-        "`+=` is not an operator of sources; help: write `NAME = NAME + EXPR`",
+        "there is no `+=` operator; help: write `NAME = NAME + EXPR`",
     ),
     (
         "-",
         "=",
-        "`-=` is not an operator of sources; help: write `NAME = NAME - EXPR`",
+        "there is no `-=` operator; help: write `NAME = NAME - EXPR`",
     ),
     (
         "*",
         "=",
-        "`*=` is not an operator of sources; help: write `NAME = NAME * EXPR`",
+        "there is no `*=` operator; help: write `NAME = NAME * EXPR`",
     ),
 ];
+
+/// What to write in place of a field or a method.
+const NO_FIELDS: &str =
+    "unexpected `.`; help: there are no fields or methods, so write the name alone";
 
 /// What to write in place of this word, where it is one of another language.
 pub(crate) fn foreign_word(word: &[u8]) -> Option<&'static str> {
@@ -219,10 +215,14 @@ pub(crate) fn foreign_words(words: &[&[u8]]) -> Option<&'static str> {
             return Some(help);
         }
     }
+    foreign_field(words)
+}
+
+/// What to write in place of a field or a method, where the words have one.
+pub(crate) fn foreign_field(words: &[&[u8]]) -> Option<&'static str> {
     if words.contains(&b".".as_slice()) {
-        return Some(
-            "unexpected `.`; help: there are no fields or methods, so write the name alone",
-        );
+        Some(NO_FIELDS)
+    } else {
+        None
     }
-    None
 }

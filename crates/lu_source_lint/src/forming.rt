@@ -10,38 +10,58 @@ use lu_source_text::is_free_name;
 use lu_text::value_in;
 use std::alloc::{AllocError, Global};
 
-/// A word that begins a line, and how such a line looks.
-const FORMS: [(&str, &str); 18] = [
-    ("let", "`let NAME = EXPR` in an operation"),
-    ("const", "`const NAME = N` outside of operations"),
+/// Where a line is allowed.
+#[derive(Clone, Copy, PartialEq, Eq)]
+enum Place {
+    Operation,
+    Outside,
+    Anywhere,
+}
+
+/// The word that begins a line, where such a line is allowed, and how it looks.
+const FORMS: [(&str, Place, &str); 18] = [
+    ("let", Place::Operation, "`let NAME = EXPR`"),
+    (
+        "const",
+        Place::Outside,
+        "`const NAME = N`, with a number or a constant N",
+    ),
     (
         "word",
-        "`word NAME`, `word NAME = N`, `word NAME[LEN]` or `word NAME[LEN] = N` outside of operations",
+        Place::Outside,
+        "`word NAME`, `word NAME = N`, `word NAME[LEN]` or `word NAME[LEN] = N`",
     ),
-    ("lock", "`lock NAME`"),
-    ("unlock", "`unlock NAME` in an operation"),
-    ("local", "`local N`, once, before the first operation"),
-    ("object", "`object NAME`, once, as the first line"),
-    ("op", "`op NAME(A, B) {` outside of operations"),
-    ("if", "`if EXPR {` in an operation"),
-    ("while", "`while EXPR {` in an operation"),
-    ("loop", "`loop {` in an operation"),
+    ("lock", Place::Anywhere, "`lock NAME`"),
+    ("unlock", Place::Operation, "`unlock NAME`"),
+    (
+        "local",
+        Place::Outside,
+        "`local N`, with a number or a constant N",
+    ),
+    ("object", Place::Outside, "`object NAME`"),
+    ("op", Place::Outside, "`op NAME(A, B) {`"),
+    ("if", Place::Operation, "`if EXPR {`"),
+    ("while", Place::Operation, "`while EXPR {`"),
+    ("loop", Place::Operation, "`loop {`"),
     (
         "}",
+        Place::Anywhere,
         "`}` alone at the end of a block, or `} else {` or `} else if EXPR {` after an `if`",
     ),
-    ("return", "`return` or `return EXPR` in an operation"),
+    ("return", Place::Operation, "`return` or `return EXPR`"),
     (
         "await",
-        "`await CELL == EXPR` or `await CELL != EXPR` in an operation",
+        Place::Operation,
+        "`await CELL == EXPR` or `await CELL != EXPR`",
     ),
-    ("cas", "`cas(CELL, OLD, NEW)` in an operation"),
+    ("cas", Place::Operation, "`cas(CELL, OLD, NEW)`"),
     (
         "pick",
-        "`pick(K)` in an expression, as in `let k = pick(K)`",
+        Place::Operation,
+        "`pick(K)` in an expression, such as `let k = pick(K)`",
     ),
-    ("break", "`break` alone on its line, in a loop"),
-    ("continue", "`continue` alone on its line, in a loop"),
+    ("break", Place::Operation, "`break` alone on its line"),
+    ("continue", Place::Operation, "`continue` alone on its line"),
 ];
 
 /// Where the block of a line opens.
@@ -82,20 +102,38 @@ fn lacks_brace(scope: &Scope<'_>, words: &[&[u8]]) -> bool {
             || (word_is(words, 0, b"loop") && words.len() == 1))
 }
 
-/// What follows the `{` of a line, which should be its end.
-fn after_brace(alloc: Global, words: &[&[u8]]) -> Result<Option<String>, AllocError> {
-    let Some(brace) = brace_in(words) else {
+/// What a line lacks that should end with `{`: that alone, or also a line for what follows it.
+fn brace_words(words: &[&[u8]]) -> &'static str {
+    let is_followed = if tests(words) {
+        after_operand(words).is_some()
+    } else {
+        word_is(words, 1, b"else") && words.len() > 2
+    };
+    if is_followed {
+        "expected `{` at the end of the line; help: write what follows it on lines of its own"
+    } else {
+        "expected `{` at the end of the line; help: add a `{`"
+    }
+}
+
+/// A word in the place of what is expected, where there is one, and what to do.
+fn found_words(
+    alloc: Global,
+    expected: &str,
+    found: Option<&[u8]>,
+    help: &str,
+) -> Result<Option<String>, AllocError> {
+    let Some(word) = found else {
         return Ok(None);
     };
-    match words.get(brace.saturating_add(1)) {
-        Some(next) => {
-            let next = shown(next);
-            Ok(Some(format!(in alloc;
-                "expected the end of the line after `{{`, found `{next}`; help: write each statement, and the `}}`, on a line of its own"
-            )?))
-        }
-        None => Ok(None),
-    }
+    let word = shown(word);
+    Ok(Some(format!(in alloc; "expected {expected}, found `{word}`{help}")?))
+}
+
+/// What follows the `{` of a line, which should be its end.
+fn after_brace<'a>(words: &[&'a [u8]]) -> Option<&'a [u8]> {
+    let brace = brace_in(words)?;
+    words.get(brace.saturating_add(1)).copied()
 }
 
 /// A line that begins with `op` in an operation, or `else` without `}`, or whose `{` is missing, on a
@@ -115,18 +153,26 @@ fn block_words(
     let said = if word_is(words, 0, b"else") {
         "expected `}` before `else`; help: write `} else {` on one line"
     } else if tests(words) && assigns_in_condition(words) {
-        "expected a condition, found `=`; help: `==` compares"
+        "expected a condition, found `=`; help: write `==` to compare"
     } else if words.len() == 1 && word_is(words, 0, b"{") {
         "unexpected `{` alone on a line; help: write it at the end of the line above"
     } else if words.len() == 1 && word_is(words, 0, b"}") {
         "unexpected `}`, since no block is open; help: remove it, or add the line that opens its block"
     } else if lacks_brace(scope, words) {
-        "expected `{` at the end of the line; help: write what follows it on lines of its own"
+        brace_words(words)
     } else {
-        return after_brace(alloc, words);
+        return found_words(
+            alloc,
+            "the end of the line after `{`",
+            after_brace(words),
+            "; help: write each statement, and the `}`, on a line of its own",
+        );
     };
     Ok(Some(String::from_str(alloc, said)?))
 }
+
+/// What a name is, as help.
+const NAME_HELP: &str = "; help: a name is a letter or `_`, followed by letters, digits or `_`";
 
 /// A word in the place of the name that a line declares.
 fn no_name_words(alloc: Global, words: &[&[u8]]) -> Result<Option<String>, AllocError> {
@@ -136,15 +182,25 @@ fn no_name_words(alloc: Global, words: &[&[u8]]) -> Result<Option<String>, Alloc
     if !declares(words) || is_free_name(name) {
         return Ok(None);
     }
-    let said = shown(name);
-    if is_keyword(name) {
-        return Ok(Some(format!(in alloc;
-            "expected a name, found keyword `{said}`; help: choose another name"
-        )?));
+    if !is_keyword(name) {
+        return found_words(alloc, "a name", Some(*name), NAME_HELP);
     }
+    let said = shown(name);
     Ok(Some(format!(in alloc;
-        "expected a name, found `{said}`; help: a name is a letter or `_`, followed by letters, digits or `_`"
+        "expected a name, found keyword `{said}`; help: choose another name"
     )?))
+}
+
+/// A word after the name of the object or of a lock, with which the line should end.
+fn after_name<'a>(words: &[&'a [u8]]) -> Option<&'a [u8]> {
+    let ends_with_name = word_is(words, 0, b"object")
+        || word_is(words, 0, b"lock")
+        || word_is(words, 0, b"unlock");
+    if ends_with_name && is_free_name(words.get(1)?) {
+        words.get(2).copied()
+    } else {
+        None
+    }
 }
 
 /// What is wrong with the expression of a line.
@@ -160,15 +216,18 @@ fn expression_words(alloc: Global, words: &[&[u8]]) -> Result<Option<String>, Al
         let word = shown(word);
         return Ok(Some(format!(in alloc; "expected an expression after `{word}`")?));
     }
-    match after_operand(words) {
-        Some(word) => {
-            let word = shown(word);
-            Ok(Some(format!(in alloc;
-                "expected an operator or the end of the line, found `{word}`"
-            )?))
-        }
-        None => Ok(None),
-    }
+    found_words(
+        alloc,
+        "an operator or the end of the line",
+        after_operand(words),
+        "",
+    )
+}
+
+/// A word that may be a slip for a keyword.
+fn slip_words(alloc: Global, word: &[u8], keyword: &str) -> Result<String, AllocError> {
+    let word = shown(word);
+    format!(in alloc; "unexpected `{word}`; help: a similar keyword exists: `{keyword}`")
 }
 
 /// What is expected in place of a line with this first word, which begins no form.
@@ -178,12 +237,10 @@ fn no_form_words(
     words: &[&[u8]],
     first: &[u8],
 ) -> Result<String, AllocError> {
-    let said = shown(first);
     if let Some(keyword) = near_keyword(first) {
-        return format!(in alloc;
-            "unexpected `{said}`; help: a similar keyword exists: `{keyword}`"
-        );
+        return slip_words(alloc, first, keyword);
     }
+    let said = shown(first);
     if !scope.is_in_operation() {
         return format!(in alloc;
             "expected `word`, `lock`, `const`, `local` or `op`, found `{said}`; help: statements belong in an operation"
@@ -208,13 +265,126 @@ fn call_words(words: &[&[u8]]) -> Option<&'static str> {
     }
 }
 
+/// The row of the word that begins a line.
+fn form_in(words: &[&[u8]]) -> Option<&'static (&'static str, Place, &'static str)> {
+    FORMS
+        .iter()
+        .find(|(word, _, _)| word_is(words, 0, word.as_bytes()))
+}
+
 /// How a line that begins with this word looks.
 fn form_of(words: &[&[u8]]) -> Option<&'static str> {
-    let form = FORMS
-        .iter()
-        .find(|(word, _)| word_is(words, 0, word.as_bytes()))
-        .map(|(_, looks)| *looks);
+    let form = form_in(words).map(|(_, _, looks)| *looks);
     call_words(words).or(form)
+}
+
+/// A line that is not allowed where it is.
+fn place_words(
+    alloc: Global,
+    scope: &Scope<'_>,
+    words: &[&[u8]],
+) -> Result<Option<String>, AllocError> {
+    match form_in(words) {
+        Some((word, Place::Operation, _)) if !scope.is_in_operation() => Ok(Some(format!(in alloc;
+            "`{word}` is only allowed in an operation"
+        )?)),
+        Some((word, Place::Outside, _)) if scope.is_in_operation() => Ok(Some(format!(in alloc;
+            "`{word}` is only allowed outside of operations"
+        )?)),
+        _ => Ok(None),
+    }
+}
+
+/// A line of two words that would be right above: a second `object`, or a `local` that is not the
+/// first or comes after an operation.
+fn late_words(scope: &Scope<'_>, words: &[&[u8]]) -> Option<&'static str> {
+    if word_is(words, 0, b"object") && scope.has_object() {
+        Some("`object` is declared twice; a source has one object")
+    } else if !word_is(words, 0, b"local") || words.len() != 2 {
+        None
+    } else if scope.has_local() {
+        Some("`local` is declared twice")
+    } else {
+        Some("`local` must come before the first `op`")
+    }
+}
+
+/// A word after `}` that may be a slip for `else`.
+fn slip_for_else<'a>(words: &[&'a [u8]]) -> Option<&'a [u8]> {
+    let word = *words.get(1)?;
+    if word_is(words, 0, b"}") && near_keyword(word) == Some("else") {
+        Some(word)
+    } else {
+        None
+    }
+}
+
+/// Whether two names are side by side after the name of the operation that a line begins.
+fn lacks_comma(words: &[&[u8]]) -> bool {
+    let (_, arguments) = words.split_at(words.len().min(2));
+    arguments
+        .windows(2)
+        .any(|pair| { pair.iter().all(|word| is_free_name(word)) })
+}
+
+/// A line that begins an operation of a right name.
+fn operation_words(words: &[&[u8]]) -> Option<&'static str> {
+    let is_named = words.get(1).is_some_and(|name| is_free_name(name));
+    if !word_is(words, 0, b"op") || !is_named {
+        None
+    } else if lacks_comma(words) {
+        Some("expected `op NAME(A, B) {`; help: separate arguments by `,`")
+    } else {
+        unbalanced(words).or(Some("expected `op NAME(A, B) {`"))
+    }
+}
+
+/// A line that opens or closes its block wrongly, or is not allowed where it is.
+fn line_words(
+    alloc: Global,
+    scope: &Scope<'_>,
+    words: &[&[u8]],
+) -> Result<Option<String>, AllocError> {
+    match block_words(alloc, scope, words)? {
+        Some(said) => Ok(Some(said)),
+        None => place_words(alloc, scope, words),
+    }
+}
+
+/// A line whose keyword is right where it is, but is misspelt further on, or has no name.
+fn keyword_words(
+    alloc: Global,
+    scope: &Scope<'_>,
+    words: &[&[u8]],
+) -> Result<Option<String>, AllocError> {
+    if let Some(said) = late_words(scope, words).or(operation_words(words)) {
+        return Ok(Some(String::from_str(alloc, said)?));
+    }
+    if let Some(word) = slip_for_else(words) {
+        return Ok(Some(slip_words(alloc, word, "else")?));
+    }
+    match after_name(words) {
+        Some(word) => found_words(
+            alloc,
+            "the end of the line after the name",
+            Some(word),
+            NAME_HELP,
+        ),
+        None => no_name_words(alloc, words),
+    }
+}
+
+/// What is wrong with the names or the expression of a line.
+fn inner_words(
+    alloc: Global,
+    scope: &Scope<'_>,
+    words: &[&[u8]],
+) -> Result<Option<String>, AllocError> {
+    let from = if declares(words) { 2 } else { 0 };
+    match misused_among(alloc, scope, words, from)? {
+        Some(said) => Ok(Some(said)),
+        None => expression_words(alloc, words),
+    }
 }
 
 /// What is expected in place of a line that has no form of a source.
@@ -226,17 +396,13 @@ pub(crate) fn form_words(
     if let Some(foreign) = foreign_words(words) {
         return String::from_str(alloc, foreign);
     }
-    if let Some(said) = block_words(alloc, scope, words)? {
+    if let Some(said) = line_words(alloc, scope, words)? {
         return Ok(said);
     }
-    if let Some(said) = no_name_words(alloc, words)? {
+    if let Some(said) = keyword_words(alloc, scope, words)? {
         return Ok(said);
     }
-    let from = if declares(words) { 2 } else { 0 };
-    if let Some(said) = misused_among(alloc, scope, words, from)? {
-        return Ok(said);
-    }
-    if let Some(said) = expression_words(alloc, words)? {
+    if let Some(said) = inner_words(alloc, scope, words)? {
         return Ok(said);
     }
     match (form_of(words), words.first()) {
@@ -301,7 +467,7 @@ pub(crate) fn number_words(
     if let Some(word) = no_constant(scope, words) {
         if word == sign {
             let said =
-                "a number has no sign; help: numbers are taken modulo 2^32, so -1 is 4294967295";
+                "unexpected `-`: numbers are not negative; help: write 4294967295 for -1, since numbers are taken modulo 2^32";
             return String::from_str(alloc, said);
         }
         let word = shown(word);
@@ -310,7 +476,7 @@ pub(crate) fn number_words(
     match no_operand(words) {
         Some(word) if word == sign => String::from_str(
             alloc,
-            "a number has no sign; help: write `0 - N`, which is taken modulo 2^32",
+            "unexpected `-`: numbers are not negative; help: write `0 - N`, which is taken modulo 2^32",
         ),
         Some(word) => {
             let word = shown(word);

@@ -1,9 +1,10 @@
 //! What is said of a line that passes a limit.
 
-use crate::meaning::{opens, word_is};
+use crate::meaning::word_is;
 use crate::naming::shown;
+use crate::scope::Scope;
 use lu_source_text::{MOST_NESTING, is_free_name, nesting};
-use lu_text::{is_long, value_in};
+use lu_text::is_long;
 use std::alloc::{AllocError, Global};
 
 /// The first name that is too long.
@@ -14,12 +15,12 @@ fn long_name<'a>(words: &[&'a [u8]]) -> Option<&'a [u8]> {
         .copied()
 }
 
-/// The first number after `pick(` that is out of its range.
-fn large_pick<'a>(words: &[&'a [u8]]) -> Option<&'a [u8]> {
+/// The first number after `pick(`, or constant, that is out of its range.
+fn large_pick<'a>(scope: &Scope<'_>, words: &[&'a [u8]]) -> Option<&'a [u8]> {
     for three in words.windows(3) {
         if let [pick, _, count] = three {
-            let is_small = matches!(*count, [b'1'..=b'8']);
-            if *pick == b"pick".as_slice() && value_in(count).is_some() && !is_small {
+            let is_large = matches!(scope.number(count), Some(number) if number == 0 || number > 8);
+            if *pick == b"pick".as_slice() && is_large {
                 return Some(*count);
             }
         }
@@ -45,27 +46,40 @@ fn operation_words(alloc: Global, words: &[&[u8]]) -> Result<String, AllocError>
     String::from_str(alloc, "too many operations; a source has at most 16")
 }
 
+/// The length of the array that a line declares, where it is out of its range.
+fn length_out_of_range(scope: &Scope<'_>, words: &[&[u8]]) -> Option<u32> {
+    if !word_is(words, 0, b"word") || !word_is(words, 2, b"[") {
+        return None;
+    }
+    match scope.number(words.get(3)?) {
+        Some(length) if length == 0 || length > 64 => Some(length),
+        _ => None,
+    }
+}
+
 /// The limit that another line passes, by its first word.
-fn other_words(words: &[&[u8]]) -> &'static str {
-    if word_is(words, 0, b"word") && word_is(words, 2, b"[") {
-        "array length out of range (1 to 64), or too many shared words; a source has at most 16"
-    } else if word_is(words, 0, b"word") {
+fn other_words(scope: &Scope<'_>, words: &[&[u8]]) -> &'static str {
+    if word_is(words, 0, b"word") {
         "too many shared words; a source has at most 16"
-    } else if word_is(words, 0, b"lock") {
+    } else if word_is(words, 0, b"lock") && !scope.is_in_operation() {
         "too many locks; a source has at most 8"
     } else if word_is(words, 0, b"local") {
         "`local` is out of range (0 to 16)"
-    } else if word_is(words, 0, b"}") {
+    } else if scope.lines() >= 256 {
+        "too many lines in this operation; at most 256 are allowed"
+    } else if word_is(words, 0, b"}") && words.len() == 1 {
         "this operation needs more than 64 instructions; help: split it into two operations, or simplify it"
-    } else if opens(words) {
-        "too many nested blocks (at most 16), or too many lines in this operation (at most 256)"
     } else {
-        "a limit is exceeded: 1 to 8 for `pick`, or at most 256 lines in an operation"
+        "too many nested blocks; at most 16 are allowed"
     }
 }
 
 /// The limit that a line passes.
-pub(crate) fn limit_words(alloc: Global, words: &[&[u8]]) -> Result<String, AllocError> {
+pub(crate) fn limit_words(
+    alloc: Global,
+    scope: &Scope<'_>,
+    words: &[&[u8]],
+) -> Result<String, AllocError> {
     if words.len() > 256 {
         return String::from_str(
             alloc,
@@ -82,12 +96,15 @@ pub(crate) fn limit_words(alloc: Global, words: &[&[u8]]) -> Result<String, Allo
         let (length, name) = (name.len(), shown(name));
         return format!(in alloc; "name `{name}` has {length} bytes; at most 32 are allowed");
     }
-    if let Some(count) = large_pick(words) {
+    if let Some(count) = large_pick(scope, words) {
         let count = shown(count);
         return format!(in alloc; "`pick` takes a number from 1 to 8, found `{count}`");
+    }
+    if let Some(length) = length_out_of_range(scope, words) {
+        return format!(in alloc; "array length {length} is out of range (1 to 64)");
     }
     if word_is(words, 0, b"op") {
         return operation_words(alloc, words);
     }
-    String::from_str(alloc, other_words(words))
+    String::from_str(alloc, other_words(scope, words))
 }

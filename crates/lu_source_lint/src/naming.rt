@@ -1,6 +1,6 @@
 //! What is said of a name that is not declared, is declared twice, or is not used as what it is.
 
-use crate::foreign::foreign_word;
+use crate::foreign::{foreign_field, foreign_word};
 use crate::keyword::near_keyword;
 use crate::meaning::word_is;
 use crate::scope::{Declared, Scope};
@@ -48,6 +48,12 @@ fn meant_keyword(scope: &Scope<'_>, words: &[&[u8]], name: &[u8]) -> Option<&'st
     }
 }
 
+/// Whether the word after the first `name` among these is `(`.
+fn is_called(words: &[&[u8]], name: &[u8]) -> bool {
+    let place = words.iter().position(|word| *word == name);
+    place.is_some_and(|place| word_is(words, place.saturating_add(1), b"("))
+}
+
 /// A name that is not declared, in a line with these words.
 fn unknown_words(
     alloc: Global,
@@ -55,13 +61,15 @@ fn unknown_words(
     words: &[&[u8]],
     name: &[u8],
 ) -> Result<String, AllocError> {
-    if let Some(foreign) = foreign_word(name) {
-        return String::from_str(alloc, foreign);
-    }
     let said = shown(name);
     if let Some(keyword) = meant_keyword(scope, words, name) {
         return format!(in alloc;
             "cannot find `{said}` in this scope; help: a similar keyword exists: `{keyword}`"
+        );
+    }
+    if is_called(words, name) {
+        return format!(in alloc;
+            "cannot find operation `{said}`; help: an operation cannot call another one"
         );
     }
     if let Some(near) = scope.near(name) {
@@ -90,9 +98,10 @@ fn misuse_words(
     let is_indexed = next == b"[".as_slice();
     let is_assigned = is_first && next == b"=".as_slice();
     let said = match declared {
-        Declared::Operation => format!(in alloc;
-            "an operation cannot call another one, found `{name}`"
+        Declared::Operation if next == b"(".as_slice() => format!(in alloc;
+            "cannot call `{name}`: an operation cannot call another one"
         )?,
+        Declared::Operation => format!(in alloc; "`{name}` is an operation and has no value")?,
         Declared::Object => format!(in alloc; "`{name}` is the object and has no value")?,
         Declared::Array if !is_indexed => format!(in alloc;
             "`{name}` is an array; help: write `{name}[EXPR]`"
@@ -103,11 +112,12 @@ fn misuse_words(
         Declared::Constant if is_assigned => format!(in alloc;
             "cannot assign to constant `{name}`"
         )?,
-        Declared::Constant | Declared::Word | Declared::Argument | Declared::Local if is_indexed =>
-            {
-                let kind = declared.words();
-                format!(in alloc; "`{name}` is {kind} and has no index")?
-            }
+        Declared::Word if is_indexed => format!(in alloc;
+            "`{name}` is not an array and has no index; help: declare it as `word {name}[LEN]`"
+        )?,
+        Declared::Constant | Declared::Argument | Declared::Local if is_indexed => {
+            format!(in alloc; "`{name}` is not an array and has no index")?
+        }
         _ => return Ok(None),
     };
     Ok(Some(said))
@@ -135,26 +145,45 @@ pub(crate) fn misused_among(
 }
 
 /// A name after `lock` or `unlock` in an operation that is not a lock.
-fn no_lock_words(
+fn no_lock<'a>(scope: &Scope<'_>, words: &[&'a [u8]]) -> Option<&'a [u8]> {
+    let locks = word_is(words, 0, b"lock") || word_is(words, 0, b"unlock");
+    let name = *words.get(1)?;
+    if locks && scope.is_in_operation() && scope.declared(name) != Some(Declared::Lock) {
+        Some(name)
+    } else {
+        None
+    }
+}
+
+/// A name after `await` or `cas(` that is a value of the thread's own, or a constant.
+fn no_cell<'a>(scope: &Scope<'_>, words: &[&'a [u8]]) -> Option<&'a [u8]> {
+    let name = match words.iter().position(|word| *word == b"cas".as_slice()) {
+        Some(cas) => *words.get(cas.saturating_add(2))?,
+        None if word_is(words, 0, b"await") => *words.get(1)?,
+        None => return None,
+    };
+    match scope.value_declared(name)? {
+        Declared::Constant | Declared::Argument | Declared::Local => Some(name),
+        _ => None,
+    }
+}
+
+/// A name of another kind than the line needs.
+fn other_kind_words(
     alloc: Global,
     scope: &Scope<'_>,
     words: &[&[u8]],
 ) -> Result<Option<String>, AllocError> {
-    let locks = word_is(words, 0, b"lock") || word_is(words, 0, b"unlock");
-    if !locks || !scope.is_in_operation() {
-        return Ok(None);
-    }
-    let Some(name) = words.get(1) else {
-        return Ok(None);
+    let (name, expected) = match (no_lock(scope, words), no_cell(scope, words)) {
+        (Some(name), _) => (name, "a lock"),
+        (None, Some(name)) => (name, "a shared word"),
+        (None, None) => return Ok(None),
     };
     let Some(declared) = scope.declared(name) else {
         return Ok(None);
     };
-    if declared == Declared::Lock {
-        return Ok(None);
-    }
     let (name, kind) = (shown(name), declared.words());
-    Ok(Some(format!(in alloc; "expected a lock, found `{name}`, which is {kind}")?))
+    Ok(Some(format!(in alloc; "expected {expected}, found `{name}`, which is {kind}")?))
 }
 
 /// A name that is declared above as this, and declared again.
@@ -219,10 +248,17 @@ pub(crate) fn name_words(
     }
     let from = if declares { 2 } else { 0 };
     let (_, read) = words.split_at(from.min(words.len()));
-    if let Some(name) = unknown_among(scope, read) {
+    let unknown = unknown_among(scope, read);
+    if let Some(foreign) = unknown
+        .and_then(|name| foreign_word(name))
+        .or(foreign_field(words))
+    {
+        return String::from_str(alloc, foreign);
+    }
+    if let Some(name) = unknown {
         return unknown_words(alloc, scope, words, name);
     }
-    if let Some(said) = no_lock_words(alloc, scope, words)? {
+    if let Some(said) = other_kind_words(alloc, scope, words)? {
         return Ok(said);
     }
     if let Some(said) = misused_among(alloc, scope, words, from)? {
@@ -230,6 +266,6 @@ pub(crate) fn name_words(
     }
     String::from_str(
         alloc,
-        "a name on this line is not declared, perhaps because of a fault above, or cannot be used here",
+        "a name on this line is not declared, perhaps because of an error above, or cannot be used here",
     )
 }

@@ -5,19 +5,47 @@ use crate::limit::limit_words;
 use crate::meaning::word_is;
 use crate::message::{SourceMessage, Warning, What};
 use crate::naming::{name_words, shown};
-use crate::scope::Scope;
+use crate::scope::{Leaving, Scope};
 use lu_source_text::{SourceFaultKind, source_words};
 use std::alloc::{AllocError, Global};
 
+/// Whether a `return`, `break` or `continue` leaves the block before the line.
+fn is_left(scope: &Scope<'_>) -> bool {
+    match scope.leaving() {
+        Some(leaving) => leaving.word != "loop" && leaving.word != "else",
+        None => false,
+    }
+}
+
+/// A statement that is not reached.
+fn unreachable_words(alloc: Global, scope: &Scope<'_>) -> Result<String, AllocError> {
+    let Some(Leaving { word, line }) = scope.leaving() else {
+        return String::from_str(alloc, "unreachable statement");
+    };
+    match word {
+        "loop" => format!(in alloc;
+            "unreachable statement after the `loop` on line {line}, which has no `break`"
+        ),
+        "else" => String::from_str(
+            alloc,
+            "unreachable statement: each branch of the `if` before it leaves the block",
+        ),
+        _ => format!(in alloc; "unreachable statement after the `{word}` on line {line}"),
+    }
+}
+
 /// Why a line is not allowed at its place, by its first word.
-fn flow_words(words: &[&[u8]]) -> &'static str {
-    if word_is(words, 0, b"break") || word_is(words, 0, b"continue") {
-        "`break` or `continue` outside of a loop, or after a statement that leaves the block"
-    } else if word_is(words, 0, b"await") {
+fn flow_words(alloc: Global, scope: &Scope<'_>, words: &[&[u8]]) -> Result<String, AllocError> {
+    let said = if word_is(words, 0, b"break") && !scope.is_in_loop() {
+        "`break` outside of a loop"
+    } else if word_is(words, 0, b"continue") && !scope.is_in_loop() {
+        "`continue` outside of a loop"
+    } else if word_is(words, 0, b"await") && !is_left(scope) {
         "`await` may read only its own cell; help: read other cells into locals first"
     } else {
-        "unreachable statement; a `return`, `break`, `continue` or `loop` without `break` precedes it in its block"
-    }
+        return unreachable_words(alloc, scope);
+    };
+    String::from_str(alloc, said)
 }
 
 /// A fault of a line with these words, in this scope.
@@ -33,10 +61,10 @@ fn fault_words(
         SourceFaultKind::Missing => "expected `object NAME` first",
         SourceFaultKind::Form => return form_words(alloc, scope, words),
         SourceFaultKind::Number => return number_words(alloc, scope, words),
-        SourceFaultKind::Limit => return limit_words(alloc, words),
+        SourceFaultKind::Limit => return limit_words(alloc, scope, words),
         SourceFaultKind::Registers =>
             "too many registers: arguments, locals in scope and intermediate results need more than 8; help: declare locals in smaller blocks, or split the line",
-        SourceFaultKind::Flow => flow_words(words),
+        SourceFaultKind::Flow => return flow_words(alloc, scope, words),
         SourceFaultKind::Name => return name_words(alloc, scope, words),
     };
     String::from_str(alloc, text)
@@ -50,7 +78,7 @@ fn warning_words(alloc: Global, warning: Warning, words: &[&[u8]]) -> Result<Str
         Warning::UnusedWord => { format!(in alloc; "shared word `{name}` is never read") }
         Warning::EndlessLoop => String::from_str(
             alloc,
-            "this loop never ends, and no other thread sees it: it has no `break`, `return`, lock or shared word",
+            "this loop never ends, and no other thread can see what it does: it has no `break`, `return`, lock or shared word",
         ),
     }
 }
@@ -63,11 +91,11 @@ fn end_words(alloc: Global, scope: &Scope<'_>) -> Result<String, AllocError> {
         ),
         None if scope.has_object() => String::from_str(
             alloc,
-            "unexpected end of the text; help: a `}` is missing above",
+            "unexpected end of the text; help: add a `}`",
         ),
         None => String::from_str(
             alloc,
-            "unexpected end of the text; expected `object NAME` first",
+            "unexpected end of the text; help: begin with `object NAME`",
         ),
     }
 }

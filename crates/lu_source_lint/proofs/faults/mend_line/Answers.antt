@@ -2,7 +2,7 @@ use Rattle.std.proofs.Common.{◌∙◌, ap}
 use Rattle.std.proofs.lemmas.Result.{on_ok_weaker}
 use Rattle.lu_source_lint.specs.Faults.{bytes_of, meant_line, meant_outside}
 use Rattle.lu_source_lint.proofs.Reported.{mended_is}
-use Rattle.lu_source_lint.proofs.faults.mend.Goals as goal
+use Rattle.lu_source_lint.proofs.faults.mend_line.Goals as goal
 
 pub returns : goal.returns
 returns c =
