@@ -3,6 +3,7 @@
 use crate::shape::{Shape, declaration, instruction, near_declaration, near_instruction};
 use crate::spelling::near;
 use lu_lang::{ComponentDraft, LangFaultKind, OpenOp, Statement};
+use lu_source_lint::is_near;
 use lu_text::{Name, are_allowed, has_name_form, is_long, value_in, words_of};
 use std::alloc::{AllocError, Global};
 use std::{fmt, str};
@@ -27,6 +28,37 @@ impl fmt::Display for Slip<'_> {
             None => Ok(()),
             Some(name) => write!(f, "; help: a similar word exists: `{name}`"),
         }
+    }
+}
+
+/// An operation by its name; one whose line does not name it is read as `_`.
+#[derive(Clone, Copy)]
+struct Named<'a> {
+    /// What is before the name.
+    before: &'static str,
+
+    op: &'a OpenOp,
+}
+
+impl fmt::Display for Named<'_> {
+    fn fmt<W: fmt::Write>(&self, f: &mut fmt::Formatter<W>) -> fmt::Result {
+        let (before, name) = (self.before, self.op.name.as_str());
+        if name == "_" {
+            return write!(f, "this operation");
+        }
+        write!(f, "{before}`{name}`")
+    }
+}
+
+fn named(op: &OpenOp) -> Named<'_> {
+    Named { before: "", op }
+}
+
+/// The same, as an operation.
+fn titled(op: &OpenOp) -> Named<'_> {
+    Named {
+        before: "operation ",
+        op,
     }
 }
 
@@ -100,7 +132,7 @@ fn form_declaration(
     }
     if shape.word == "local" {
         return match draft.local {
-            Some(most) => format!(in alloc; "`local` is given twice; it was {most} before"),
+            Some(most) => format!(in alloc; "`local` is declared twice; the first value is {most}"),
             None => String::from_str(alloc, "`local` must come before the first `op`"),
         };
     }
@@ -112,7 +144,7 @@ fn no_declaration(alloc: Global, word: &[u8]) -> Result<String, AllocError> {
     let said = shown(word);
     if instruction(word).is_some() {
         return format!(in alloc;
-            "`{said}` is only allowed inside an operation; help: begin one with `op NAME N`, with the number of arguments N"
+            "`{said}` is only allowed inside an operation; help: begin one with `op NAME N`, where N is the number of arguments"
         );
     }
     let slip = Slip {
@@ -138,9 +170,9 @@ fn form_outside(
 fn no_instruction(alloc: Global, op: &OpenOp, word: &[u8]) -> Result<String, AllocError> {
     let said = shown(word);
     if declaration(word).is_some() {
-        let name = op.name.as_str();
+        let name = titled(op);
         return format!(in alloc;
-            "`{said}` is not allowed inside operation `{name}`; help: close the operation with `end`"
+            "`{said}` is not allowed inside {name}; help: close the operation with `end`"
         );
     }
     let slip = Slip {
@@ -306,8 +338,8 @@ fn limit_outside(
 /// Inside an operation, a line for which there is no room.
 fn limit_inside(alloc: Global, op: &OpenOp) -> Result<String, AllocError> {
     if op.statements.len() >= 64 {
-        let name = op.name.as_str();
-        return format!(in alloc; "too many instructions in `{name}`; an operation has at most 64");
+        let name = named(op);
+        return format!(in alloc; "too many instructions in {name}; an operation has at most 64");
     }
     String::from_str(alloc, "the number after `pick` is out of range (1 to 8)")
 }
@@ -404,8 +436,8 @@ fn labelled_name(
 ) -> Result<String, AllocError> {
     if let Some(op) = &draft.begun {
         if op.labels.iter().any(|other| other.name.is(label)) {
-            let (label, operation) = (shown(label), op.name.as_str());
-            return format!(in alloc; "label `{label}` is defined twice in `{operation}`");
+            let (label, operation) = (shown(label), named(op));
+            return format!(in alloc; "label `{label}` is defined twice in {operation}");
         }
     }
     name(alloc, draft, words)
@@ -432,9 +464,23 @@ fn comma(alloc: Global, word: &[u8]) -> Result<String, AllocError> {
     )
 }
 
+/// The first word of a component or a source for which this may be a slip.
+fn near_first(word: &[u8]) -> Option<&'static str> {
+    if is_near(word, b"component") {
+        Some("component")
+    } else if is_near(word, b"object") {
+        Some("object")
+    } else {
+        None
+    }
+}
+
 fn missing(alloc: Global, word: &[u8]) -> Result<String, AllocError> {
+    let slip = Slip {
+        name: near_first(word),
+    };
     let word = shown(word);
-    format!(in alloc; "expected `component NAME` or `object NAME` first, found `{word}`")
+    format!(in alloc; "expected `component NAME` or `object NAME` first, found `{word}`{slip}")
 }
 
 /// Inside an operation, a line of no form after its label.
@@ -496,8 +542,8 @@ fn number(
 fn flow(alloc: Global, draft: &ComponentDraft) -> Result<String, AllocError> {
     match &draft.begun {
         Some(op) if op.statements.is_empty() => {
-            let name = op.name.as_str();
-            format!(in alloc; "operation `{name}` is empty; help: write at least `return 0`")
+            let name = titled(op);
+            format!(in alloc; "{name} is empty; help: write at least `return 0`")
         }
         _ => String::from_str(
             alloc,
@@ -576,12 +622,12 @@ pub(crate) fn jump_wording(
 }
 
 fn no_label(alloc: Global, op: &OpenOp, label: &Name) -> Result<String, AllocError> {
-    let (name, said) = (op.name.as_str(), label.as_str());
+    let (name, said) = (named(op), label.as_str());
     match near(&op.labels, label.as_bytes()) {
         Some(near) => format!(in alloc;
-            "undefined label `{said}` in `{name}`; help: a similar label exists: `{near}`"
+            "undefined label `{said}` in {name}; help: a similar label exists: `{near}`"
         ),
-        None => format!(in alloc; "undefined label `{said}` in `{name}`"),
+        None => format!(in alloc; "undefined label `{said}` in {name}"),
     }
 }
 
@@ -589,8 +635,8 @@ fn no_label(alloc: Global, op: &OpenOp, label: &Name) -> Result<String, AllocErr
 pub(crate) fn end_wording(alloc: Global, draft: &ComponentDraft) -> Result<String, AllocError> {
     match &draft.begun {
         Some(op) => {
-            let name = op.name.as_str();
-            format!(in alloc; "operation `{name}` is not closed; help: add `end`")
+            let name = titled(op);
+            format!(in alloc; "{name} is not closed; help: add `end`")
         }
         None => String::from_str(
             alloc,

@@ -8,7 +8,7 @@ use std::str;
 /// The meaning of a refusal of a component, a matrix or a schedule.
 fn meaning_of_case(code: &str) -> Option<&'static str> {
     Some(match code {
-        "L1" | "M1" | "H1" | "O1" => "invalid byte; only ASCII, tabs and line ends are allowed",
+        "L1" | "M1" | "H1" | "O1" => "invalid byte; only ASCII, tabs and newlines are allowed",
         "L2" => "not a line of a component; `lineup lint` says what is expected",
         "L3" => "a name that is declared twice or not at all; `lineup lint` says which",
         "L4" | "M5" | "C2" | "H3" => "not a number, or a number that is too large",
@@ -29,7 +29,7 @@ fn meaning_of_case(code: &str) -> Option<&'static str> {
 /// The meaning of a refusal of a report, a specification, a history or a run.
 fn meaning_of_finding(code: &str) -> Option<&'static str> {
     Some(match code {
-        "E1" => "this line does not belong to a report",
+        "E1" => "not a line of a report",
         "S1" =>
             "not a line of a specification, or out of order; `lineup spec` puts lines in order, and `--marks` allows `?`",
         "S2" => "the matrix has no such history",
@@ -37,8 +37,8 @@ fn meaning_of_finding(code: &str) -> Option<&'static str> {
         "S4" => "too many serial histories to list; try fewer calls",
         "H2" => "expected `call`, `return` or `stuck`",
         "H4" => "the matrix has no such call",
-        "H5" | "R5" => "this call or return cannot come next",
-        "R1" => "invalid byte; only ASCII, tabs and line ends are allowed",
+        "H5" | "R5" => "this call or return is out of order",
+        "R1" => "invalid byte; only ASCII, tabs and newlines are allowed",
         "R2" => "expected `call`, `return` or `stuck`; a run begins with the line `run`",
         "R3" => "not a number, or a number that is too large; threads are numbered from 0 to 7",
         "R4" => "the component has no such operation, or it takes a different number of arguments",
@@ -49,7 +49,7 @@ fn meaning_of_finding(code: &str) -> Option<&'static str> {
 /// The meaning of a refusal of a source.
 fn meaning_of_source(code: &str) -> Option<&'static str> {
     Some(match code {
-        "O2" => "unexpected word or sign; `lineup lint` says what is expected (docs/SOURCE.md)",
+        "O2" => "unexpected word or symbol; `lineup lint` says what is expected (docs/SOURCE.md)",
         "O3" =>
             "a name that is declared twice or not at all, or is not what the line needs; `lineup lint` says which",
         "O4" => "expected a number or a constant",

@@ -4,7 +4,7 @@ use crate::component::{Slip, counted, first_no_number, is_register, shown, unkno
 use crate::spelling::near;
 use lu_source_lint::is_near;
 use lu_test::{MatrixDraft, MatrixFaultKind, Signature};
-use lu_text::{Name, before_comment, has_name_form, parts_of, words_of};
+use lu_text::{Name, before_comment, has_name_form, parts_of, position_of, value_in, words_of};
 use std::alloc::{AllocError, Global};
 
 /// The words of a call: those of a part, without the line's first word.
@@ -58,6 +58,12 @@ fn form(
             "empty call next to `;`; help: `;` separates two calls, and does not end a call",
         );
     }
+    if first == b"run".as_slice() {
+        return String::from_str(
+            alloc,
+            "recorded runs are not read by `lint`; help: write `lineup witness`",
+        );
+    }
     let slip = Slip {
         name: near_first(first),
     };
@@ -67,16 +73,66 @@ fn form(
     )
 }
 
-/// The operations that there are, separated by commas.
+/// The operations that there are, each in quotes, separated by commas; not `_`, as which an
+/// operation is read whose line does not name it.
 fn names(alloc: Global, signatures: &[Signature<'_>]) -> Result<String, AllocError> {
     let mut out = String::new(alloc);
     for signature in signatures {
-        if !out.is_empty() {
-            out.push_str(", ")?;
+        let name = signature.name.as_str();
+        if name == "_" {
+            continue;
         }
-        out.push_str(signature.name.as_str())?;
+        let before = if out.is_empty() { "`" } else { ", `" };
+        out.push_str(before)?;
+        out.push_str(name)?;
+        out.push_str("`")?;
     }
     Ok(out)
+}
+
+/// The operation that a word calls as other languages do, and the arguments, which are words here.
+fn called<'a>(signatures: &[Signature<'_>], word: &'a [u8]) -> Option<(&'a [u8], &'a [u8])> {
+    let opens = position_of(b'(', word)?;
+    let (name, arguments) = word.split_at(opens.min(word.len()));
+    signature(signatures, name)?;
+    let arguments = arguments.strip_prefix(b"(")?;
+    Some((name, arguments.strip_suffix(b")").unwrap_or(arguments)))
+}
+
+/// A call as other languages write it.
+fn called_wording(
+    alloc: Global,
+    said: &str,
+    name: &[u8],
+    arguments: &[u8],
+) -> Result<String, AllocError> {
+    let name = shown(name);
+    if arguments.is_empty() {
+        return format!(in alloc; "cannot find operation `{said}`; help: write `{name}`");
+    }
+    if value_in(arguments).is_none() {
+        return format!(in alloc;
+            "cannot find operation `{said}`; help: write `{name}` and its arguments, separated by spaces"
+        );
+    }
+    let arguments = shown(arguments);
+    format!(in alloc; "cannot find operation `{said}`; help: write `{name} {arguments}`")
+}
+
+/// An operation that there is not, and for whose name no other may be meant.
+fn other_operations(
+    alloc: Global,
+    signatures: &[Signature<'_>],
+    said: &str,
+) -> Result<String, AllocError> {
+    if signatures.is_empty() {
+        return format!(in alloc; "cannot find operation `{said}`; the component has no operations");
+    }
+    let names = names(alloc, signatures)?;
+    if names.is_empty() {
+        return format!(in alloc; "cannot find operation `{said}`");
+    }
+    format!(in alloc; "cannot find operation `{said}`; help: the component has {names}")
 }
 
 fn no_operation(
@@ -85,17 +141,14 @@ fn no_operation(
     name: &[u8],
 ) -> Result<String, AllocError> {
     let said = shown(name);
+    if let Some((name, arguments)) = called(signatures, name) {
+        return called_wording(alloc, said, name, arguments);
+    }
     match near(signatures, name) {
         Some(near) => format!(in alloc;
             "cannot find operation `{said}`; help: an operation with a similar name exists: `{near}`"
         ),
-        None if signatures.is_empty() => format!(in alloc;
-            "cannot find operation `{said}`; the component has no operations"
-        ),
-        None => {
-            let names = names(alloc, signatures)?;
-            format!(in alloc; "cannot find operation `{said}`; the component has {names}")
-        }
+        None => other_operations(alloc, signatures, said),
     }
 }
 

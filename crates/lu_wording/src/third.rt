@@ -39,31 +39,63 @@ fn wrong_bytes(text: &[u8]) -> Option<&'static str> {
     }
 }
 
-/// What is wrong with the end of a schedule.
-fn wrong_end(text: &[u8]) -> &'static str {
-    if text.ends_with(b" \n") || text.ends_with(b" ") {
-        return "trailing space after the last move";
-    }
-    match text.strip_suffix(b"\n") {
-        None => "no line end",
-        Some(line) if line.contains(&b'\n') => "more than one line",
-        Some(_) => "it must begin with `schedule`",
+/// Whether a space stands last, before the LF.
+fn has_last_space(text: &[u8]) -> bool {
+    text.ends_with(b" \n") || text.ends_with(b" ")
+}
+
+/// What is wrong with the spaces and the like of a line that begins with `schedule`.
+fn wrong_spaces(line: &[u8]) -> Option<&'static str> {
+    if !line.starts_with(b"schedule") {
+        None
+    } else if has_last_space(line) {
+        Some("trailing space after the last move")
+    } else {
+        wrong_bytes(line)
     }
 }
 
-/// Why a text has not the form of a schedule.
-fn no_schedule(text: &[u8]) -> &'static str {
-    if !text.starts_with(b"schedule") {
-        return "it must begin with `schedule`";
+/// What is wrong with the end of a schedule.
+fn wrong_end(text: &[u8]) -> &'static str {
+    if has_last_space(text) {
+        return "trailing space after the last move";
     }
+    match text.strip_suffix(b"\n") {
+        None => "no newline at the end",
+        Some(line) if line.contains(&b'\n') => "more than one line",
+        Some(_) => "the first word must be `schedule`",
+    }
+}
+
+/// Why a text that begins with `schedule` has not the form of a schedule.
+fn no_schedule(text: &[u8]) -> &'static str {
     match wrong_bytes(text) {
         None => wrong_end(text),
         Some(wrong) => wrong,
     }
 }
 
-/// The words for a text that has not the form of a schedule.
+/// The first line of a text, with its LF; none of an empty text.
+fn first_line(text: &[u8]) -> Option<&[u8]> {
+    if text.is_empty() {
+        return None;
+    }
+    match position_of(b'\n', text) {
+        None => Some(text),
+        Some(end) => Some(text.split_at(end.saturating_add(1).min(text.len())).0),
+    }
+}
+
+/// The words for a text that has not the form of a schedule, nor that of another third part.
 pub(crate) fn schedule_form_wording(alloc: Global, text: &[u8]) -> Result<String, AllocError> {
+    if !text.starts_with(b"schedule") {
+        let found = FoundLine {
+            line: first_line(text),
+        };
+        return format!(in alloc;
+            "expected a schedule (`schedule ..`), a report (`lineup report ..`), a specification (`lineup spec 1`) or recorded histories (`call ..`), found {found}"
+        );
+    }
     let here = no_schedule(text);
     format!(in alloc;
         "invalid schedule: {here}; help: write `schedule` and its moves on one line, each after one space"
@@ -127,7 +159,7 @@ impl fmt::Display for FoundLine<'_> {
             return write!(f, "the end of the text");
         };
         match line.strip_suffix(b"\n") {
-            None => write!(f, "a line without a line end"),
+            None => write!(f, "a line without a newline"),
             Some([]) => write!(f, "an empty line"),
             Some(line) => {
                 let text = if line.len() > 80 || !is_printed(line) {
@@ -170,6 +202,14 @@ pub(crate) fn report_wording(
     fault: &ReportLineFault,
     line: Option<&[u8]>,
 ) -> Result<String, AllocError> {
+    let is_schedule = matches!(fault.form, LineForm::Schedule | LineForm::ConflictSchedule);
+    if let Some(wrong) = wrong_spaces(line.unwrap_or(b"")) {
+        if is_schedule {
+            return format!(in alloc;
+                "invalid schedule: {wrong}; help: write each move after one space"
+            );
+        }
+    }
     let found = FoundLine { line };
     match form_words(fault.form) {
         None => format!(in alloc; "expected the end of the report, found {found}"),
@@ -198,6 +238,12 @@ fn no_entry(entries: &[u8]) -> Option<&[u8]> {
 }
 
 fn entry_wording(alloc: Global, entry: &[u8]) -> Result<String, AllocError> {
+    if entry
+        .strip_suffix(b"?")
+        .is_some_and(|entry| is_entry(entry))
+    {
+        return String::from_str(alloc, "unexpected `?`; help: `--marks` allows marks");
+    }
     let entry = printed(entry, "?");
     format!(in alloc;
         "invalid entry `{entry}`; help: write `t=n`, `t=trap` or `t=stuck`, with a thread t (0 to 7) and a value n (0 to 4294967295)"
@@ -229,7 +275,7 @@ fn entries_wording(alloc: Global, entries: &[u8]) -> Result<String, AllocError> 
 /// The words for a line that lists no history where it stands.
 fn history_wording(alloc: Global, line: &[u8]) -> Result<String, AllocError> {
     let Some(line) = line.strip_suffix(b"\n") else {
-        return String::from_str(alloc, "the last line has no line end");
+        return String::from_str(alloc, "the last line has no newline");
     };
     let Some(entries) = line.strip_prefix(b"history ") else {
         return String::from_str(
@@ -267,7 +313,7 @@ fn marked_entries_wording(alloc: Global, entries: &[&[u8]]) -> Result<String, Al
     }
     String::from_str(
         alloc,
-        "a history needs an entry, and `stuck` must be its last",
+        "a history has at least one entry, and `stuck` may only be the last one",
     )
 }
 
@@ -304,7 +350,7 @@ fn foreign_wording(alloc: Global, matrix: &Matrix) -> Result<String, AllocError>
     let threads = matrix.threads();
     let many = counted(usize::from(threads), "thread", "threads");
     format!(in alloc;
-        "the matrix has no such call; it has {threads} {many}, numbered from 0, and a thread has at most as many entries as calls"
+        "the history has an entry of a thread that the matrix does not have, or more entries of a thread than it has calls; the matrix has {threads} {many}, numbered from 0"
     )
 }
 

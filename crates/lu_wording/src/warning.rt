@@ -87,7 +87,7 @@ pub(crate) fn warning_wording(
         Hint::Spin => operation_wording(
             alloc,
             draft,
-            "loops without waiting; help: wait with `await`",
+            "loops without waiting; help: write `await` where it waits",
         ),
     }
 }
