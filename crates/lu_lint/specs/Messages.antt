@@ -1,5 +1,5 @@
 -- The lines in which lint says what it says.
-use Rattle.std.specs.Prelude.{ℕ, List, ◌++◌, codes, string_bytes}
+use Rattle.std.specs.Prelude.{ℕ, ◌==◌, List, ◌++◌, codes, string_bytes, if◌then◌else◌}
 use Rattle.std.specs.List.{flat_map}
 use Rattle.std.specs.Fmt.{decimal}
 use Rattle.lu_lang.specs.Kinds.{code_of}
@@ -44,22 +44,30 @@ abbrev pub remark_head : ℕ → List ℕ → List ℕ → List ℕ
 remark_head line word words =
     codes "line " ++ decimal line ++ codes ": " ++ word ++ words
 
+-- What stands before the line of the part, n. A component begins its bundle, so that line is that of
+-- the bundle, but for a jump, which other commands refuse at the end of its operation.
+abbrev pub line_word : FaultKind → ℕ → ℕ → List ℕ
+line_word (part.Component kind) line n = if line == n then codes "line" else codes "reported at line"
+line_word kind line n = codes "line"
+
 -- of a fault its code and its line in the part, as the other commands name them
-abbrev pub remark_tail : Cause → List ℕ
-remark_tail (Fault kind n) =
-    codes " (" ++ refusal_code kind ++ codes ", line " ++ decimal n ++ codes " of the "
+abbrev pub remark_tail : ℕ → Cause → List ℕ
+remark_tail line (Fault kind n) =
+    codes " (" ++ refusal_code kind ++ codes ", " ++ line_word kind line n ++ codes " "
+    ++ decimal n
+    ++ codes " of the "
     ++ fault_part kind
     ++ codes ")\n"
-remark_tail Separator = codes "\n"
-remark_tail FifthPart = codes " (B1)\n"
-remark_tail (Warning hint) = codes "\n"
-remark_tail (Run hint) = codes "\n"
+remark_tail line Separator = codes "\n"
+remark_tail line FifthPart = codes " (B1)\n"
+remark_tail line (Warning hint) = codes "\n"
+remark_tail line (Run hint) = codes "\n"
 
 -- a line for one remark
 abbrev pub remark_text : Remark → List ℕ
 remark_text r =
     remark_head r.said.line (remark_word r.said.cause) (string_bytes r.words)
-    ++ remark_tail r.said.cause
+    ++ remark_tail r.said.line r.said.cause
 
 abbrev pub remarks_text : List Remark → List ℕ
 remarks_text remarks = flat_map remark_text remarks

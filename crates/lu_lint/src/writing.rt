@@ -5,7 +5,7 @@ ghost use Rattle.lu_text.specs.Writing.{Writes};
 ghost use Rattle.lu_lint.specs.Messages as spec;
 ghost use Rattle.lu_lint.specs.Messages.{remarks_text};
 
-use crate::remark::{Cause, Remark};
+use crate::remark::{Cause, FaultKind, Remark};
 use std::alloc::AllocError;
 
 /// What stands before the words.
@@ -13,6 +13,16 @@ fn remark_word(cause: &Cause) -> &'static str
     ensures { result.now ≡ spec.remark_word cause.now }
 {
     if cause.is_fault() { "" } else { "warning: " }
+}
+
+/// What stands before the line of the part, where the remark is shown on this line.
+fn line_word(kind: FaultKind, shown: usize, line: usize) -> &'static str
+    ensures { result.now ≡ spec.line_word kind shown line }
+{
+    match kind {
+        FaultKind::Component(_) if shown != line => "reported at line",
+        _ => "line",
+    }
 }
 
 /// Adds the line of one remark: of a fault with its code and its line in the part.
@@ -30,7 +40,8 @@ fn write_remark(text: &mut String, remark: &Remark) -> Result<(), AllocError>
     match cause {
         Cause::Fault(kind, line) => {
             let (code, part) = (kind.code(), kind.part());
-            write!(text, " ({code}, line {line} of the {part})\n")
+            let word = line_word(*kind, remark.said.line, *line);
+            write!(text, " ({code}, {word} {line} of the {part})\n")
         }
         Cause::FifthPart => text.push_str(" (B1)\n"),
         Cause::Separator | Cause::Warning(_) | Cause::Run(_) => text.push_str("\n"),
