@@ -75,7 +75,15 @@ fn unknown_option(alloc: Global, command: &str, name: &str) -> Result<String, Al
     )
 }
 
-/// What is wrong with the value of an option, where it takes one.
+/// The name of an option, and the value after `=`, where there is one.
+fn split_value(option: &str) -> (&str, Option<&str>) {
+    match option.split_once('=') {
+        Some((name, value)) => (name, Some(value)),
+        None => (option, None),
+    }
+}
+
+/// What is wrong with the value of an option, or with the lack of one.
 fn value_fault(
     alloc: Global,
     row: &OptionRow,
@@ -83,7 +91,12 @@ fn value_fault(
 ) -> Result<Option<String>, AllocError> {
     let name = row.name;
     let Some((least, most)) = range_of(row.kind) else {
-        return Ok(None);
+        return match value {
+            Some(_) => Ok(Some(format!(in alloc;
+                "`--{name}` takes no value; help: write `--{name}`"
+            )?)),
+            None => Ok(None),
+        };
     };
     let Some(value) = value else {
         return Ok(Some(format!(in alloc;
@@ -98,19 +111,53 @@ fn value_fault(
     }
 }
 
-/// Whether the words before this one give the option too.
+/// The name of the option that a word gives, and the value after `=`, where there is one.
+fn option_in(word: &str) -> Option<(&str, Option<&str>)> {
+    Some(split_value(word.strip_prefix("--")?))
+}
+
+/// Whether one of the words gives the option.
 fn is_given(words: &[String], name: &str) -> bool {
-    words.iter().any(|word| word
-        .as_str()
-        .strip_prefix("--")
-        .is_some_and(|given| given == name))
+    words.iter().any(|word| option_in(word.as_str()).is_some_and(|(given, _)| given == name))
+}
+
+/// The number that the words give an option.
+fn number_given(words: &[String], name: &str) -> Option<u64> {
+    for (index, word) in words.iter().enumerate() {
+        let Some((given, value)) = option_in(word.as_str()) else {
+            continue;
+        };
+        if given == name {
+            let next = words.get(index.saturating_add(1));
+            return value
+                .or(next.map(|word| word.as_str()))?
+                .parse::<u64>()
+                .ok();
+        }
+    }
+    None
+}
+
+/// Which options, each of them right, cannot be given as they are in these words.
+fn combination_fault(words: &[String]) -> Option<&'static str> {
+    if is_given(words, "by-thread") && is_given(words, "threads") {
+        return Some("`--threads` cannot be used with `--by-thread`");
+    }
+    if is_given(words, "all") && !is_given(words, "certify") {
+        return Some("`--all` needs `--certify`");
+    }
+    if is_given(words, "spec") && is_given(words, "certify") {
+        return Some("`--spec` cannot be used with `--certify`");
+    }
+    match (number_given(words, "from"), number_given(words, "upto")) {
+        (Some(from), Some(upto)) if upto < from => Some("`--from` is greater than `--upto`"),
+        _ => None,
+    }
 }
 
 /// A word that is not an option.
 fn unexpected(alloc: Global, word: &str) -> Result<String, AllocError> {
-    format!(in alloc;
-        "unexpected `{word}`; help: `lineup` reads standard input; `./lineup` also takes one file"
-    )
+    format!(in alloc; "unexpected `{word}`; help: write `< {word}`")
 }
 
 /// What is wrong with the words after the command, where one of them alone is wrong.
@@ -130,7 +177,7 @@ fn option_fault(
             open = None;
             continue;
         }
-        let Some(name) = word.strip_prefix("--") else {
+        let Some((name, value)) = option_in(word) else {
             return Ok(Some(unexpected(alloc, word)?));
         };
         let Some(row) = option_of(command, name) else {
@@ -140,8 +187,10 @@ fn option_fault(
         if is_given(before, name) {
             return Ok(Some(format!(in alloc; "`--{name}` is given twice")?));
         }
-        if range_of(row.kind).is_some() {
+        if value.is_none() && range_of(row.kind).is_some() {
             open = Some(row);
+        } else if let Some(fault) = value_fault(alloc, row, value)? {
+            return Ok(Some(fault));
         }
     }
     match open {
@@ -166,11 +215,11 @@ pub fn mistake_in(alloc: Global, words: &[String]) -> Result<String, AllocError>
     if !is_command(command) {
         return unknown_command(alloc, command);
     }
-    match option_fault(alloc, command, rest)? {
-        Some(fault) => Ok(fault),
-        None => String::from_str(
-            alloc,
-            "these options cannot be used together, or one needs another; help: `lineup commands` describes them",
-        ),
+    if let Some(fault) = option_fault(alloc, command, rest)? {
+        return Ok(fault);
     }
+    let fault = combination_fault(rest).unwrap_or(
+        "these options cannot be used together; help: `lineup commands` describes them",
+    );
+    String::from_str(alloc, fault)
 }
