@@ -102,7 +102,7 @@ usage =
     ++ codes "usage: lineup COMMAND [OPTION..] < BUNDLE\n"
     ++ codes "A bundle has the parts listed here, in this order, separated by lines `---`.\n"
     ++ codes "Exit status: 0 success, 1 failure, 2 refused, 3 undecided or a serial cut,\n"
-    ++ codes "4 out of memory, or a read, a write or the start of a thread failed.\n\n"
+    ++ codes "4 out of memory, or failed to read, write or start a thread.\n\n"
 
 -- the text between the commands and the options
 abbrev pub notes : Text
@@ -112,7 +112,7 @@ notes =
     ++ codes "they certify and show what fails.\n\n"
     ++ codes "witness also takes runs in place of matrix and histories.\n\n"
     ++ codes "compile, explain, draw, trace and lint take a source in place of the component. The\n"
-    ++ codes "other commands do with --source.\n\n"
+    ++ codes "other commands do so with --source.\n\n"
     ++ codes "Options, each with its range, its default in parentheses, its meaning, and the\n"
     ++ codes "commands that take it:\n\n"
 

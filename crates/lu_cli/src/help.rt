@@ -18,7 +18,7 @@ lineup finds faults in concurrent components, such as locks, queues and counters
 usage: lineup COMMAND [OPTION..] < BUNDLE
 A bundle has the parts listed here, in this order, separated by lines `---`.
 Exit status: 0 success, 1 failure, 2 refused, 3 undecided or a serial cut,
-4 out of memory, or a read, a write or the start of a thread failed.
+4 out of memory, or failed to read, write or start a thread.
 
 ";
 
@@ -31,7 +31,7 @@ they certify and show what fails.
 witness also takes runs in place of matrix and histories.
 
 compile, explain, draw, trace and lint take a source in place of the component. The
-other commands do with --source.
+other commands do so with --source.
 
 Options, each with its range, its default in parentheses, its meaning, and the
 commands that take it:

@@ -87,7 +87,7 @@ static COMMANDS: [CommandRow; 16] = [
     CommandRow {
         name: "lint",
         parts: "component [matrix [more parts]]",
-        words: "all faults and warnings, in words",
+        words: "errors and warnings, each with its line",
     },
     CommandRow {
         name: "shrink",
@@ -97,7 +97,7 @@ static COMMANDS: [CommandRow; 16] = [
     CommandRow {
         name: "campaign",
         parts: "component, matrix",
-        words: "the first small matrix that fails, over the calls given",
+        words: "the first small matrix of the given calls that fails",
     },
     CommandRow {
         name: "witness",
@@ -162,7 +162,7 @@ static OPTIONS: [OptionRow; 29] = [
             most: 256,
         },
         default: None,
-        words: "maximum number of moves in a schedule (40, or 256 with --certify)",
+        words: "maximum number of moves in a schedule; by default 40, or 256 with --certify",
         commands: &["campaign"],
     },
     OptionRow {
@@ -197,7 +197,7 @@ static OPTIONS: [OptionRow; 29] = [
             most: 256,
         },
         default: None,
-        words: "maximum number of moves of an operation that runs alone (40, or 256 with --certify)",
+        words: "maximum number of moves of an operation that runs alone; by default 40, or 256 with --certify",
         commands: &["campaign"],
     },
     OptionRow {
@@ -208,7 +208,7 @@ static OPTIONS: [OptionRow; 29] = [
             most: 65535,
         },
         default: None,
-        words: "each thread makes its line of calls up to N times",
+        words: "each thread repeats its line of calls up to N times",
         commands: &["certify"],
     },
     OptionRow {
@@ -216,7 +216,7 @@ static OPTIONS: [OptionRow; 29] = [
         letter: "",
         kind: Kind::Flag,
         default: None,
-        words: "each thread makes its line of calls any number of times",
+        words: "each thread repeats its line of calls any number of times",
         commands: &["certify"],
     },
     OptionRow {
@@ -227,7 +227,7 @@ static OPTIONS: [OptionRow; 29] = [
             most: 4_294_967_295,
         },
         default: Some("8388608"),
-        words: "maximum number of states to search in each cut; with --rounds or --forever, in all",
+        words: "maximum number of states to search in each cut; in total with --rounds or --forever",
         commands: &["certify"],
     },
     OptionRow {
@@ -235,7 +235,7 @@ static OPTIONS: [OptionRow; 29] = [
         letter: "L",
         kind: Kind::Number { least: 0, most: 16 },
         default: Some("0"),
-        words: "how many local instructions may run with a move, if the component allows fewer",
+        words: "least number of local instructions that may run as part of a move; replaces a smaller `local` of the component",
         commands: &["certify"],
     },
     OptionRow {
@@ -251,7 +251,7 @@ static OPTIONS: [OptionRow; 29] = [
         letter: "D",
         kind: Kind::Number { least: 0, most: 8 },
         default: None,
-        words: "workers share schedules by their first D moves; by default, one has a head start",
+        words: "split the search by the first D moves, so that workers share it (by default, one worker searches alone at first, and then D is 4)",
         commands: &["check", "certify"],
     },
     OptionRow {
@@ -307,7 +307,7 @@ static OPTIONS: [OptionRow; 29] = [
         letter: "T",
         kind: Kind::Number { least: 1, most: 8 },
         default: None,
-        words: "number of threads in each matrix (2)",
+        words: "number of threads in each matrix; by default 2",
         commands: &["campaign"],
     },
     OptionRow {
