@@ -8,7 +8,6 @@ use Rattle.std.proofs.lemmas.Option.{slice_get-get_or, slice_get_within}
 use Rattle.lu_history.specs.declared.serial.SerialOp.{SerialOp}
 use Rattle.lu_history.specs.declared.serial.SerialOutcome.{SerialOutcome}
 use Rattle.lu_history.specs.declared.serial.SerialOutcome.TheVariants.{Stuck}
-use Rattle.lu_history.specs.Serial.{IsSerial}
 use Rattle.lu_trie.specs.Members.{Adds}
 use Rattle.lu_spec.specs.declared.marked_line.MarkedOp.{MarkedOp}
 use Rattle.lu_spec.specs.declared.firm.FirmEnds.{FirmEnds}
@@ -36,16 +35,6 @@ erased_at : (q : List MarkedOp) (i : ℕ) (e : MarkedOp) → slice_get q i ≡ S
 erased_at [] i e at = absurd cc
 erased_at (x ∷ q) zero e at = ap (λ (z : MarkedOp). Some z.op) (some_is x e at)
 erased_at (x ∷ q) (suc i) e at = erased_at q i e at
-
--- another operation may end a beginning
-pub serial_end : (q : List MarkedOp) (i : ℕ) (op : SerialOp) → i < length q → IsSerial (erased q) → IsSerial (take i (erased q) ++ op ∷ [])
-serial_end [] i op within serial = absurd (omega arith)
-serial_end (x ∷ q) zero op within serial = (λ stuck. refl, tt)
-serial_end (x ∷ q) (suc i) op within serial = (λ stuck. absurd (goes_on q i (omega arith) (serial.0 stuck)), serial_end q i op (omega arith) serial.1)
-  where
-    goes_on : (p : List MarkedOp) (k : ℕ) → k < length p → erased p ≡ [] → ⊥
-    goes_on [] k less none = omega arith
-    goes_on (y ∷ p) k less none = cc
 
 -- ---- entry after entry
 

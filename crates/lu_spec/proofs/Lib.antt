@@ -15,6 +15,7 @@ pub mod Faultless
 pub mod Rereading
 pub mod FaultLines
 pub mod MarkedWords
+pub mod HistoryKeys
 pub mod FirmSets
 pub mod FreeLines
 pub mod FreeAlike

@@ -12,6 +12,10 @@ Has members q = contains members q ≡ true
 abbrev pub Begins : List SerialOp → List SerialOp → Type 0
 Begins q h = (rest : List SerialOp) × (h ≡ q ++ rest)
 
+-- the two have the same members
+abbrev pub HaveTheSame : List (List SerialOp) → List (List SerialOp) → Type 0
+HaveTheSame members others = (q : List SerialOp) → contains members q ≡ contains others q
+
 -- with each member its beginnings are members
 abbrev pub IsClosed : List (List SerialOp) → Type 0
 IsClosed members = (q h : List SerialOp) → Begins q h → Has members h → Has members q

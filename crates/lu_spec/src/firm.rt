@@ -1,23 +1,22 @@
 //! What is kept of entries without marks, to find firm conflicts.
 
 ghost use Rattle.std.specs.Prelude.{◌≡◌, ◌↔◌, ◌∷◌, ◌++◌, [], IsTrue, IfOk, OnOk};
-ghost use Rattle.lu_history.specs.Serial.{IsSerial};
 ghost use Rattle.lu_spec.specs.FirmEnds.{AddsEnds, KeepsMore, Refuses, RefusesSome, as_kept, without_outcome};
 ghost use Rattle.lu_spec.specs.MarkedEntries.{erased};
 
+use crate::history_set::HistorySet;
 use crate::marked_line::{MarkedOp, erased};
 use lu_history::{SerialOp, SerialOutcome};
-use lu_trie::Trie;
 use std::alloc::{AllocError, Global};
 
 /// The beginnings of listed histories that end with an entry without a mark.
 #[derive(Drop)]
 pub(crate) struct FirmEnds {
     /// These beginnings.
-    pub ends: Trie<Global>,
+    pub ends: HistorySet,
 
     /// The same, each without the outcome of its last operation: `Stuck` stands in its place.
-    pub asked: Trie<Global>,
+    pub asked: HistorySet,
 }
 
 /// Nothing is kept.
@@ -26,8 +25,8 @@ pub(crate) fn nothing_kept(alloc: Global) -> FirmEnds
     ensures asked { result.asked ≡ [] }
 {
     FirmEnds {
-        ends: Trie::new(alloc),
-        asked: Trie::new(alloc),
+        ends: HistorySet::new(alloc),
+        asked: HistorySet::new(alloc),
     }
 }
 
@@ -62,19 +61,19 @@ fn as_kept(op: SerialOp, outcome: bool) -> SerialOp
 /// operations or without.
 fn add_ends(
     alloc: Global,
-    set: &mut Trie<Global>,
+    set: &mut HistorySet,
     entries: &[MarkedOp],
     history: &[SerialOp],
     outcomes: bool,
 ) -> Result<(), AllocError>
-    requires of { history.now ≡ erased entries.now }
-    requires serial { IsSerial history.now }
+    requires { history.now ≡ erased entries.now }
     ensures { OnOk result (AddsEnds (as_kept outcomes) set.old set.new entries.now) }
 {
     for (i, entry) in entries.iter().enumerate() {
         if !entry.marked {
             let last = as_kept(entry.op, outcomes);
-            set.insert(&followed_by(alloc, &history[..i], last)?)?;
+            let end = followed_by(alloc, &history[..i], last)?;
+            set.insert(end)?;
         }
     }
     Ok(())
@@ -87,8 +86,7 @@ pub(crate) fn keep_more(
     entries: &[MarkedOp],
     history: &[SerialOp],
 ) -> Result<FirmEnds, AllocError>
-    requires of { history.now ≡ erased entries.now }
-    requires serial { IsSerial history.now }
+    requires { history.now ≡ erased entries.now }
     ensures { IfOk result (λ next. KeepsMore kept next entries.now) }
 {
     add_ends(alloc, &mut kept.ends, entries, history, true)?;

@@ -2,12 +2,10 @@
 
 ghost use Rattle.std.specs.Prelude.{◌≡◌, [], false, IfErr, IfOk};
 ghost use Rattle.lu_text.specs.Lines.{texts};
-ghost use Rattle.lu_history.specs.Serial.{IsSerial};
 ghost use Rattle.lu_spec.specs.Beginnings.{IsClosureOf};
 ghost use Rattle.lu_spec.specs.Collecting.{has_begun};
 ghost use Rattle.lu_spec.specs.FirmEnds.{AddsFreely, CollectsFreely, IsFreeRefusal, IsOneMoreFree, RefusesFreely};
 ghost use Rattle.lu_spec.specs.FreeSpecs.{IsFreeFault, IsListedFreely};
-ghost use Rattle.lu_spec.specs.MarkedEntries.{erased};
 ghost use Rattle.lu_spec.specs.Specs.{AreOf};
 
 use crate::collecting::{has_begun, lists};
@@ -15,18 +13,17 @@ use crate::fault::{SpecFault, SpecFaultKind};
 use crate::firm::{FirmEnds, keep_more, nothing_kept, refuses_some};
 use crate::fitting::{calls_of, fits_in};
 use crate::free_spec::FreeSpec;
+use crate::history_set::{HistorySet, add_with_beginnings};
 use crate::marked_line::{MarkedOp, erased, marked_history_of};
-use crate::reader::add_beginnings;
 use lu_test::Matrix;
 use lu_text::{Fault, lines_of, words_of};
-use lu_trie::Trie;
 use std::alloc::{AllocError, Global};
 
 /// All beginnings of the histories of the lines so far, what is kept of their entries without
 /// marks, and whether one of these lines had words.
 #[derive(Drop)]
 pub(crate) struct FreeDraft {
-    pub set: Trie<Global>,
+    pub set: HistorySet,
     pub kept: FirmEnds,
     pub begun: bool,
 }
@@ -64,12 +61,11 @@ pub(crate) fn with_entries(
     entries: &[MarkedOp],
     begun: bool,
 ) -> Result<FreeDraft, AllocError>
-    requires { IsSerial (erased entries.now) }
     ensures adds { IfOk result (λ next. AddsFreely draft next entries.now) }
     ensures begun { IfOk result (λ next. next.begun ≡ begun) }
 {
     let history = erased(alloc, entries)?;
-    add_beginnings(&mut draft.set, &history)?;
+    add_with_beginnings(alloc, &mut draft.set, &history)?;
     let kept = keep_more(alloc, draft.kept, entries, &history)?;
     Ok(FreeDraft {
         set: draft.set,
@@ -107,8 +103,8 @@ pub(crate) fn no_lines(alloc: Global) -> Result<FreeDraft, AllocError>
     ensures asked { IfOk result (λ draft. draft.kept.asked ≡ []) }
     ensures begun { IfOk result (λ draft. draft.begun ≡ false) }
 {
-    let mut set = Trie::new(alloc);
-    add_beginnings(&mut set, &[])?;
+    let mut set = HistorySet::new(alloc);
+    add_with_beginnings(alloc, &mut set, &[])?;
     Ok(FreeDraft {
         set,
         kept: nothing_kept(alloc),
@@ -141,5 +137,6 @@ pub fn collect_free_spec(alloc: Global, matrix: &Matrix, text: &[u8]) -> Result<
         let words = words_of(alloc, line)?;
         draft = collect_free_line(alloc, matrix, draft, &words, index + 1)?;
     }
-    Ok(FreeSpec::of_closed(draft.set))
+    let set = draft.set.into_trie(alloc)?;
+    Ok(FreeSpec::of_closed(set))
 }

@@ -27,6 +27,7 @@ mod free_faults;
 mod free_spec;
 mod given;
 mod history_line;
+mod history_set;
 pub mod laws;
 mod marked_line;
 mod reader;

@@ -10,7 +10,7 @@ use Rattle.lu_witness.specs.Witnesses.{IsMember}
 use Rattle.lu_tree.specs.declared.found.Found.{Found}
 use Rattle.lu_tree.specs.declared.found.Found.TheVariants.{Clean, Bad, Abandoned}
 use Rattle.lu_tree.specs.declared.halt.Halt.{Halt}
-use Rattle.lu_tree.specs.declared.halt.Halt.TheVariants.{NotGood, Stopped}
+use Rattle.lu_tree.specs.declared.halt.Halt.TheVariants.{NotGood, Stopped, Memory}
 use Rattle.lu_tree.specs.declared.known.Known.{Known}
 use Rattle.lu_tree.specs.declared.node.Node.{Node}
 use Rattle.lu_tree.specs.declared.progress.WalkProgress.{WalkProgress}
@@ -32,16 +32,19 @@ pub walked_by : {T Place : Type 0} (members : T → List (List SerialOp)) (node 
 walked_by members node left tally end IsTold (Ok known) passed halts told = passed known told
 walked_by members node left tally end IsTold (Err NotGood) passed halts told = halts refl
 walked_by members node left tally end IsTold (Err Stopped) passed halts told = tt
+walked_by members node left tally end IsTold (Err Memory) passed halts told = tt
 
 -- and where it halts at a schedule
 pub halts_at : {T Place : Type 0} (members : T → List (List SerialOp)) (node : Node T Place) (left : ℕ) (tally : WalkProgress) (end : Node T Place) (halt : Halt) → halt ≡ NotGood → IsWalked members node left tally end (Err halt) → HaltsAtNode members node left tally end
 halts_at members node left tally end NotGood is walked = walked
 halts_at members node left tally end Stopped is walked = absurd cc
+halts_at members node left tally end Memory is walked = absurd cc
 
 -- a walk that halts below a node halts below the one before it for the same cause
 pub halted_above : {T Place : Type 0} (members : T → List (List SerialOp)) (node below end : Node T Place) (left less : ℕ) (tally longer : WalkProgress) (halt : Halt) → (HaltsAtNode members below less tally end → HaltsAtNode members node left longer end) → IsWalked members below less tally end (Err halt) → IsWalked members node left longer end (Err halt)
 halted_above members node below end left less tally longer NotGood more walked = more walked
 halted_above members node below end left less tally longer Stopped more walked = tt
+halted_above members node below end left less tally longer Memory more walked = tt
 
 -- a tally whose path is as it was
 pub ready_still : (before after : WalkProgress) → after.path ≡ before.path → IsReadyToWalk before → IsReadyToWalk after

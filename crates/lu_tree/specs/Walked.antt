@@ -7,7 +7,7 @@ use Rattle.lu_history.specs.declared.serial.SerialOp.{SerialOp}
 use Rattle.lu_tree.specs.declared.found.Found.{Found}
 use Rattle.lu_tree.specs.declared.found.Found.TheVariants.{Clean, Bad, Abandoned}
 use Rattle.lu_tree.specs.declared.halt.Halt.{Halt}
-use Rattle.lu_tree.specs.declared.halt.Halt.TheVariants.{NotGood, Stopped}
+use Rattle.lu_tree.specs.declared.halt.Halt.TheVariants.{NotGood, Stopped, Memory}
 use Rattle.lu_tree.specs.declared.known.Known.{Known}
 use Rattle.lu_tree.specs.declared.node.Node.{Node}
 use Rattle.lu_tree.specs.declared.progress.WalkProgress.{WalkProgress}
@@ -38,18 +38,20 @@ pub record Passed {T Place : Type 0} (members : T → List (List SerialOp)) (nod
   pub known : IsKnownNode members node left below
 
 -- The walk passed; or it halted at a schedule that ends, and all before it are good; or the watch
--- stopped it.
+-- stopped it; or memory was refused.
 abbrev pub IsWalked : {T Place : Type 0} → (T → List (List SerialOp)) → Node T Place → ℕ
     → WalkProgress → Node T Place → Result Known Halt → Type 0
 IsWalked members node left tally end (Ok below) = Passed members node left tally end below
 IsWalked members node left tally end (Err NotGood) = HaltsAtNode members node left tally end
 IsWalked members node left tally end (Err Stopped) = Unit {0}
+IsWalked members node left tally end (Err Memory) = Unit {0}
 
 -- the watch stopped the walk
 abbrev pub was_stopped : Result Known Halt → Bool
 was_stopped (Ok below) = false
 was_stopped (Err NotGood) = false
 was_stopped (Err Stopped) = true
+was_stopped (Err Memory) = false
 
 -- the numbers of a schedule that is cut at the node, or ends there, and nothing of states that
 -- follow

@@ -1,13 +1,13 @@
 //! What is known of the schedules that go on from a beginning.
 
-ghost use Rattle.std.specs.Prelude.{◌≡◌, ◌<◌, [], IfSome};
+ghost use Rattle.std.specs.Prelude.{◌≡◌, ◌<◌, [], IfOk, IfSome};
 ghost use Rattle.lu_machine.specs.Sums.{plus};
 ghost use Rattle.lu_test.specs.declared.matrix.TheConstants.{MOST_THREADS};
 ghost use Rattle.lu_tree.specs.Known.{IsAmongOr, IsHint, IsHintOr, IsKid, TellsNoMore, counts_of, kids_of};
 
 use crate::thread_set::ThreadSet;
 use lu_machine::Counts;
-use std::alloc::Global;
+use std::alloc::{AllocError, Global};
 
 /// Which part of the room that is left, in beginnings, one may take with those that go on from it.
 const SHARE: u32 = 4;
@@ -101,19 +101,19 @@ impl Known {
         self.counts = self.counts.plus(below);
     }
 
-    /// Keeps what is known after a move of a thread with this many moves: where it is the only one,
-    /// and memory is not refused.
-    pub(crate) fn keep(&mut self, picks: u8, thread: u8, below: Known)
+    /// Keeps what is known after a move of a thread with this many moves, where it is the only one.
+    pub(crate) fn keep(&mut self, picks: u8, thread: u8, below: Known) -> Result<(), AllocError>
         ensures counts { counts_of self.new ≡ counts_of self.old }
         ensures kids { IsAmongOr (thread, below) (kids_of self.old) (kids_of self.new) }
     {
         if picks != 1 {
-            return;
+            return Ok(());
         }
         let size = self.size.saturating_add(below.size);
-        if self.kids.reserve_exact(1).is_ok() && self.kids.push((thread, below)).is_ok() {
-            self.size = size;
-        }
+        self.kids.reserve_exact(1)?;
+        self.kids.push((thread, below))?;
+        self.size = size;
+        Ok(())
     }
 
     /// Of how many beginnings it tells that are no more than this many moves longer. No clause says
@@ -141,37 +141,43 @@ impl Known {
 
     /// What it tells of beginnings that are no more than this many moves longer, and in which some
     /// of these threads have not moved.
-    fn within(self, alloc: Global, moves: u8, waiting: ThreadSet) -> Known
-        ensures { TellsNoMore self result }
+    fn within(self, alloc: Global, moves: u8, waiting: ThreadSet) -> Result<Known, AllocError>
+        ensures { IfOk result (TellsNoMore self) }
     {
         let mut known = Known::alone(alloc, self.counts);
         if moves == 0 {
-            return known;
+            return Ok(known);
         }
         for (thread, below) in self.kids {
             let others = waiting.without(thread);
             if others.is_empty() {
                 continue;
             }
-            known.keep(1, thread, below.within(alloc, moves - 1, others));
+            let nearer = below.within(alloc, moves - 1, others)?;
+            known.keep(1, thread, nearer)?;
         }
-        known
+        Ok(known)
     }
 
     /// What of it a walk keeps as it comes back from a beginning in which these threads moved:
     /// where all would take too much of the room, what may be asked for, and of that the shortest
     /// beginnings alone. For what is known after a thread's move is asked for as long as that
     /// thread does not move again, so nothing is where all of these have.
-    pub(crate) fn keep_nearest(self, alloc: Global, room: u32, moved: ThreadSet) -> Known
-        ensures { TellsNoMore self result }
+    pub(crate) fn keep_nearest(
+        self,
+        alloc: Global,
+        room: u32,
+        moved: ThreadSet,
+    ) -> Result<Known, AllocError>
+        ensures { IfOk result (TellsNoMore self) }
     {
         let most = room / SHARE;
         if self.size <= most {
-            return self;
+            return Ok(self);
         }
-        let asked = self.within(alloc, u8::MAX, moved);
+        let asked = self.within(alloc, u8::MAX, moved)?;
         if asked.size <= most {
-            return asked;
+            return Ok(asked);
         }
         let moves = asked.moves_within(most);
         asked.within(alloc, moves, moved)

@@ -122,6 +122,7 @@ pub(crate) fn search_below<'t, T: SerialTree, W: Watch>(
         Ok(known) => Ok(Found::Clean(known.counts)),
         Err(Halt::NotGood) => found_bad(space.alloc, cache, from, &tally.path, node),
         Err(Halt::Stopped) => Ok(Found::Abandoned),
+        Err(Halt::Memory) => Err(AllocError),
     }
 }
 

@@ -1,6 +1,6 @@
 //! The last moves of a run, in any order.
 
-ghost use Rattle.std.specs.Prelude.{◌≡◌, ◌≢◌, ◌+◌, ◌<◌, ◌≤◌, ◌^◌, false, IfSome, IsTrue, length, get_or, slice_set};
+ghost use Rattle.std.specs.Prelude.{◌≡◌, ◌≢◌, ◌+◌, ◌<◌, ◌≤◌, ◌^◌, false, IfOk, IfSome, IsTrue, length, get_or, slice_set};
 ghost use Rattle.lu_machine.specs.States.{progress};
 ghost use Rattle.lu_history.specs.Standing.{Agree};
 ghost use Rattle.lu_witness.specs.Caches.{SameButEntries};
@@ -19,7 +19,7 @@ use lu_machine::{Counts, Machine, Status};
 use lu_test::Move;
 use lu_trie::SerialTree;
 use lu_witness::Cache;
-use std::alloc::Global;
+use std::alloc::{AllocError, Global};
 
 /// One move more of thread `t`.
 fn one_more(lengths: Vec<usize>, t: u8) -> Vec<usize>
@@ -114,20 +114,19 @@ fn no_moves<'t, T: SerialTree>(
     cache: &mut Cache<'t, T>,
     question: TailQuestion,
     node: &mut Node<'_, 't, T>,
-) -> Option<Vec<usize>>
+) -> Result<Option<Vec<usize>>, AllocError>
     requires agree { Agree (progress node.old.machine) node.old.trail.history }
     requires tree { cache.old.tree ≡ node.old.trail.tree }
     ensures cache { SameButEntries cache.old cache.new }
     ensures same { node.new ≡ node.old }
-    ensures rest { IfSome result (λ ns. IsRestOfNone T.members node.old question ns.items) }
+    ensures rest { IfOk result (λ found.
+        IfSome found (λ ns. IsRestOfNone T.members node.old question ns.items)) }
 {
     if !is_judged_end(alloc, cache, question.judging, node) {
-        return None;
+        return Ok(None);
     }
-    match vec![in alloc; 0; usize::from(node.machine.threads())] {
-        Ok(lengths) => Some(lengths),
-        Err(_) => None,
-    }
+    let lengths = vec![in alloc; 0; usize::from(node.machine.threads())]?;
+    Ok(Some(lengths))
 }
 
 /// Runs thread `t` and those after it to their ends, one after the other, and takes it back. Where
@@ -141,14 +140,15 @@ fn finish<'t, const RUNS_LOCAL: bool, T: SerialTree>(
     t: u8,
     left: usize,
     node: &mut Node<'_, 't, T>,
-) -> Option<Vec<usize>>
+) -> Result<Option<Vec<usize>>, AllocError>
     requires one { RUNS_LOCAL ≡ false → node.old.machine.component.local ≡ 0 }
     requires agree { Agree (progress node.old.machine) node.old.trail.history }
     requires tree { cache.old.tree ≡ node.old.trail.tree }
     requires within { t ≤ length node.old.machine.threads }
     ensures cache { SameButEntries cache.old cache.new }
     ensures same { node.new ≡ node.old }
-    ensures rest { IfSome result (λ ns. IsRestOf T.members node.old question t left ns.items) }
+    ensures rest { IfOk result (λ found.
+        IfSome found (λ ns. IsRestOf T.members node.old question t left ns.items)) }
 {
     let threads = node.machine.threads();
     if t == threads {
@@ -158,14 +158,15 @@ fn finish<'t, const RUNS_LOCAL: bool, T: SerialTree>(
         return finish::<RUNS_LOCAL, T>(alloc, cache, question, t + 1, left, node);
     }
     if left == 0 || !may_move(question, &node.machine, t) {
-        return None;
+        return Ok(None);
     }
     let undo = node.enter::<RUNS_LOCAL>(Move { thread: t, pick: 0 });
     let found = finish::<RUNS_LOCAL, T>(alloc, cache, question, t, left - 1, node);
     node.leave(undo);
     match found {
-        None => None,
-        Some(lengths) => Some(one_more(lengths, t)),
+        Ok(Some(lengths)) => Ok(Some(one_more(lengths, t))),
+        Ok(None) => Ok(None),
+        Err(refused) => Err(refused),
     }
 }
 
@@ -174,27 +175,27 @@ fn question_at<'t, T: SerialTree>(
     ahead: &Lookahead<'_>,
     left: usize,
     node: &mut Node<'_, 't, T>,
-) -> Option<TailQuestion>
+) -> Result<Option<TailQuestion>, AllocError>
     ensures same { node.new ≡ node.old }
-    ensures after { IfSome result (λ q. StartsAfter q.judging node.old.trail.history) }
+    ensures after { IfOk result (λ found.
+        IfSome found (λ q. StartsAfter q.judging node.old.trail.history)) }
 {
-    if let Some(sharers) = ahead.tables.horizon.last_sharers(&node.machine, left) {
-        return Some(TailQuestion {
+    let horizon = &ahead.tables.horizon;
+    if let Some(sharers) = horizon.last_sharers(&node.machine, left) {
+        return Ok(Some(TailQuestion {
             sharers,
             judging: Judging::OneVerdict,
-        });
+        }));
     }
-    let sharers = ahead
-        .tables
-        .horizon
-        .sharers(&node.machine, left == usize::from(ahead.most))?;
-    match node.trail.returned(ahead.alloc) {
-        Err(_) => None,
-        Ok(ops) => Some(TailQuestion {
-            sharers,
-            judging: Judging::EveryOrder(ops.len()),
-        }),
-    }
+    let is_first = left == usize::from(ahead.most);
+    let Some(sharers) = horizon.sharers(&node.machine, is_first) else {
+        return Ok(None);
+    };
+    let ops = node.trail.returned(ahead.alloc)?;
+    Ok(Some(TailQuestion {
+        sharers,
+        judging: Judging::EveryOrder(ops.len()),
+    }))
 }
 
 /// Where all schedules below the node end within `left` moves, complete and good, how many there
@@ -204,17 +205,22 @@ fn complete_below<'t, const RUNS_LOCAL: bool, T: SerialTree>(
     ahead: &Lookahead<'_>,
     left: usize,
     node: &mut Node<'_, 't, T>,
-) -> Option<u64>
+) -> Result<Option<u64>, AllocError>
     requires one { RUNS_LOCAL ≡ false → node.old.machine.component.local ≡ 0 }
     requires agree { Agree (progress node.old.machine) node.old.trail.history }
     requires tree { cache.old.tree ≡ node.old.trail.tree }
     ensures cache { SameButEntries cache.old cache.new }
     ensures same { node.new ≡ node.old }
-    ensures tail { IfSome result (IsGoodTailOf T.members node.old left) }
+    ensures tail { IfOk result (λ n. IfSome n (IsGoodTailOf T.members node.old left)) }
 {
-    let question = question_at(ahead, left, node)?;
-    let lengths = finish::<RUNS_LOCAL, T>(ahead.alloc, cache, question, 0, left, node)?;
-    ahead.tables.orders.interleavings(&lengths)
+    let Some(question) = question_at(ahead, left, node)? else {
+        return Ok(None);
+    };
+    let found = finish::<RUNS_LOCAL, T>(ahead.alloc, cache, question, 0, left, node)?;
+    let Some(lengths) = found else {
+        return Ok(None);
+    };
+    Ok(ahead.tables.orders.interleavings(&lengths))
 }
 
 /// Where no schedule from the machine's state ends within `left` moves, how many are cut: none
@@ -233,25 +239,28 @@ pub(crate) fn counted_below<'t, const RUNS_LOCAL: bool, T: SerialTree>(
     ahead: &Lookahead<'_>,
     left: u16,
     node: &mut Node<'_, 't, T>,
-) -> Option<Counts>
+) -> Result<Option<Counts>, AllocError>
     requires one { RUNS_LOCAL ≡ false → node.old.machine.component.local ≡ 0 }
     requires serves { ServesAhead ahead.now node.old.machine }
     requires agree { Agree (progress node.old.machine) node.old.trail.history }
     requires tree { cache.old.tree ≡ node.old.trail.tree }
     ensures cache { SameButEntries cache.old cache.new }
     ensures same { node.new ≡ node.old }
-    ensures below { IfSome result (AreBelowNode T.members node.old left) }
+    ensures below { IfOk result (λ found. IfSome found (AreBelowNode T.members node.old left)) }
 {
     let left = usize::from(left);
     if let Some(cut) = cut_below(ahead, left, &node.machine) {
-        return Some(Counts {
+        return Ok(Some(Counts {
             cut,
             ..Counts::NONE
-        });
+        }));
     }
-    let complete = complete_below::<RUNS_LOCAL, T>(cache, ahead, left, node)?;
-    Some(Counts {
+    let found = complete_below::<RUNS_LOCAL, T>(cache, ahead, left, node)?;
+    let Some(complete) = found else {
+        return Ok(None);
+    };
+    Ok(Some(Counts {
         complete,
         ..Counts::NONE
-    })
+    }))
 }

@@ -123,8 +123,8 @@ fn pass<W: Watch>(
 }
 
 /// Walks the schedules below the node, of no more than `left` moves, in order. Returns what is then
-/// known; or why the walk halts, at the first that is not found good, or where the watch stops it.
-/// It is then still there.
+/// known; or why the walk halts: at the first that is not found good, where the watch stops it, or
+/// where memory is refused. It is then still there.
 pub(crate) fn walk<'a, 't, T: SerialTree, W: Watch>(
     cache: &mut Cache<'t, T>,
     watch: &mut W,
@@ -188,7 +188,8 @@ fn walk_as<'a, 't, const RUNS_LOCAL: bool, T: SerialTree, W: Watch>(
     if left == 0 {
         return end(ahead.alloc, cache, watch, node, tally);
     }
-    if let Some(counts) = counted_below::<RUNS_LOCAL, T>(cache, ahead, left, node) {
+    let counted = counted_below::<RUNS_LOCAL, T>(cache, ahead, left, node)?;
+    if let Some(counts) = counted {
         return pass(ahead.alloc, counts, watch, tally);
     }
     let mut is_ended = true;
@@ -224,11 +225,12 @@ fn walk_as<'a, 't, const RUNS_LOCAL: bool, T: SerialTree, W: Watch>(
             };
             node.leave(undo);
             known.add(below.counts);
-            known.keep(picks, thread, below);
+            known.keep(picks, thread, below)?;
         }
     }
     if is_ended {
         return end(ahead.alloc, cache, watch, node, tally);
     }
-    Ok(known.keep_nearest(ahead.alloc, visit.room, visit.moved))
+    let nearest = known.keep_nearest(ahead.alloc, visit.room, visit.moved)?;
+    Ok(nearest)
 }

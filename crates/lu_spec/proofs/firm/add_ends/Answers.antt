@@ -1,19 +1,12 @@
-use Rattle.std.proofs.Common.{◌∙◌, ◌+◌, List, rules, sym, subst}
+use Rattle.std.proofs.Common.{◌+◌, List, rules, sym, subst}
 use Rattle.lu_history.specs.declared.serial.SerialOp.{SerialOp}
-use Rattle.lu_history.specs.Serial.{IsSerial}
 use Rattle.lu_spec.specs.FirmEnds.{as_kept}
-use Rattle.lu_spec.proofs.FirmSets.{AddedTo, all_added, none_added, one_added_firm, one_marked, serial_end}
-use Rattle.lu_spec.proofs.firm.add_ends.Goals.{then-not-entry+in_ok-followed_by+in_ok-insert, else-not-entry}
+use Rattle.lu_spec.proofs.FirmSets.{AddedTo, all_added, none_added, one_added_firm, one_marked}
+use Rattle.lu_spec.proofs.firm.add_ends.Goals.{then-not-entry+in_ok-end+in_ok-insert, else-not-entry}
 use Rattle.lu_spec.proofs.firm.add_ends.Goals as goal
 
 pub loop-i-init : goal.loop-i-init
 loop-i-init c = none_added (as_kept c.args.outcomes) c.args.entries.now c.args.set.now
-
-pub insert-requires : goal.insert-requires
-insert-requires c =
-    let longer = rw c.requires.of at (c.deref.ensures.value ∙ c.in_ok-followed_by.ensures) in
-    let serial = subst IsSerial c.requires.of c.requires.serial in
-    subst IsSerial (sym longer) (serial_end c.args.entries.now c.loop-i.i _ c.loop-i-test.true serial)
 
 pub loop-i-preserved : goal.loop-i-preserved
 loop-i-preserved c =
@@ -22,10 +15,10 @@ loop-i-preserved c =
     let i = c.loop-i.i in
     let last = as_kept c.args.outcomes in
     elim c.if-not-entry.branch as (λ _. AddedTo last old c.if-not-entry.set q (i + 1)) [
-      | then-not-entry+in_ok-followed_by+in_ok-insert w ↦
-          let longer = rw (c.requires.of, w.as_kept-last.ensures) at (w.deref.ensures.value ∙ w.in_ok-followed_by.ensures) in
+      | then-not-entry+in_ok-end+in_ok-insert w ↦
+          let longer = rw (c.requires, w.as_kept-last.ensures) at w.in_ok-end.ensures in
           subst (λ (s : List (List SerialOp)). AddedTo last old s q (i + 1)) (sym w.set-is)
-          (one_added_firm last q i _ c.loop-i-test.true old c.loop-i.set w.insert.new.self w.deref.result.now w.if-not-entry.true longer c.loop-i.invariant w.in_ok-insert.ensures.ok)
+          (one_added_firm last q i _ c.loop-i-test.true old c.loop-i.set w.insert.new.self w.in_ok-end.end.items w.if-not-entry.true longer c.loop-i.invariant w.in_ok-insert.ensures)
       | else-not-entry w ↦
           subst (λ (s : List (List SerialOp)). AddedTo last old s q (i + 1)) (sym w.set-is)
           (one_marked last q i _ c.loop-i-test.true old c.loop-i.set w.if-not-entry.false c.loop-i.invariant)

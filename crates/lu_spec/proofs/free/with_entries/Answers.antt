@@ -5,6 +5,6 @@ use Rattle.lu_spec.proofs.free.with_entries.Goals as goal
 
 pub returns-clause-adds : goal.returns-clause-adds
 returns-clause-adds c = record {
-  set = subst (λ (h : List SerialOp). AddsBeginnings c.args.draft.set c.add_beginnings.new.set h) (c.deref.ensures.value ∙ c.in_ok-history.ensures) c.in_ok-add_beginnings.ensures;
+  set = subst (λ (h : List SerialOp). AddsBeginnings c.args.draft.set c.add_with_beginnings.new.set h) (c.deref.ensures.value ∙ c.in_ok-history.ensures) c.in_ok-add_with_beginnings.ensures;
   kept = c.in_ok-kept.ensures;
 }

@@ -22,6 +22,6 @@ returns-clause-below g c =
     let h = c.args.node.now.trail.history in
     let Set = IsMember (g.T.SerialTree.members c.args.node.now.trail.tree) in
     let left = c.args.left in
-    let n = c.in_ok-complete.complete in
-    let tail : IsGoodTail Set s h left n = subst (λ m. IsGoodTail Set s h m n) c.from-left.ensures c.in_ok-complete.ensures.tail in
+    let n = c.in-Some-found.complete in
+    let tail : IsGoodTail Set s h left n = subst (λ m. IsGoodTail Set s h m n) c.from-left.ensures (rw c.in-Some-found.is at c.in_ok-found.ensures.tail) in
     below_here Set s h left (completes n) (λ k re. tail_all Set left n s h k c.requires.agree re tail)

@@ -222,7 +222,7 @@ returns-in-Some-clause-walked g t c =
       machine = (ap (λ n. n.machine) there.same);
       history = (ap (λ n. n.trail.history) there.same);
       ready = ready_still c.args.tally.now c.pass.new.tally c.pass.ensures.path c.requires.ready;
-      known = known_alone Set s h c.args.visit.now.left known c.in-Some.counts alone.0 alone.1 c.in-Some.ensures.below;
+      known = known_alone Set s h c.args.visit.now.left known c.in-Some.counts alone.0 alone.1 (rw c.in-Some.is at c.in_ok-counted.ensures.below);
     })
     (λ is. absurd (c.pass.ensures.halts is))
     c.pass.ensures.alone
@@ -272,7 +272,7 @@ returns-clause-walked g t c =
       machine = i.machine;
       history = i.history;
       ready = i.ready;
-      known = c.keep_nearest.ensures (g.T.SerialTree.members c.args.node.now.trail.tree) s h c.args.visit.now.left known;
+      known = c.in_ok-nearest.ensures (g.T.SerialTree.members c.args.node.now.trail.tree) s h c.args.visit.now.left known;
     }
 
 pub loop-pick-init : goal.loop-pick-init
@@ -327,3 +327,15 @@ returns-in-Err-clause-stays g t c =
       room = rw c.push_reserved.ensures.capacity below.room;
       short = omega (arith, ap length c.push_reserved.ensures.items);
     }
+
+pub returns-in_err-keep-clause-stays : goal.returns-in_err-keep-clause-stays
+returns-in_err-keep-clause-stays g t c =
+    let s = c.args.node.now.machine in
+    let i = c.loop-pick.invariant in
+    let w = c.in-Ok.ensures.walked in
+    let home : c.hints_after.new.machine ≡ s = c.hints_after.ensures.machine ∙ i.machine in
+    stays_home c.args.node.now c.leave.new.self c.args.visit.now.left c.walk_as-walked.new.tally
+    (c.leave.ensures.tree ∙ c.walk_as-walked.ensures.stays.run.tree ∙ c.enter-undo.ensures.tree ∙ i.tree)
+    (c.leave.ensures.machine ∙ (ap (restored c.enter-undo.result) w.machine ∙ (c.enter-undo.ensures.back ∙ home)))
+    (c.leave.ensures.history c.loop-pick.node.trail.history (w.history ∙ c.enter-undo.ensures.history) ∙ i.history)
+    c.requires.agree w.ready

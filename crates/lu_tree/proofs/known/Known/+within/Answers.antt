@@ -25,7 +25,7 @@ loop-thread-preserved t c =
     record {
       counts = search (rules, i.counts);
       rest = here.1;
-      kids = kids_more_told c.args.self c.loop-thread.known c.keep.new.self c.in-Some.thread c.in-Some.below c.within.result i.kids c.keep.ensures.kids here.0 c.within.ensures;
+      kids = kids_more_told c.args.self c.loop-thread.known c.keep.new.self c.in-Some.thread c.in-Some.below c.in_ok-nearer.nearer i.kids c.keep.ensures.kids here.0 c.in_ok-nearer.ensures;
     }
 
 pub returns : goal.returns
