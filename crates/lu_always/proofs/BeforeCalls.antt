@@ -11,9 +11,9 @@ use Rattle.lu_history.specs.Parts.{keep_pending}
 use Rattle.lu_history.specs.Serial.{IsSerial}
 use Rattle.lu_witness.specs.Witnesses.{HasWitness}
 use Rattle.lu_linearization.specs.declared.configuration.Configuration.{Configuration as Shown}
-use Rattle.lu_linearization.specs.Configurations.{AllTakeEffect, AreSame, Configuration, HasStuck, IsAutomaton, ReadsPrefixes, pending_call}
+use Rattle.lu_linearization.specs.Configurations.{AllTakeEffect, AreSame, Configuration, HasStuck, IsAutomaton, IsConfiguration, ReadsPrefixes, pending_call}
 use Rattle.lu_linearization.specs.Linearizations.{HasSequentialThreads}
-use Rattle.lu_linearization.specs.Monitors.{CanBeStuck, IsMonitorOf, IsStuckFrom}
+use Rattle.lu_linearization.specs.Monitors.{CanBeStuck, Holds, IsMonitorOf, IsStuckFrom}
 use Rattle.lu_linearization.proofs.Configured.{call_law, stuck_is_configured}
 use Rattle.lu_linearization.proofs.Layers.{same_itself}
 
@@ -54,3 +54,9 @@ module _ (Set : List SerialOp → Type 0) (LeadsTo : List SerialOp → ℕ → T
         (λ (c, held, stuck).
             law.1 (c, (call_law LeadsTo Next call auto h a c sequential).1 (c, [], (is c).0 held, tt, same_itself c), stuck.0, stuck.1)),
       )
+
+  -- So it can where only some of the configurations before the call are known.
+  pub part_before : (h : List Event) (a : OpId) (m : List Shown) → HasSequentialThreads (h ++ Call a.t a.k ∷ []) → IsPending (h ++ Call a.t a.k ∷ []) a → HasStuck Set LeadsTo (λ x. IsStuckFrom Next x (call a)) (h ++ Call a.t a.k ∷ []) a → ((d : Configuration ℕ) → Holds m d → IsConfiguration LeadsTo h d) → CanBeStuck Next (call a) m → HasWitness Set (keep_pending a.t (h ++ Call a.t a.k ∷ []))
+  part_before h a m sequential waits has part (c, held, stuck) =
+      let law = stuck_is_configured Set LeadsTo (λ x k. IsStuckFrom Next x k) call reads serial (h ++ Call a.t a.k ∷ []) a sequential waits has in
+      law.1 (c, (call_law LeadsTo Next call auto h a c sequential).1 (c, [], part c held, tt, same_itself c), stuck.0, stuck.1)

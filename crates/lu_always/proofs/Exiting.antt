@@ -28,7 +28,7 @@ use Rattle.lu_tree.proofs.AlikeRuns.{alike_back}
 use Rattle.lu_always.specs.Stored.{StoredNode}
 use Rattle.lu_always.specs.Clearing.{IsCleared}
 use Rattle.lu_always.specs.Exits.{AreExits, AreExitsOf, AreReached, AreReachedBy, MovesTo}
-use Rattle.lu_always.specs.Searching.{AreExitsOfFirst, Grows, HoldsOf, IsNodeAt, node_at, node_of}
+use Rattle.lu_always.specs.Searching.{AreExitsOfFirst, Grows, HoldsOf, IsCoveredAt, node_at, node_of}
 use Rattle.lu_always.specs.StepLivelocks.{MayEndBySteps, OpenStepsLead}
 use Rattle.lu_always.specs.Sinks.{Graph, IsSink, PathLeads, ReachesSink}
 use Rattle.lu_answers.specs.declared.rounds.Rounds.{Rounds}
@@ -46,7 +46,7 @@ pub client_feasible : (rounds : Rounds) (s : State) (m : Move) (b : State) (even
 client_feasible rounds s m b event step = let it = (moves_in_order (limit_of rounds) s m b event).0 step in step_feasible s m it.0 event it.1
 
 -- the node that is stored for the state to which the move leads
-pub moves_made : (dead : DeadTable) (rounds : Rounds) (s : State) (m : Move) (b : State) (event : Option Event) (cleared : State) (all : List StoredNode) (index : ℕ) (monitor : _) → ClientStep (way_of rounds) s m b event → IsCleared dead b cleared → IsNodeAt all index (node_at cleared monitor) → MovesTo dead rounds all s m index
+pub moves_made : (dead : DeadTable) (rounds : Rounds) (s : State) (m : Move) (b : State) (event : Option Event) (cleared : State) (all : List StoredNode) (index : ℕ) (monitor : _) → ClientStep (way_of rounds) s m b event → IsCleared dead b cleared → IsCoveredAt all index (node_at cleared monitor) → MovesTo dead rounds all s m index
 moves_made dead rounds s m b event cleared all index monitor step clear is =
     (is.0, b, event, is.1, step, stored_alike dead rounds s m b event cleared is.0.position step clear is.2.0)
 

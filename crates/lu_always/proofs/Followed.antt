@@ -49,8 +49,10 @@ use Rattle.lu_serial.proofs.Moves.{complete_done, done_of}
 use Rattle.lu_serial.proofs.Serially.{leads_matrix, leads_seats}
 use Rattle.lu_linearization.specs.declared.configuration.Configuration.{Configuration as Shown}
 use Rattle.lu_linearization.specs.Linearizations.{AllReturned, HasSequentialThreads, HasOutcome}
-use Rattle.lu_linearization.specs.Configurations.{HasStuck, HasComplete, ReadsPrefixes}
-use Rattle.lu_linearization.specs.Monitors.{IsMonitorOf, IsStuckFrom, CanBeStuck}
+use Rattle.lu_linearization.specs.Configurations.{Configuration, HasStuck, HasComplete, IsConfiguration, ReadsPrefixes, pending_call}
+use Rattle.lu_linearization.specs.Monitors.{Holds, IsMonitorOf, IsStuckFrom, CanBeStuck, configuration_of}
+use Rattle.lu_linearization.proofs.Configured.{call_law, complete_is_configured, puts_waits, return_is_configured, stuck_is_configured}
+use Rattle.lu_linearization.proofs.Layers.{same_itself}
 use Rattle.lu_linearization.proofs.Monitored.{monitor_calls, monitor_completes, monitor_returns, monitor_starts, monitor_sticks}
 use Rattle.lu_linearization.proofs.Sequential.{in_turn, is_pending, pending_count}
 use Rattle.lu_client.specs.Rounds.{IsUnrolledFrom, Way}
@@ -63,9 +65,9 @@ use Rattle.lu_client.proofs.OneCalls.{within_some}
 use Rattle.lu_client.proofs.Outcomes.{begin_rests, stuck_is_played}
 use Rattle.lu_client.proofs.Played.{IsReady, ready, serial_is_played}
 use Rattle.lu_answers.specs.Tables.{Goes, IsTableOf, LeadsTo, Table}
-use Rattle.lu_always.specs.Nodes.{AreNodes, IsAfterMove, IsFirst, IsGoodNode, MovesLead, Node, Represents, waits_in}
+use Rattle.lu_always.specs.Nodes.{AreNodes, IsAfterMove, IsFirst, IsGoodNode, IsWithin, MovesLead, Node, Represents, waits_in}
 use Rattle.lu_always.specs.Steps.{AreStepNodes, HasNodeAfter, IsGoodBeforeCalls}
-use Rattle.lu_always.proofs.BeforeCalls.{sticks_before}
+use Rattle.lu_always.proofs.BeforeCalls.{part_before, sticks_before}
 use Rattle.lu_always.proofs.ClientCalls.{client_picks, open_not_idle, work_open}
 use Rattle.lu_always.proofs.SamePlaces.{HaveSamePlaces, alike_places, client_places, idle_there, one_step_there, places_on}
 use Rattle.lu_always.proofs.Likeness.{MovesOnce, alike_on, alike_open, client_alike}
@@ -84,6 +86,11 @@ entry_stands q i op at =
     let parts : entries t q ≡ entries t (take i q) ++ op.outcome ∷ entries t (drop (suc i) q) =
     ap (entries t) (split_at q op i at) ∙ (entries-append t (take i q) (op ∷ drop (suc i) q) ∙ ap (λ x. entries t (take i q) ++ x) (entries_own op (drop (suc i) q))) in
     ap (λ x. slice_get x (length (entries t (take i q)))) parts ∙ last_at (entries t (take i q)) (entries t (drop (suc i) q)) op.outcome
+
+-- where a list is not empty, something holds of one of its configurations
+one_held : (m : List Shown) → m ≢ [] → (P : Configuration ℕ → Type 0) → ((d : Configuration ℕ) → Holds m d → P d) → (d : Configuration ℕ) × P d
+one_held [] some P held = absurd (some refl)
+one_held (x ∷ m) some P held = (configuration_of x, held (configuration_of x) (inl (same_itself (configuration_of x))))
 
 none_by : (a b : ℕ) → a ≡ b → b ≡ 0 → a ≡ 0
 none_by a b same none = same ∙ none
@@ -149,6 +156,75 @@ module _ (c : Component) (way : Way) (matrix big : Matrix) (bound : ℕ) (s : St
             sequential = sequential;
             monitor = monitor_returns (LeadsTo table) h (record { t = t; k = k }) outcome old new sequential mine.monitor after;
           }
+
+  -- each of these configurations is one of the history that has led to r
+  pub record IsPartFor (r : State) (h : List Event) (m : List Shown) : Type 0 where
+    pub component_is : r.component ≡ c
+    pub matrix_is : r.matrix ≡ big
+    pub agree : Agree (progress r) h
+    pub sequential : HasSequentialThreads h
+    pub part : (d : Configuration ℕ) → Holds m d → IsConfiguration (LeadsTo table) h d
+
+  part_of : (r : State) (h : List Event) (m : List Shown) → IsFor r h m → IsPartFor r h m
+  part_of r h m mine = record {
+    component_is = mine.component_is;
+    matrix_is = mine.matrix_is;
+    agree = mine.agree;
+    sequential = mine.sequential;
+    part = λ d held. (mine.monitor d).0 held;
+  }
+
+  part_less : (r : State) (h : List Event) (m less : List Shown) → IsWithin less m → IsPartFor r h m → IsPartFor r h less
+  part_less r h m less within mine = record {
+    component_is = mine.component_is;
+    matrix_is = mine.matrix_is;
+    agree = mine.agree;
+    sequential = mine.sequential;
+    part = λ d held. mine.part d (within d held);
+  }
+
+  module _ (r : State) (h : List Event) (old new : List Shown) (mine : IsPartFor r h old) (m : Move) (next x : State) (same : HaveSameOpen x next) where
+    part_base : (event : Option Event) → Step r m next event → (next.component ≡ c) × (next.matrix ≡ big)
+    part_base event step = (
+      (step_moved r m next event step).component ∙ mine.component_is,
+      leads_matrix r (m ∷ []) next (with_event event []) (next, event, [], step, (refl, refl), refl) ∙ mine.matrix_is,
+    )
+
+    part_next : (event : Option Event) → Step r m next event → IsAfterMove table x (option_map (event_in way matrix) event) old new → IsPartFor next (longer h event) new
+    part_next None step after = record {
+      component_is = (part_base None step).0;
+      matrix_is = (part_base None step).1;
+      agree = step_agrees r m next None h mine.agree step;
+      sequential = subst HasSequentialThreads (sym (append-nil h)) mine.sequential;
+      part = λ d held. subst (λ g. IsConfiguration (LeadsTo table) g d) (sym (append-nil h)) (mine.part d (subst (λ xs. Holds xs d) after held));
+    }
+    part_next (Some (Call t k)) step after =
+        let agree = step_agrees r m next (Some (Call t k)) h mine.agree step in
+        let sequential = push_sequential h (Call t k) mine.sequential (step_comes r m next (Call t k) h mine.agree step) in
+        let a : OpId = record { t = t; k = k } in
+        let pending = pending_call thread_in (longer h (Some (Call t k))) in
+        record {
+          component_is = (part_base (Some (Call t k)) step).0;
+          matrix_is = (part_base (Some (Call t k)) step).1;
+          agree = agree;
+          sequential = sequential;
+          part = λ d held.
+              let (b, made, had, is_first, all) = (after d).0 held in
+              let waits = waits_same x next (longer h (Some (Call t k))) same agree in
+              (call_law (LeadsTo table) (Goes table) thread_in (is_automaton table) h a d sequential).1
+              (b, made, mine.part b had, is_first, puts_waits (LeadsTo table) (Goes table) thread_in (waits_in x) pending (λ u. sym (waits u)) made b d all);
+        }
+    part_next (Some (Return t k outcome)) step after =
+        let sequential = push_sequential h (Return t k outcome) mine.sequential (step_comes r m next (Return t k outcome) h mine.agree step) in
+        record {
+          component_is = (part_base (Some (Return t k outcome)) step).0;
+          matrix_is = (part_base (Some (Return t k outcome)) step).1;
+          agree = step_agrees r m next (Some (Return t k outcome)) h mine.agree step;
+          sequential = sequential;
+          part = λ d held.
+              let (b, had, returned) = (after d).0 held in
+              (return_is_configured (LeadsTo table) h (record { t = t; k = k }) outcome d sequential).1 (b, mine.part b had, returned);
+        }
 
   abbrev of_next : (r : State) → r.matrix ≡ big → IsUnrolledFrom way matrix r.matrix
   of_next r e = subst (IsUnrolledFrom way matrix) (sym e) unrolled
@@ -288,6 +364,33 @@ module _ (c : Component) (way : Way) (matrix big : Matrix) (bound : ℕ) (s : St
             (λ p. (stuck_is_played c big s at 0 q a.t).1 (stuck_from c way matrix big bound s table unrolled at are q a.t p.0 next.0 next.1 room p.1 p.2)),
           )
 
+    module _ (node : Node) (state : Represents dead node (client_of way matrix end)) where
+      open_here : (t : ℕ) → HasOpen node.state t → HasOpen end t
+      open_here t o = open_same node.state end (same_open node.state end state) t o
+
+      open_there : (t : ℕ) → HasOpen end t → HasOpen node.state t
+      open_there t o = open_same end node.state (λ u. sym (same_open node.state end state u)) t o
+
+    -- an open operation is pending
+    open_pending : HasSequentialThreads h → (t : ℕ) → HasOpen end t → IsPending h (record { t = t; k = done_of end t })
+    open_pending sequential t o =
+        let made = made_here t in
+        let done = done_here t in
+        let more = made_open end t o in
+        is_pending h (record { t = t; k = done_of end t }) sequential (omega (arith, made, more)) (omega (arith, done))
+
+    -- where only some configurations are known
+    module _ (m : List Shown) (mine : IsPartFor end h m) where
+      part_completes : IsComplete end → m ≢ [] → HasWitness (IsSerialHistory s) h
+      part_completes complete some =
+          let law = complete_is_configured (IsSerialHistory s) (LeadsTo table) reads_beginnings h mine.sequential (returned complete) (whole complete) in
+          law.1 (one_held m some (IsConfiguration (LeadsTo table) h) mine.part)
+
+      part_sticks : (a : OpId) → IsPending h a → CanBeStuck (Goes table) a.t m → HasWitness (IsSerialHistory s) (keep_pending a.t h)
+      part_sticks a waits (d, held, stuck) =
+          let law = stuck_is_configured (IsSerialHistory s) (LeadsTo table) (λ x k. IsStuckFrom (Goes table) x k) thread_in reads_beginnings (λ q z. (serial_fits c big s q is z).0) h a mine.sequential waits (has_stuck mine.sequential a waits) in
+          law.1 (d, mine.part d held, stuck.0, stuck.1)
+
     module _ (node : Node) (state : Represents dead node (client_of way matrix end)) (mine : IsFor end h node.monitor) where
       completes : IsComplete end → HasWitness (IsSerialHistory s) h ↔ (node.monitor ≢ [])
       completes complete = monitor_completes (IsSerialHistory s) (LeadsTo table) reads_beginnings h node.monitor mine.sequential (returned complete) (whole complete) mine.monitor
@@ -297,49 +400,35 @@ module _ (c : Component) (way : Way) (matrix big : Matrix) (bound : ℕ) (s : St
           monitor_sticks (IsSerialHistory s) (LeadsTo table) (Goes table) thread_in reads_beginnings (λ q z. (serial_fits c big s q is z).0) h a node.monitor mine.sequential waits
           (has_stuck mine.sequential a waits) mine.monitor
 
-      open_here : (t : ℕ) → HasOpen node.state t → HasOpen end t
-      open_here t o = open_same node.state end (same_open node.state end state) t o
-
-      open_there : (t : ℕ) → HasOpen end t → HasOpen node.state t
-      open_there t o = open_same end node.state (λ u. sym (same_open node.state end state u)) t o
-
       -- a good node is one of a good end
       pub good_end : IsEnded end → IsGoodNode table node → IsGoodAt (IsSerialHistory s) end h
       good_end (inl complete) good =
-          inl (complete, (completes complete).1 (good.complete (λ t o. complete_not_open end complete t (open_here t o))))
+          inl (complete, (completes complete).1 (good.complete (λ t o. complete_not_open end complete t (open_here node state t o))))
       good_end (inr stuck) good =
-          inr (stuck, (λ a waits. (sticks a waits).1 (good.stuck a.t (open_there a.t (pending_open s u end h leads a waits)))))
-
-      -- an open operation is pending
-      open_pending : (t : ℕ) → HasOpen end t → IsPending h (record { t = t; k = done_of end t })
-      open_pending t o =
-          let made = made_here t in
-          let done = done_here t in
-          let more = made_open end t o in
-          is_pending h (record { t = t; k = done_of end t }) mine.sequential (omega (arith, made, more)) (omega (arith, done))
+          inr (stuck, (λ a waits. (sticks a waits).1 (good.stuck a.t (open_there node state a.t (pending_open s u end h leads a waits)))))
 
       -- and back
       pub good_node : IsGoodAt (IsSerialHistory s) end h → IsGoodNode table node
       good_node (inl good) = record {
         complete = λ _. (completes good.0).0 good.1;
-        stuck = λ t o. absurd (complete_not_open end good.0 t (open_here t o));
+        stuck = λ t o. absurd (complete_not_open end good.0 t (open_here node state t o));
       }
       good_node (inr good) = record {
-        complete = λ calm. absurd (good.0.0 (no_open_complete end (λ t o. calm t (open_there t o)) good.0.1));
-        stuck = λ t o. (let waits = open_pending t (open_here t o) in (sticks (record { t = t; k = done_of end t }) waits).0 (good.1 (record { t = t; k = done_of end t }) waits));
+        complete = λ calm. absurd (good.0.0 (no_open_complete end (λ t o. calm t (open_there node state t o)) good.0.1));
+        stuck = λ t o. (let waits = open_pending mine.sequential t (open_here node state t o) in (sticks (record { t = t; k = done_of end t }) waits).0 (good.1 (record { t = t; k = done_of end t }) waits));
       }
 
   -- ---- before a call
 
-  module _ (r : State) (h : List Event) (monitor : List Shown) (mine : IsFor r h monitor) (m : Move) (next : State) (k : ℕ) (step : Step r m next (Some (Call m.thread k))) where
+  module _ (r : State) (h : List Event) (agree : Agree (progress r) h) (sequential : HasSequentialThreads h) (m : Move) (next : State) (k : ℕ) (step : Step r m next (Some (Call m.thread k))) where
     call_sequential : HasSequentialThreads (h ++ Call m.thread k ∷ [])
-    call_sequential = push_sequential h (Call m.thread k) mine.sequential (step_comes r m next (Call m.thread k) h mine.agree step)
+    call_sequential = push_sequential h (Call m.thread k) sequential (step_comes r m next (Call m.thread k) h agree step)
 
     -- a call that has just been made is pending
     pub call_pending : IsPending (h ++ Call m.thread k ∷ []) (record { t = m.thread; k = k })
     call_pending =
         let t = m.thread in
-        let comes = step_comes r m next (Call t k) h mine.agree step in
+        let comes = step_comes r m next (Call t k) h agree step in
         let called : calls t (h ++ Call t k ∷ []) ≡ calls t h + (calls t [] + 1) = calls-append t h (Call t k ∷ []) ∙ ap (λ n. calls t h + n) (calls_call t k []) in
         let ended : length (outcomes t (h ++ Call t k ∷ [])) ≡ length (outcomes t h) = ap length (outcomes-append t h (Call t k ∷ []) ∙ append-nil (outcomes t h)) in
         let before = comes.0 in
@@ -347,12 +436,22 @@ module _ (c : Component) (way : Way) (matrix big : Matrix) (bound : ℕ) (s : St
         is_pending (h ++ Call t k ∷ []) (record { t = t; k = k }) call_sequential (omega (arith, called, before)) (omega (arith, ended, done))
 
     -- it is stuck there exactly where it can be stuck before it
-    pub call_sticks : (u : List Move) → Leads s u r h → HasWitness (IsSerialHistory s) (keep_pending m.thread (h ++ Call m.thread k ∷ [])) ↔ CanBeStuck (Goes table) m.thread monitor
-    call_sticks u leads =
+    pub call_sticks : (monitor : List Shown) → IsMonitorOf (LeadsTo table) monitor h → (u : List Move) → Leads s u r h → HasWitness (IsSerialHistory s) (keep_pending m.thread (h ++ Call m.thread k ∷ [])) ↔ CanBeStuck (Goes table) m.thread monitor
+    call_sticks monitor exact u leads =
         let a : OpId = record { t = m.thread; k = k } in
         let whole : Leads s (u ++ m ∷ []) next (h ++ Call m.thread k ∷ []) = child_leads s u r h leads m next (Some (Call m.thread k)) step in
         sticks_before (IsSerialHistory s) (LeadsTo table) (Goes table) thread_in (is_automaton table) reads_beginnings (λ q z. (serial_fits c big s q is z).0) h a monitor call_sequential call_pending
-        (has_stuck (u ++ m ∷ []) next (h ++ Call m.thread k ∷ []) whole call_sequential a call_pending) mine.monitor
+        (has_stuck (u ++ m ∷ []) next (h ++ Call m.thread k ∷ []) whole call_sequential a call_pending) exact
+
+  -- and so it is where only some configurations before it are known
+  call_part : (r : State) (h : List Event) (monitor : List Shown) → IsPartFor r h monitor → (m : Move) (next : State) (k : ℕ) → Step r m next (Some (Call m.thread k)) → (u : List Move) → Leads s u r h → CanBeStuck (Goes table) m.thread monitor → HasWitness (IsSerialHistory s) (keep_pending m.thread (h ++ Call m.thread k ∷ []))
+  call_part r h monitor mine m next k step u leads can =
+      let a : OpId = record { t = m.thread; k = k } in
+      let whole : Leads s (u ++ m ∷ []) next (h ++ Call m.thread k ∷ []) = child_leads s u r h leads m next (Some (Call m.thread k)) step in
+      let sequential = call_sequential r h mine.agree mine.sequential m next k step in
+      let waits = call_pending r h mine.agree mine.sequential m next k step in
+      part_before (IsSerialHistory s) (LeadsTo table) (Goes table) thread_in (is_automaton table) reads_beginnings (λ q z. (serial_fits c big s q is z).0) h a monitor sequential waits
+      (has_stuck (u ++ m ∷ []) next (h ++ Call m.thread k ∷ []) whole sequential a waits) mine.part can
 
   -- so it can be, where the history with the call is good
   pub good_call : (u : List Move) (r : State) (h : List Event) (monitor : List Shown) (m : Move) (end : State) (last : List Event) → Leads s u r h → IsFor r h monitor → IsIdle r m.thread → Leads r (m ∷ []) end last → IsGoodAt (IsSerialHistory s) end (h ++ last) → CanBeStuck (Goes table) m.thread monitor
@@ -364,10 +463,10 @@ module _ (c : Component) (way : Way) (matrix big : Matrix) (bound : ℕ) (s : St
       let call : Step r m next (Some (Call t k)) = subst (Step r m next) called one in
       let whole : last ≡ Call t k ∷ [] = joined ∙ (ap (with_event e) none ∙ ap (λ x. with_event x []) called) in
       let begun : IsAtWork end t k = subst (λ x. IsAtWork x t k) (sym same) (call_begins r m next (Some (Call t k)) is call) in
-      let waits : IsPending (h ++ last) a = subst (λ x. IsPending (h ++ x) a) (sym whole) (call_pending r h monitor mine m next k call) in
+      let waits : IsPending (h ++ last) a = subst (λ x. IsPending (h ++ x) a) (sym whole) (call_pending r h mine.agree mine.sequential m next k call) in
       elim good as (λ _. CanBeStuck (Goes table) t monitor) [
         | inl complete ↦ absurd (complete_not_open end complete.0 t (work_open end t k begun))
-        | inr stuck ↦ (call_sticks r h monitor mine m next k call u leads).0 (subst (λ x. HasWitness (IsSerialHistory s) (keep_pending t (h ++ x))) whole (stuck.1 a waits))
+        | inr stuck ↦ (call_sticks r h mine.agree mine.sequential m next k call monitor mine.monitor u leads).0 (subst (λ x. HasWitness (IsSerialHistory s) (keep_pending t (h ++ x))) whole (stuck.1 a waits))
       ]
 
   -- an open operation has as many picks in a node's state
@@ -378,22 +477,29 @@ module _ (c : Component) (way : Way) (matrix big : Matrix) (bound : ℕ) (s : St
   -- ---- a list of nodes that has all to which steps lead
 
   module _ (start : State) (list : List Node) (nodes : AreStepNodes dead table way start list) where
+    -- one of the list is for the state, and its configurations are some of the history
+    record HasPart (r : State) (h : List Event) : Type 0 where
+      node : Node
+      among : IsIn list node
+      state : Represents dead node (client_of way matrix r)
+      mine : IsPartFor r h node.monitor
+
     -- wherever the moves of a step lead
-    along : (u : List Move) (r x : State) (h : List Event) (monitor : List Shown) (end : State) (k : List Event) → AreAlike dead (client_of way matrix r) x → IsFor r h monitor → HasNodeAfter dead table way list x u monitor → Leads r u end k → HasNode list end (h ++ k)
-    along [] r x h monitor end k alike mine (node, among, state, same) leads =
-        let here : HasNode list r h = record { node = node; among = among; state = alike_on dead (client_of way matrix r) x node.state alike state; mine = subst (IsFor r h) (sym same) mine } in
-        subst (λ y. HasNode list y (h ++ k)) (sym leads.0) (subst (HasNode list r) (sym (ap (λ y. h ++ y) leads.1 ∙ append-nil h)) here)
+    along : (u : List Move) (r x : State) (h : List Event) (monitor : List Shown) (end : State) (k : List Event) → AreAlike dead (client_of way matrix r) x → IsPartFor r h monitor → HasNodeAfter dead table way list x u monitor → Leads r u end k → HasPart end (h ++ k)
+    along [] r x h monitor end k alike mine (node, among, state, less) leads =
+        let here : HasPart r h = record { node = node; among = among; state = alike_on dead (client_of way matrix r) x node.state alike state; mine = part_less r h monitor node.monitor less mine } in
+        subst (λ y. HasPart y (h ++ k)) (sym leads.0) (subst (HasPart r) (sym (ap (λ y. h ++ y) leads.1 ∙ append-nil h)) here)
     along (m ∷ u) r x h monitor end k alike mine after (next, event, rest, step, leads, joined) =
         let to = move_to_client way matrix r m next event (of_next r mine.matrix_is) step in
         let there = client_alike dead way (client_of way matrix r) x (sound_at r mine.component_is) alike m (client_of way matrix next) (option_map (event_in way matrix) event) to in
         let on = after there.0 (option_map (event_in way matrix) event) there.1 in
-        let now : IsFor next (longer h event) on.0 = for_next r h monitor on.0 mine m next there.0 (same_open there.0 next there.2) event step on.1 in
+        let now : IsPartFor next (longer h event) on.0 = part_next r h monitor on.0 mine m next there.0 (same_open there.0 next there.2) event step on.1 in
         let whole : (h ++ with_event event []) ++ rest ≡ h ++ k = append_assoc h (with_event event []) rest ∙ (ap (λ y. h ++ y) (with_event-append event [] rest) ∙ sym (ap (λ y. h ++ y) joined)) in
-        subst (HasNode list end) whole (along u next there.0 (longer h event) on.0 end rest there.2 now on.2 leads)
+        subst (HasPart end) whole (along u next there.0 (longer h event) on.0 end rest there.2 now on.2 leads)
 
     -- a schedule leads there, and there is a node
     record HasReached (r : State) (h : List Event) : Type 0 where
-      has : HasNode list r h
+      has : HasPart r h
       schedule : List Move
       leads : Leads s schedule r h
 
@@ -414,7 +520,7 @@ module _ (c : Component) (way : Way) (matrix big : Matrix) (bound : ℕ) (s : St
     reached_first same =
         let first = nodes.starts in
         record {
-          has = record { node = first.0; among = first.1; state = subst (Represents dead first.0) same first.2.0; mine = for_start first.0 start first.2 };
+          has = record { node = first.0; among = first.1; state = subst (Represents dead first.0) same first.2.0; mine = part_of s [] first.0.monitor (for_start first.0 start first.2) };
           schedule = [];
           leads = (refl, refl);
         }
@@ -425,7 +531,7 @@ module _ (c : Component) (way : Way) (matrix big : Matrix) (bound : ℕ) (s : St
 
       node_blocked : AllBlocked node.state
       node_blocked t o =
-          let here = open_here it.schedule r h it.leads node it.has.state it.has.mine t o in
+          let here = open_here it.schedule r h it.leads node it.has.state t o in
           node_picks r node.state it.has.mine.component_is it.has.state t here ∙ blocked.begun t (open_not_idle r t here)
 
       good_there : IsGoodBeforeCalls table way node
@@ -434,9 +540,9 @@ module _ (c : Component) (way : Way) (matrix big : Matrix) (bound : ℕ) (s : St
       good_open : (t k : ℕ) → IsAtWork r t k → HasWitness (IsSerialHistory s) (keep_pending t h)
       good_open t k begun =
           let o = work_open r t k begun in
-          let waits = open_pending it.schedule r h it.leads node it.has.state it.has.mine t o in
-          (sticks it.schedule r h it.leads node it.has.state it.has.mine (record { t = t; k = done_of r t }) waits).1
-          (good_there.good.stuck t (open_there it.schedule r h it.leads node it.has.state it.has.mine t o))
+          let waits = open_pending it.schedule r h it.leads it.has.mine.sequential t o in
+          part_sticks it.schedule r h it.leads node.monitor it.has.mine (record { t = t; k = done_of r t }) waits
+          (good_there.good.stuck t (open_there it.schedule r h it.leads node it.has.state t o))
 
       good_next : (t k : ℕ) → slice_get r.threads t ≡ Some (idle k) → k < call_count r t → HasWitness (IsSerialHistory s) (keep_pending t (h ++ Call t k ∷ []))
       good_next t k stands left =
@@ -455,13 +561,13 @@ module _ (c : Component) (way : Way) (matrix big : Matrix) (bound : ℕ) (s : St
           let none = none_by (picks_of on.0 t) (picks_of next t) (node_picks next on.0 component on.2 t o) (blocked.next m next (Some (Call t k)) idle_here step) in
           let stuck : CanBeStuck (Goes table) t node.monitor =
           good_there.next m (idle_there r node.state (same_places r h it) t idle_here, (on.0, option_map (event_in way matrix) (Some (Call t k)), on.1, none)) in
-          (call_sticks r h node.monitor it.has.mine m next k step it.schedule it.leads).1 stuck
+          call_part r h node.monitor it.has.mine m next k step it.schedule it.leads stuck
 
       good_before : IsGoodBefore (IsSerialHistory s) r h
       good_before = record {
         complete = λ complete.
-            (completes it.schedule r h it.leads node it.has.state it.has.mine complete).1
-            (good_there.good.complete (λ t o. complete_not_open r complete t (open_here it.schedule r h it.leads node it.has.state it.has.mine t o)));
+            part_completes it.schedule r h it.leads node.monitor it.has.mine complete
+            (good_there.good.complete (λ t o. complete_not_open r complete t (open_here it.schedule r h it.leads node it.has.state t o)));
         begun = good_open;
         next = good_next;
       }

@@ -26,7 +26,7 @@ use Rattle.lu_client.proofs.OneCalls.{within_some}
 use Rattle.lu_always.specs.declared.stored.Arrival.{Arrival}
 use Rattle.lu_always.specs.Stored.{CanStandAtStored, HasMonitorAt, StandsAt, StandsWhereItCan, StoredNode, StoredPosition, Stores, at_stored, position_in, stored_for}
 use Rattle.lu_always.specs.Clearing.{IsCleared}
-use Rattle.lu_always.specs.Searching.{AddsAt, AddsBy, AddsFrom, AddsOnly, AllCanStand, AreArrivals, ComesFrom, Grows, HasNext, HoldsOf, IsArrival, IsNodeAt, IsStoredFor, Leads, MonitorAfter, StoresAfter, moves_of, node_at, node_of}
+use Rattle.lu_always.specs.Searching.{AddsAt, AddsBy, AddsFrom, AddsOnly, AllCanStand, AreArrivals, ComesFrom, Grows, HasNext, HoldsOf, IsArrival, IsCoveredAt, IsStoredFor, Leads, MonitorAfter, StoresAfter, moves_of, node_at, node_of}
 use Rattle.lu_always.specs.Ways.{AreBack, HasParentsBefore, IsWayTo, all_moves, arrival_at}
 use Rattle.lu_always.specs.Livelocks.{AreAllNodes}
 use Rattle.lu_always.specs.Nodes.{IsAfterMove, IsMove, MovesLead, Node, Represents}
@@ -75,11 +75,18 @@ stores_grows s monitor arrival old new index can stores =
       | inr more ↦ subst (Grows s old) (sym more) (grows_one s old (stored_for s monitor arrival) can)
     ]
 
-pub stores_node : (s : State) (monitor : List Shown) (arrival : Option Arrival) (old new : List StoredNode) (index : ℕ) → Stores s monitor arrival old new index → IsNodeAt new index (node_at s monitor)
-stores_node s monitor arrival old new index stores = (stores.stored, stores.at, (ap (at_stored s) stores.position, stores.monitor_is))
+pub stores_covered : (s : State) (monitor : List Shown) (arrival : Option Arrival) (old new : List StoredNode) (index : ℕ) → Stores s monitor arrival old new index → IsCoveredAt new index (node_at s monitor)
+stores_covered s monitor arrival old new index stores = (stores.stored, stores.at, (ap (at_stored s) stores.position, stores.within))
 
 pub in_more : (s : State) (old new : List StoredNode) → Grows s old new → (kept : StoredNode) → IsIn old kept → IsIn new kept
 in_more s old new grows kept is = (is.0, ap (λ (x : List StoredNode). slice_get x is.0) grows.parts ∙ kept_at old grows.more kept is.0 is.1)
+
+pub monitor_more : (s : State) (old new : List StoredNode) → Grows s old new → (index : ℕ) (monitor : List Shown) → HasMonitorAt old index monitor → HasMonitorAt new index monitor
+monitor_more s old new grows index monitor has = (
+  has.0,
+  ap (λ (x : List StoredNode). slice_get x index) grows.parts ∙ kept_at old grows.more has.0 index has.1,
+  has.2,
+)
 
 pub longer : (s : State) (old new : List StoredNode) → Grows s old new → (index : ℕ) → index < length old → index + 1 ≤ length new
 longer s old new grows index within =
@@ -137,14 +144,13 @@ pub stored_alike : (dead : DeadTable) (rounds : Rounds) (a : State) (m : Move) (
 stored_alike dead rounds a m b event cleared p step is here =
     subst (AreAlike dead b) (sym here ∙ base_at a cleared p (cleared_base dead rounds a m b event cleared step is)) (cleared_alike dead b cleared is)
 
-pub next_made : (dead : DeadTable) (rounds : Rounds) (rows : Rows) (a : State) (m : Move) (b : State) (event : Option Event) (cleared : State) (all : List StoredNode) (j : ℕ) (monitor after : List Shown) → ClientStep (way_of rounds) a m b event → IsCleared dead b cleared → IsNodeAt all j (node_at cleared after) → IsAfterMove (table_of [] rows) b event monitor after → HasNext dead rounds rows all (node_at a monitor) m
+pub next_made : (dead : DeadTable) (rounds : Rounds) (rows : Rows) (a : State) (m : Move) (b : State) (event : Option Event) (cleared : State) (all : List StoredNode) (j : ℕ) (monitor after : List Shown) → ClientStep (way_of rounds) a m b event → IsCleared dead b cleared → IsCoveredAt all j (node_at cleared after) → IsAfterMove (table_of [] rows) b event monitor after → HasNext dead rounds rows all (node_at a monitor) m
 next_made dead rounds rows a m b event cleared all j monitor after made clear keeps is other others step =
-    let same = in_order_once (limit_of rounds) a m b other event others made step in
-    let now : IsAfterMove (table_of [] rows) b event monitor keeps.0.monitor = subst (λ x. IsAfterMove (table_of [] rows) b event monitor x) (sym keeps.2.1) is in (
+    let same = in_order_once (limit_of rounds) a m b other event others made step in (
       keeps.0,
       (j, keeps.1),
       subst (λ x. AreAlike dead x (at_stored a keeps.0.position)) same.0 (stored_alike dead rounds a m b event cleared keeps.0.position made clear keeps.2.0),
-      subst (λ e. IsAfterMove (table_of [] rows) other e monitor keeps.0.monitor) same.1 (subst (λ x. IsAfterMove (table_of [] rows) x event monitor keeps.0.monitor) same.0 now),
+      (after, subst (λ e. IsAfterMove (table_of [] rows) other e monitor after) same.1 (subst (λ x. IsAfterMove (table_of [] rows) x event monitor after) same.0 is), keeps.2.1),
     )
 
 -- each new node is one to which the move of the arrival leads
@@ -172,7 +178,7 @@ stores_only s monitor arrival old new index stores =
     ]
 
 -- what is stored after a move
-pub stored_after : {E : Type 0} (dead : DeadTable) (rows : Rows) (s : State) (event : Option Event) (monitor : List Shown) (arrival : Arrival) (cleared : State) (old new : List StoredNode) (after : List Shown) → MonitorAfter rows s event monitor after → IsCleared dead s cleared → (result : Result ℕ E) → OnOk result (Grows cleared old new) → IfOk result (λ index. IsNodeAt new index (node_at cleared after)) → OnOk result (AddsOnly cleared after (Some arrival) old new) → IfOk result (StoresAfter dead rows s event monitor arrival cleared old new)
+pub stored_after : {E : Type 0} (dead : DeadTable) (rows : Rows) (s : State) (event : Option Event) (monitor : List Shown) (arrival : Arrival) (cleared : State) (old new : List StoredNode) (after : List Shown) → MonitorAfter rows s event monitor after → IsCleared dead s cleared → (result : Result ℕ E) → OnOk result (Grows cleared old new) → IfOk result (λ index. IsCoveredAt new index (node_at cleared after)) → OnOk result (AddsOnly cleared after (Some arrival) old new) → IfOk result (StoresAfter dead rows s event monitor arrival cleared old new)
 stored_after dead rows s event monitor arrival cleared old new after follows clear (Ok index) grows there only = record { after = after; follows = follows; clear = clear; grows = grows; there = there; only = only }
 stored_after dead rows s event monitor arrival cleared old new after follows clear (Err e) grows there only = tt
 

@@ -22,12 +22,13 @@ use Rattle.lu_machine.specs.declared.thread.Thread.{Thread}
 use Rattle.lu_machine.specs.States.{State}
 use Rattle.lu_linearization.specs.declared.configuration.Configuration.{Configuration as Shown}
 use Rattle.lu_history.proofs.Events.{at_push, kept_at, last_at}
+use Rattle.lu_linearization.specs.Monitors.{Holds}
 use Rattle.lu_always.specs.contracts.rows.RowPartialEq as rows
 use Rattle.lu_always.specs.declared.stored.Arrival.{Arrival}
 use Rattle.lu_always.specs.declared.rows.Parts.{Parts}
 use Rattle.lu_always.specs.declared.rows.Row.{Row}
 use Rattle.lu_always.specs.Numbered.{Extends, IsNumber, is_list, with_number}
-use Rattle.lu_always.specs.Rows.{AddsEntry, AreWhole, Entry, Grow, HasNumber, HasPosition, HasRow, HaveNumbers, HaveRead, IsListOf, IsMonitorOf, IsRowAt, IsWhole, list_at, monitor_at, position_at, stored_in, stored_of, threads_at}
+use Rattle.lu_always.specs.Rows.{AddsEntry, AreWhole, Entry, Grow, HasNumber, HasPosition, HasRow, HaveNumbers, HaveRead, IsCoveredBy, IsListOf, IsMonitorOf, IsRowAt, IsWhole, list_at, monitor_at, position_at, stored_in, stored_of, threads_at}
 use Rattle.lu_always.specs.Stored.{StoredNode, StoredPosition, Stores, position_in, stored_for}
 use Rattle.lu_always.proofs.Tabled.{extends_none, extends_on, first_there, number_stays}
 
@@ -310,17 +311,32 @@ are_more parts row arrival old new mine whole adds i entry at =
       ]
     ]
 
+-- a row that is there stands for itself
+pub row_covers : (parts : Parts) (entries : List Entry) (row : Row) (index : ℕ) → HasRow entries row index → IsCoveredBy parts entries row index
+row_covers parts entries row index (entry, at, is) = (
+  entry,
+  at,
+  (ap (λ (r : Row). r.cells) is, ap (λ (r : Row). r.locks) is, ap (λ (r : Row). r.threads) is, (λ d held. subst (λ (r : Row). Holds (monitor_at parts r.monitor) d) is held)),
+)
+
+-- rows with the same parts have the same position
+same_place : (parts : Parts) (one row : Row) → one.cells ≡ row.cells → one.locks ≡ row.locks → one.threads ≡ row.threads → position_at parts one ≡ position_at parts row
+same_place parts one row cells locks threads =
+    let make : ℕ → ℕ → List ℕ → StoredPosition = λ c l t. record { cells = list_at parts.cells.keys c; locks = list_at parts.locks.keys l; threads = threads_at parts.threads.keys t } in
+    ap (λ c. make c one.locks one.threads) cells ∙ (ap (λ l. make row.cells l one.threads) locks ∙ ap (λ t. make row.cells row.locks t) threads)
+
 -- what is stored when a row was added
-pub stores : (old new : Parts) (s : State) (monitor : List Shown) (arrival : Option Arrival) (before after : List Entry) (row : Row) (index : ℕ) → Grow old new → AreWhole old before → HasPosition new (position_in s) row → IsMonitorOf new row.monitor monitor → AddsEntry row arrival before after → HasRow after row index → Stores s monitor arrival (stored_in old before) (stored_in new after) index
+pub stores : (old new : Parts) (s : State) (monitor : List Shown) (arrival : Option Arrival) (before after : List Entry) (row : Row) (index : ℕ) → Grow old new → AreWhole old before → HasPosition new (position_in s) row → IsMonitorOf new row.monitor monitor → AddsEntry row arrival before after → IsCoveredBy new after row index → Stores s monitor arrival (stored_in old before) (stored_in new after) index
 stores old new s monitor arrival before after row index grow whole position is adds there =
     let mine : position_at new row ≡ position_in s = position_is new row (position_in s) position in
     let its : monitor_at new row.monitor ≡ monitor = one_monitor new row.monitor monitor is in
     let stay : stored_in new before ≡ stored_in old before = nodes_stay old new grow before whole in
+    let (entry, at, (cells, locks, threads, less)) = there in
     record {
-      stored = stored_of new there.0;
-      at = stored_at new after index there.0 there.1;
-      position = ap (position_at new) there.2 ∙ mine;
-      monitor_is = ap (λ (r : Row). monitor_at new r.monitor) there.2 ∙ its;
+      stored = stored_of new entry;
+      at = stored_at new after index entry at;
+      position = same_place new entry.0 row cells locks threads ∙ mine;
+      within = λ d held. subst (λ m. Holds m d) its (less d held);
       only = elim adds as (λ _. (stored_in new after ≡ stored_in old before) ⊎ (stored_in new after ≡ stored_in old before ++ stored_for s monitor arrival ∷ [])) [
         | inl same ↦ inl (ap (stored_in new) same ∙ stay)
         | inr more ↦

@@ -28,7 +28,7 @@ use Rattle.lu_always.specs.declared.steps.Origin.{Origin}
 use Rattle.lu_always.specs.declared.stored.Arrival.{Arrival}
 use Rattle.lu_always.specs.Stored.{StoredNode}
 use Rattle.lu_always.specs.Nodes.{IsAfterMove, IsMove, Node}
-use Rattle.lu_always.specs.Searching.{Adds, AddsAt, AddsBy, AddsFrom, AllCanStand, ComesFrom, Grows, HasNext, HoldsOf, IsNodeAt, IsStoredFor, Leads, node_at, node_of}
+use Rattle.lu_always.specs.Searching.{Adds, AddsAt, AddsBy, AddsFrom, AllCanStand, ComesFrom, Grows, HasNext, HoldsOf, IsStoredFor, Leads, node_at, node_of}
 use Rattle.lu_always.specs.StepSearch.{AddsMoves, AreStepped, HasCall, HasMoves, HasSteps, HasStepsOf, IsJudged, IsJudgedIn}
 use Rattle.lu_always.proofs.Exiting.{client_feasible}
 use Rattle.lu_always.proofs.Keeping.{arrivals_more, base_node, first_arrivals, first_more, grows_none, grows_on, in_more, moved_base, next_more}
@@ -218,9 +218,9 @@ module _ (dead : DeadTable) (rounds : Rounds) (rows : Rows) (s : State) (monitor
 
 -- ---- node after node
 
-pub stepped_none : (dead : DeadTable) (rounds : Rounds) (rows : Rows) (first : List Shown) (s : State) (all : List StoredNode) (j : ℕ) → IsNodeAt all j (node_at s first) → AllCanStand s all → ((kept : StoredNode) → IsIn all kept → IsStoredFor (node_at s first) kept × (kept.arrival ≡ None)) → AreStepped dead rounds rows first s 0 all
-stepped_none dead rounds rows first s all j has can only = record {
-  starts = (has.0, (j, has.1), has.2);
+pub stepped_none : (dead : DeadTable) (rounds : Rounds) (rows : Rows) (first : List Shown) (s : State) (all : List StoredNode) (one : StoredNode) → IsIn all one → AllCanStand s all → ((kept : StoredNode) → IsIn all kept → IsStoredFor (node_at s first) kept × (kept.arrival ≡ None)) → AreStepped dead rounds rows first s 0 all
+stepped_none dead rounds rows first s all one among can only = record {
+  starts = (one, among, (only one among).0);
   arrivals = first_arrivals dead rounds rows first s all only;
   stand = can;
   closed = λ i lt kept at. absurd (omega (arith, lt));

@@ -53,10 +53,10 @@ module _ (dead : DeadTable) (rounds : Rounds) (rows : Rows) (first : List Shown)
   -- the move leads to nodes of the list from this state, whose component and matrix are those of s
   after_move : (a : State) (monitor : List Shown) → ((kept : StoredNode) → at_stored a kept.position ≡ at_stored s kept.position) → (m : Move) → HasNext dead rounds rows all (node_at a monitor) m → HasNodeAfter dead table (way_of rounds) list a (m ∷ []) monitor
   after_move a monitor base m has b event step =
-      let (kept, at, alike, after) = has b event step in (
-        kept.monitor,
-        after_any stages [] rows b event monitor kept.monitor after,
-        (node_of s kept, there s all kept at, subst (AreAlike dead b) (base kept) alike, refl),
+      let (kept, at, alike, (after, is, less)) = has b event step in (
+        after,
+        after_any stages [] rows b event monitor after is,
+        (node_of s kept, there s all kept at, subst (AreAlike dead b) (base kept) alike, less),
       )
 
   after_step : (kept : StoredNode) (step : List Move) → HasSteps dead rounds rows all (node_of s kept) → IsOneStep (node_of s kept).state step → HasNodeAfter dead table (way_of rounds) list (node_of s kept).state step kept.monitor

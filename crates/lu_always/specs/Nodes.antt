@@ -13,8 +13,8 @@ use Rattle.lu_history.specs.Standing.{standing_of}
 use Rattle.lu_serial.specs.Serial.{HasOpen}
 use Rattle.lu_tree.specs.Alike.{AreAlike}
 use Rattle.lu_linearization.specs.declared.configuration.Configuration.{Configuration as Shown}
-use Rattle.lu_linearization.specs.Configurations.{Returns}
-use Rattle.lu_linearization.specs.Monitors.{AreClosed, AreInitial, AreNext, CanBeStuck}
+use Rattle.lu_linearization.specs.Configurations.{Configuration, Returns}
+use Rattle.lu_linearization.specs.Monitors.{AreClosed, AreInitial, AreNext, CanBeStuck, Holds}
 use Rattle.lu_client.specs.Rounds.Way.{InOrder}
 use Rattle.lu_client.specs.Alone.{rest_of}
 use Rattle.lu_client.specs.Clients.{AllBlocked, ClientStep, client_matrix}
@@ -39,6 +39,10 @@ waits_in s t = if is_waiting s t then Some t else None
 -- the node represents this state of the client: they differ in dead registers only
 abbrev pub Represents : DeadTable → Node → State → Type 0
 Represents dead node s = AreAlike dead s node.state
+
+-- each configuration of the first list is one of the second
+abbrev pub IsWithin : List Shown → List Shown → Type 0
+IsWithin less list = (c : Configuration ℕ) → Holds less c → Holds list c
 
 -- before any move: the only configuration is the first stage, where nothing has taken effect
 abbrev pub IsFirst : DeadTable → State → Node → Type 0

@@ -10,6 +10,7 @@ use Rattle.lu_always.specs.declared.rows.Parts.{Parts}
 use Rattle.lu_always.specs.declared.rows.Row.{Row}
 use Rattle.lu_always.specs.Numbered.{Extends, with_number}
 use Rattle.lu_always.specs.declared.stored.Arrival.{Arrival}
+use Rattle.lu_always.specs.Nodes.{IsWithin}
 use Rattle.lu_always.specs.Stored.{CanStandAtStored, StoredNode, StoredPosition, position_in}
 
 -- ---- what rows stand for
@@ -34,8 +35,12 @@ position_at parts row = record {
 abbrev pub CanStandAtRow : Parts → Row → State → Type 0
 CanStandAtRow parts row s = CanStandAtStored s.component s.matrix (position_at parts row)
 
+-- the monitor with this number; an empty one, if there is none
+abbrev pub numbered : List (List Shown) → ℕ → List Shown
+numbered monitors n = option_map_or (λ m. m) (slice_get monitors n) []
+
 abbrev pub monitor_at : Parts → ℕ → List Shown
-monitor_at parts n = option_map_or (λ m. m) (slice_get parts.monitors n) []
+monitor_at parts n = numbered parts.monitors n
 
 -- ---- what has which number
 
@@ -110,6 +115,17 @@ AreWhole parts entries =
 abbrev pub HasRow : List Entry → Row → ℕ → Type 0
 HasRow entries row index =
     (entry : Entry) × (slice_get entries index ≡ Some entry) × (entry.0 ≡ row)
+
+-- the first row has the position of the second, and no configuration that the second does not have
+abbrev pub StandsForRow : Parts → Row → Row → Type 0
+StandsForRow parts one row =
+    (one.cells ≡ row.cells) × (one.locks ≡ row.locks) × (one.threads ≡ row.threads)
+    × IsWithin (monitor_at parts one.monitor) (monitor_at parts row.monitor)
+
+-- the row at this index stands for this one
+abbrev pub IsCoveredBy : Parts → List Entry → Row → ℕ → Type 0
+IsCoveredBy parts entries row index =
+    (entry : Entry) × (slice_get entries index ≡ Some entry) × StandsForRow parts entry.0 row
 
 -- the row may have been added, with this arrival
 abbrev pub AddsEntry : Row → Option Arrival → List Entry → List Entry → Type 0

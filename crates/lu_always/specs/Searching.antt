@@ -24,7 +24,7 @@ use Rattle.lu_always.specs.Clearing.{IsCleared}
 use Rattle.lu_always.specs.Exits.{AreExits, MovesTo}
 use Rattle.lu_always.specs.Livelocks.{HasLivelockBy, NeverLivelocks}
 use Rattle.lu_always.specs.Sinks.{Graph}
-use Rattle.lu_always.specs.Nodes.{IsAfterMove, MovesLead, Node, Represents}
+use Rattle.lu_always.specs.Nodes.{IsAfterMove, IsWithin, MovesLead, Node, Represents}
 use Rattle.lu_always.specs.Always.{FailsBy, IsAlwaysLinearizable}
 use Rattle.lu_answers.specs.declared.rounds.Rounds.{Rounds}
 use Rattle.lu_answers.specs.Ways.{way_of}
@@ -64,14 +64,19 @@ abbrev pub IsStoredFor : Node → StoredNode → Type 0
 IsStoredFor node stored =
     (at_stored node.state stored.position ≡ node.state) × (stored.monitor ≡ node.monitor)
 
--- it is stored at this index
-abbrev pub IsNodeAt : List StoredNode → ℕ → Node → Type 0
-IsNodeAt all index node =
-    (stored : StoredNode) × (slice_get all index ≡ Some stored) × IsStoredFor node stored
+-- it has the state of the node, and no configuration that the node does not have
+abbrev pub StandsFor : StoredNode → Node → Type 0
+StandsFor stored node =
+    (at_stored node.state stored.position ≡ node.state) × IsWithin stored.monitor node.monitor
 
--- it is that of this state and this monitor
-abbrev pub IsNodeOf : State → List Shown → List StoredNode → ℕ → Type 0
-IsNodeOf s monitor all index = IsNodeAt all index (node_at s monitor)
+-- what is stored at this index stands for the node
+abbrev pub IsCoveredAt : List StoredNode → ℕ → Node → Type 0
+IsCoveredAt all index node =
+    (stored : StoredNode) × (slice_get all index ≡ Some stored) × StandsFor stored node
+
+-- it stands for the node of this state and this monitor
+abbrev pub IsCoveredOf : State → List Shown → List StoredNode → ℕ → Type 0
+IsCoveredOf s monitor all index = IsCoveredAt all index (node_at s monitor)
 
 -- a machine with the component and the matrix of s can stand at each stored node
 abbrev pub AllCanStand : State → List StoredNode → Type 0
@@ -84,12 +89,18 @@ pub record Grows (s : State) (old new : List StoredNode) : Type 0 where
   pub parts : new ≡ old ++ more
   pub stand : AllCanStand s old → AllCanStand s new
 
--- the list has a node for the state to which the move leads from this one, if it leads anywhere
+-- the configurations are among those of the monitor after a move that leads the client to state s
+abbrev pub WithinAfter : Rows → State → Option Event → List Shown → List Shown → Type 0
+WithinAfter rows s event old less =
+    (after : List Shown) × MonitorAfter rows s event old after × IsWithin less after
+
+-- The list has a node for the state to which the move leads from this one, if it leads anywhere. Its
+-- configurations are among those of the monitor after the move.
 abbrev pub HasNext : DeadTable → Rounds → Rows → List StoredNode → Node → Move → Type 0
 HasNext dead rounds rows all node m =
     (b : State) (event : Option Event) → RoundStep rounds node.state m b event
     → (stored : StoredNode) × IsIn all stored × Represents dead (node_of node.state stored) b
-    × MonitorAfter rows b event node.monitor stored.monitor
+    × WithinAfter rows b event node.monitor stored.monitor
 
 -- the same for the node of this state and this monitor
 abbrev pub HasNextOf : DeadTable → Rounds → Rows → State → List Shown → Move → List StoredNode
@@ -140,8 +151,8 @@ AddsOnly s monitor arrival old new =
     (stored : StoredNode) → IsIn new stored
     → IsIn old stored ⊎ (IsStoredFor (node_at s monitor) stored × (stored.arrival ≡ arrival))
 
--- A move with this event, or with none, has led from this monitor to state s. The node after it is
--- stored at the index, with 0 in dead registers. No other node is added.
+-- A move with this event, or with none, has led from this monitor to state s. What is stored at the
+-- index stands for the node after it, with 0 in dead registers. No other node than this is added.
 pub record StoresAfter (dead : DeadTable) (rows : Rows) (s : State) (event : Option Event)
     (monitor : List Shown) (arrival : Arrival) (cleared : State) (old new : List StoredNode)
     (index : ℕ) : Type 0 where
@@ -149,7 +160,7 @@ pub record StoresAfter (dead : DeadTable) (rows : Rows) (s : State) (event : Opt
   pub follows : MonitorAfter rows s event monitor after
   pub clear : IsCleared dead s cleared
   pub grows : Grows cleared old new
-  pub there : IsNodeAt new index (node_at cleared after)
+  pub there : IsCoveredAt new index (node_at cleared after)
   pub only : AddsOnly cleared after (Some arrival) old new
 
 -- the property holds of the node stored at this index

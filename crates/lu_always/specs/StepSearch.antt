@@ -25,7 +25,7 @@ use Rattle.lu_always.specs.declared.stored.Arrival.{Arrival}
 use Rattle.lu_always.specs.declared.steps.Visited.{Visited}
 use Rattle.lu_always.specs.declared.steps.Visited.TheVariants.{Exits, Fails}
 use Rattle.lu_always.specs.declared.verdicts.Verdict.{Verdict}
-use Rattle.lu_always.specs.Stored.{StoredNode}
+use Rattle.lu_always.specs.Stored.{HasMonitorAt, StoredNode}
 use Rattle.lu_always.specs.Exits.{AreExits, AreExitsOf, AreReachedBy}
 use Rattle.lu_always.specs.Nodes.{IsGoodNode, Node}
 use Rattle.lu_always.specs.Searching.{AllCanStand, AreArrivals, HasNext, HoldsOf, IsStoredFor, IsVerdict, Leads, MonitorAfter, RoundStep, node_at, node_of}
@@ -65,6 +65,10 @@ IsJudgedIn rounds rows s all index judged =
     HoldsOf s all index (λ node. IsJudged rounds rows node judged)
 
 -- ---- steps
+
+-- the origin is a node with this monitor; or a call was made first
+abbrev pub IsFromMonitor : List StoredNode → List Shown → Origin → Type 0
+IsFromMonitor all monitor origin = origin.call ≡ None → HasMonitorAt all origin.index monitor
 
 -- the list has nodes for the states to which thread t's moves lead from this one
 abbrev pub HasMoves : DeadTable → Rounds → Rows → List StoredNode → Node → ℕ → Type 0

@@ -20,7 +20,7 @@ use Rattle.lu_client.specs.Rounds.Way.{InOrder}
 use Rattle.lu_client.specs.Stages.{IsIn}
 use Rattle.lu_answers.specs.Tables.{Goes, IsTableOf, Table}
 use Rattle.lu_always.specs.Always.{FailsBy, HasSpec, IsAlwaysLinearizable}
-use Rattle.lu_always.specs.Nodes.{IsAfterMove, IsFirst, IsGoodNode, MovesLead, Node, Represents}
+use Rattle.lu_always.specs.Nodes.{IsAfterMove, IsFirst, IsGoodNode, IsWithin, MovesLead, Node, Represents}
 
 -- the move is the call of an idle thread, and the operation is blocked at once
 abbrev pub IsBlockedCall : Way → State → Move → Type 0
@@ -36,11 +36,12 @@ pub record IsGoodBeforeCalls (table : Table) (way : Way) (node : Node) : Type 0 
   pub next : (m : Move) → IsBlockedCall way node.state m
       → CanBeStuck (Goes table) m.thread node.monitor
 
--- Wherever these moves lead from state s, the list has a node, with the monitor after them.
+-- Wherever these moves lead from state s, the list has a node. Its configurations are among those of
+-- the monitor after the moves: a node with fewer linearizations stands for one with more.
 abbrev pub HasNodeAfter : DeadTable → Table → Way → List Node → State → List Move → List Shown
     → Type 0
 HasNodeAfter dead table way list s [] monitor =
-    (node : Node) × IsIn list node × Represents dead node s × (node.monitor ≡ monitor)
+    (node : Node) × IsIn list node × Represents dead node s × IsWithin node.monitor monitor
 HasNodeAfter dead table way list s (m ∷ u) monitor =
     (b : State) (event : Option Event) → ClientStep way s m b event
     → (after : List Shown) × IsAfterMove table b event monitor after

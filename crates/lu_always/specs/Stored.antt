@@ -1,5 +1,5 @@
 -- Nodes as they are stored.
-use Rattle.std.specs.Prelude.{◌≡◌, ◌⊎◌, ℕ, List, [], ◌∷◌, ◌++◌, Option, Some, slice_get}
+use Rattle.std.specs.Prelude.{◌≡◌, ◌⊎◌, ℕ, List, [], ◌∷◌, ◌++◌, Option, Some, None, slice_get}
 use Rattle.std.specs.Option.{option_and_then}
 use Rattle.lu_component.specs.Component.{Component}
 use Rattle.lu_test.specs.Matrix.{Matrix}
@@ -8,6 +8,7 @@ use Rattle.lu_machine.specs.Positions.{CanStand, standing_so}
 use Rattle.lu_machine.specs.States.{State}
 use Rattle.lu_linearization.specs.declared.configuration.Configuration.{Configuration as Shown}
 use Rattle.lu_always.specs.declared.stored.Arrival.{Arrival}
+use Rattle.lu_always.specs.Nodes.{IsWithin}
 
 -- the value of each cell, the owner of each lock, and where each thread is
 pub record StoredPosition : Type 0 where
@@ -55,6 +56,10 @@ abbrev pub HasMonitorAt : List StoredNode → ℕ → List Shown → Type 0
 HasMonitorAt all index monitor =
     (stored : StoredNode) × (slice_get all index ≡ Some stored) × (stored.monitor ≡ monitor)
 
+-- the node was reached by the arrival's move alone, from one with this monitor; or a call was made first
+abbrev pub ComesFromMonitor : List StoredNode → List Shown → Arrival → Type 0
+ComesFromMonitor all monitor a = a.call ≡ None → HasMonitorAt all a.parent monitor
+
 -- the machine was put at the position of the node that is stored at this index
 abbrev pub StandsAt : List StoredNode → ℕ → State → State → Type 0
 StandsAt all index old new =
@@ -65,12 +70,18 @@ StandsAt all index old new =
 abbrev pub stored_for : State → List Shown → Option Arrival → StoredNode
 stored_for s monitor arrival = record { position = position_in s; monitor = monitor; arrival = arrival }
 
--- The node of this state and this monitor is stored at the index. Only it was added, with this
--- arrival, or nothing.
+-- What is stored at the index has this state, and only configurations of this monitor. Only the node of
+-- this state and this monitor was added, with this arrival, or nothing.
 pub record Stores (s : State) (monitor : List Shown) (arrival : Option Arrival)
     (old new : List StoredNode) (index : ℕ) : Type 0 where
   pub stored : StoredNode
   pub at : slice_get new index ≡ Some stored
   pub position : stored.position ≡ position_in s
-  pub monitor_is : stored.monitor ≡ monitor
+  pub within : IsWithin stored.monitor monitor
   pub only : (new ≡ old) ⊎ (new ≡ old ++ stored_for s monitor arrival ∷ [])
+
+-- the same, with the monitor of the node that is stored at this index
+abbrev pub StoresBeside : State → ℕ → Option Arrival → List StoredNode → List StoredNode → ℕ → Type 0
+StoresBeside s beside arrival old new index =
+    (monitor : List Shown) → HasMonitorAt old beside monitor
+    → Stores s monitor arrival old new index

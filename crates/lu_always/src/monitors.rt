@@ -1,6 +1,9 @@
 //! The list of monitors, with an index.
 
 ghost use Rattle.std.specs.Prelude.{◌≡◌, [], ◌∷◌, ◌++◌, IfOk, IfSome, IsTrue, OnErr, OnOk, Some, length, option_copied, slice_get};
+ghost use Rattle.lu_linearization.specs.Monitors.{Holds, configuration_of};
+ghost use Rattle.lu_always.specs.Nodes.{IsWithin};
+ghost use Rattle.lu_always.specs.Rows.{numbered};
 
 use indexmap::IndexMap;
 use lu_history::SerialOutcome;
@@ -81,6 +84,31 @@ fn are_same(a: &[Configuration], b: &[Configuration]) -> bool
     }
 }
 
+/// Whether the configuration is in the list, which is sorted.
+fn has_configuration(list: &[Configuration], one: &Configuration) -> bool
+    ensures { IsTrue result → Holds list.now (configuration_of one.now) }
+{
+    match list.binary_search(one) {
+        Ok(_) => true,
+        Err(_) => false,
+    }
+}
+
+/// Whether each configuration of the first list is in the second. Both are sorted.
+fn are_within(less: &[Configuration], list: &[Configuration]) -> bool
+    ensures { IsTrue result → IsWithin less.now list.now }
+{
+    if less.len() > list.len() {
+        return false;
+    }
+    for one in less {
+        if !has_configuration(list, one) {
+            return false;
+        }
+    }
+    true
+}
+
 /// Whether the monitor with this number is this one.
 fn has_number(list: &[Monitor], monitor: &Monitor, number: u32) -> bool
     ensures { IsTrue result → slice_get list.now number ≡ Some monitor.now }
@@ -107,6 +135,23 @@ impl Monitors {
         ensures { option_copied result ≡ slice_get self.now number }
     {
         self.list.get(number as usize)
+    }
+
+    /// Whether each configuration of the monitor with the number `less` is one of the monitor with the
+    /// other number.
+    pub(crate) fn are_within(&self, less: u32, other: u32) -> bool
+        ensures { IsTrue result → IsWithin (numbered self.now less) (numbered self.now other) }
+    {
+        if less == other {
+            return true;
+        }
+        match self.get(less) {
+            None => false,
+            Some(less) => match self.get(other) {
+                None => false,
+                Some(other) => are_within(less.configurations(), other.configurations()),
+            },
+        }
     }
 
     /// The number of the monitor, if one is found. `likely` is looked at first.

@@ -1,8 +1,8 @@
 //! The list of nodes, with an index.
 
-ghost use Rattle.std.specs.Prelude.{◌≡◌, ◌<◌, [], IfOk, length};
-ghost use Rattle.lu_always.specs.Rows.{AddsEntry, HasRow, IsRowAt};
-ghost use Rattle.lu_always.specs.Stored.{CanStandAtNode, HasMonitorAt, StandsAt, Stores, arrival_at as its_arrival};
+ghost use Rattle.std.specs.Prelude.{◌≡◌, ◌<◌, [], IfOk, IfSome, IsTrue, length};
+ghost use Rattle.lu_always.specs.Rows.{AddsEntry, HasRow, IsCoveredBy, IsRowAt, StandsForRow};
+ghost use Rattle.lu_always.specs.Stored.{CanStandAtNode, HasMonitorAt, StandsAt, Stores, StoresBeside, arrival_at as its_arrival};
 
 use crate::rows::{Parts, Row};
 use crate::stored::Arrival;
@@ -18,6 +18,9 @@ use std::marker::Model;
 pub(crate) struct Nodes {
     parts: Parts,
     rows: IndexMap<Row, Option<Arrival>>,
+
+    /// The indexes of the rows of each position, by the row with monitor 0.
+    places: IndexMap<Row, Vec<u32>>,
 }
 
 impl Model for Nodes {
@@ -33,7 +36,7 @@ impl Model for Nodes {
 }
 
 /// The index of the row, which is added with this arrival if it is not there.
-fn store_row(
+fn add_row(
     rows: &mut IndexMap<Row, Option<Arrival>>,
     row: Row,
     arrival: Option<Arrival>,
@@ -46,6 +49,107 @@ fn store_row(
     }
     let index = rows.len();
     rows.insert(row, arrival)?;
+    Ok(index)
+}
+
+/// Whether the first row has the position of the second, and no configuration that the second does
+/// not have.
+fn stands_for(parts: &Parts, one: &Row, row: &Row) -> bool
+    ensures { IsTrue result → StandsForRow parts.now one.now row.now }
+{
+    one.cells == row.cells
+        && one.locks == row.locks
+        && one.threads == row.threads
+        && parts.monitors.are_within(one.monitor, row.monitor)
+}
+
+/// Whether the row at this index stands for the given one.
+fn is_covered_by(
+    parts: &Parts,
+    rows: &IndexMap<Row, Option<Arrival>>,
+    row: &Row,
+    index: usize,
+) -> bool
+    ensures { IsTrue result → IsCoveredBy parts.now rows.now.entries row.now index }
+{
+    match rows.get_index(index) {
+        None => false,
+        Some((one, _)) => stands_for(parts, one, row),
+    }
+}
+
+/// The index of a row that stands for the given one, if one is found.
+fn find_covering(
+    parts: &Parts,
+    rows: &IndexMap<Row, Option<Arrival>>,
+    places: &IndexMap<Row, Vec<u32>>,
+    row: &Row,
+) -> Option<usize>
+    ensures { IfSome result (IsCoveredBy parts.now rows.now.entries row.now) }
+{
+    let Some(indexes) = places.get(&place_of(row)) else {
+        return None;
+    };
+    for number in indexes {
+        let index = *number as usize;
+        if is_covered_by(parts, rows, row, index) {
+            return Some(index);
+        }
+    }
+    None
+}
+
+/// The row with monitor 0, which stands for its position.
+fn place_of(row: &Row) -> Row {
+    Row {
+        cells: row.cells,
+        locks: row.locks,
+        threads: row.threads,
+        monitor: 0,
+    }
+}
+
+/// Notes the index of a row among those of its position. Indexes of 4,294,967,296 and more are not
+/// noted: that is reported as out of memory.
+fn note(
+    alloc: Global,
+    places: &mut IndexMap<Row, Vec<u32>>,
+    row: &Row,
+    index: usize,
+) -> Result<(), AllocError> {
+    let number = u32::try_from(index).map_err(|_| AllocError)?;
+    let place = place_of(row);
+    match places.get_mut(&place) {
+        Some(indexes) => {
+            indexes.push(number)?;
+            Ok(())
+        }
+        None => {
+            let mut indexes = Vec::new(alloc);
+            indexes.push(number)?;
+            places.insert(place, indexes)?;
+            Ok(())
+        }
+    }
+}
+
+/// The index of a row that stands for this one, which is added with this arrival if none is found.
+fn store_row(
+    alloc: Global,
+    parts: &Parts,
+    rows: &mut IndexMap<Row, Option<Arrival>>,
+    places: &mut IndexMap<Row, Vec<u32>>,
+    row: Row,
+    arrival: Option<Arrival>,
+) -> Result<usize, AllocError>
+    ensures only { AddsEntry row arrival rows.old.entries rows.new.entries }
+    ensures there { IfOk result (IsCoveredBy parts.now rows.new.entries row) }
+{
+    if let Some(index) = find_covering(parts, rows, places, &row) {
+        return Ok(index);
+    }
+    let index = add_row(rows, row, arrival)?;
+    note(alloc, places, &row, index)?;
     Ok(index)
 }
 
@@ -75,6 +179,7 @@ impl Nodes {
         Nodes {
             parts: Parts::new(alloc),
             rows: IndexMap::new(alloc),
+            places: IndexMap::new(alloc),
         }
     }
 
@@ -114,8 +219,8 @@ impl Nodes {
         self.parts.monitor(row.monitor)
     }
 
-    /// Stores the node of this state and this monitor, with this arrival, unless it is stored
-    /// already. Returns its index.
+    /// Stores the node of this state and this monitor, with this arrival, unless a node is stored that
+    /// stands for it: one with the same state, and with no other configurations. Returns the index.
     pub(crate) fn store(
         &mut self,
         alloc: Global,
@@ -130,6 +235,38 @@ impl Nodes {
             .parts
             .number_of_monitor(alloc, monitor, likely.monitor)?;
         let row = self.parts.row_at(alloc, machine, number, &likely)?;
-        store_row(&mut self.rows, row, arrival)
+        store_row(
+            alloc,
+            &self.parts,
+            &mut self.rows,
+            &mut self.places,
+            row,
+            arrival,
+        )
+    }
+
+    /// Does the same with the monitor of the node at the index `beside`.
+    pub(crate) fn store_beside(
+        &mut self,
+        alloc: Global,
+        machine: &Machine<'_>,
+        beside: usize,
+        arrival: Option<Arrival>,
+    ) -> Result<usize, AllocError>
+        requires { beside < length self.old }
+        ensures { IfOk result (StoresBeside machine.now beside arrival self.old self.new) }
+    {
+        let likely = row_at(&self.rows, beside);
+        let row = self
+            .parts
+            .row_at(alloc, machine, likely.monitor, &likely)?;
+        store_row(
+            alloc,
+            &self.parts,
+            &mut self.rows,
+            &mut self.places,
+            row,
+            arrival,
+        )
     }
 }

@@ -1,12 +1,12 @@
 //! Nodes that are stored as moves lead to them, and the verdict.
 
-ghost use Rattle.std.specs.Prelude.{◌≡◌, IfOk, IfSome, None, OnOk};
+ghost use Rattle.std.specs.Prelude.{◌≡◌, IfOk, IfSome, None, OnOk, Some};
 ghost use Rattle.lu_machine.specs.Events.{IsEventInRange};
 ghost use Rattle.lu_machine.specs.Positions.{CanStandAt, at_position};
 ghost use Rattle.lu_machine.specs.Starts.{CanRun};
 ghost use Rattle.lu_machine.specs.Steps.{IsFeasible};
-ghost use Rattle.lu_always.specs.Searching.{AddsByOf, AddsOnly, Grows, HasNextBy, IsNodeOf, IsVerdict, MovesToBy, StoresAfterBy};
-ghost use Rattle.lu_always.specs.Stored.{StandsWhereItCan};
+ghost use Rattle.lu_always.specs.Searching.{AddsByOf, AddsOnly, Grows, HasNextBy, IsCoveredOf, IsVerdict, MovesToBy, StoresAfterBy};
+ghost use Rattle.lu_always.specs.Stored.{ComesFromMonitor, StandsWhereItCan};
 
 use crate::clearing::clear_dead;
 use crate::following::after_event;
@@ -35,10 +35,32 @@ fn store(
 ) -> Result<usize, AllocError>
     requires { StandsWhereItCan machine.now }
     ensures grows { OnOk result (Grows machine.now all.old all.new) }
-    ensures there { IfOk result (IsNodeOf machine.now monitor.now all.new) }
+    ensures there { IfOk result (IsCoveredOf machine.now monitor.now all.new) }
     ensures only { OnOk result (AddsOnly machine.now monitor.now arrival all.old all.new) }
 {
     all.store(alloc, machine, monitor, arrival)
+}
+
+/// Stores the node of this state and this monitor, to which a move without an event has led. If no
+/// call was made first, the node at the arrival's parent has this monitor. Returns the index.
+fn store_same(
+    alloc: Global,
+    machine: &Machine<'_>,
+    monitor: &Monitor,
+    arrival: Arrival,
+    all: &mut Nodes,
+) -> Result<usize, AllocError>
+    requires stands { StandsWhereItCan machine.now }
+    requires beside { ComesFromMonitor all.old monitor.now arrival }
+    ensures grows { OnOk result (Grows machine.now all.old all.new) }
+    ensures there { IfOk result (IsCoveredOf machine.now monitor.now all.new) }
+    ensures only { OnOk result
+        (AddsOnly machine.now monitor.now (Some arrival) all.old all.new) }
+{
+    match arrival.call {
+        None => all.store_beside(alloc, machine, arrival.parent, Some(arrival)),
+        Some(_) => store(alloc, machine, monitor, Some(arrival), all),
+    }
 }
 
 /// Stores the node of this state and this monitor, which was not reached from another, unless it is
@@ -50,7 +72,7 @@ pub(crate) fn store_first(
     all: &mut Nodes,
 ) -> Result<usize, AllocError>
     ensures grows { OnOk result (Grows machine.now all.old all.new) }
-    ensures there { IfOk result (IsNodeOf machine.now monitor.now all.new) }
+    ensures there { IfOk result (IsCoveredOf machine.now monitor.now all.new) }
     ensures only { OnOk result (AddsOnly machine.now monitor.now None all.old all.new) }
 {
     let here = machine.position(alloc)?;
@@ -67,14 +89,15 @@ fn store_after(
     arrival: Arrival,
     all: &mut Nodes,
 ) -> Result<usize, AllocError>
-    requires { IfSome event IsEventInRange }
+    requires range { IfSome event IsEventInRange }
+    requires beside { ComesFromMonitor all.old monitor.now arrival }
     ensures { IfOk result (StoresAfterBy given.entry machine.old event monitor.now arrival
         machine.new all.old all.new) }
 {
     match event {
         None => {
             clear_dead(given.alloc, machine, given.dead)?;
-            store(given.alloc, machine, monitor, Some(arrival), all)
+            store_same(given.alloc, machine, monitor, arrival, all)
         }
         Some(event) => {
             let after = after_event(given.alloc, machine, monitor, given.table, event)?;
@@ -97,6 +120,7 @@ pub(crate) fn store_next(
     requires feasible { IsFeasible machine.old arrival.by }
     requires stands { CanStandAt machine.old.component machine.old.matrix home.now }
     requires here { at_position machine.old home.now ≡ machine.old }
+    requires beside { ComesFromMonitor all.old monitor.now arrival }
     ensures home { OnOk result (machine.new ≡ machine.old) }
     ensures grows { OnOk result (Grows machine.old all.old all.new) }
     ensures next { OnOk result

@@ -7,7 +7,8 @@ ghost use Rattle.lu_machine.specs.Positions.{CanStandAt, at_position};
 ghost use Rattle.lu_machine.specs.Starts.{CanRun, IsStart};
 ghost use Rattle.lu_machine.specs.Steps.{IsFeasible};
 ghost use Rattle.lu_always.specs.Searching.{AddsAtBy, AddsOf, AllCanStand, Grows};
-ghost use Rattle.lu_always.specs.StepSearch.{AddsMovesBy, AreExitsBy, AreExitsByThread, AreReachedByThread, HasAllStepsBy, HasCallBy, HasMovesBy, HasStepsBy, IsBegunBy, IsStepVisitBy, IsVerdictBy};
+ghost use Rattle.lu_always.specs.StepSearch.{AddsMovesBy, AreExitsBy, AreExitsByThread, AreReachedByThread, HasAllStepsBy, HasCallBy, HasMovesBy, HasStepsBy, IsBegunBy, IsFromMonitor, IsStepVisitBy, IsVerdictBy};
+ghost use Rattle.lu_always.specs.Stored.{HasMonitorAt};
 ghost use Rattle.lu_always.specs.Ways.{HasParentsBefore, IsWayWith};
 
 use crate::following::after_move;
@@ -60,6 +61,7 @@ fn store_moves(
 ) -> Result<Vec<usize>, AllocError>
     requires stands { CanStandAt machine.old.component machine.old.matrix home.now }
     requires here { at_position machine.old home.now ≡ machine.old }
+    requires beside { IsFromMonitor all.old monitor.now origin }
     ensures home { OnOk result (machine.new ≡ machine.old) }
     ensures grows { OnOk result (Grows machine.old all.old all.new) }
     ensures moves { OnOk result
@@ -129,6 +131,7 @@ fn store_steps(
 ) -> Result<Vec<usize>, AllocError>
     requires stands { CanStandAt machine.old.component machine.old.matrix home.now }
     requires here { at_position machine.old home.now ≡ machine.old }
+    requires at { HasMonitorAt all.old at monitor.now }
     ensures home { OnOk result (machine.new ≡ machine.old) }
     ensures grows { OnOk result (Grows machine.old all.old all.new) }
     ensures steps { OnOk result
@@ -168,6 +171,7 @@ fn store_all_steps(
     requires guards { TellsGuarded machine.old.component guards.now }
     requires stands { CanStandAt machine.old.component machine.old.matrix home.now }
     requires here { at_position machine.old home.now ≡ machine.old }
+    requires at { HasMonitorAt all.old at monitor.now }
     ensures home { OnOk result (machine.new ≡ machine.old) }
     ensures grows { OnOk result (Grows machine.old all.old all.new) }
     ensures steps { OnOk result

@@ -38,9 +38,9 @@ pub record HasTooMany (c : Component) (matrix : Matrix) (serial : ℕ) : Type 0 
   pub has : HasHistories start serial count
   pub many : MOST_LISTED < count
 
--- with a 32nd of the nodes: a node of this search takes far more memory than one of a cut
+-- with a quarter of the nodes: a node of this search takes more memory than one of a cut
 abbrev pub in_one_search : CertifyOptions → CertifyOptions
-in_one_search asked = record asked { nodes = asked.nodes / 32 }
+in_one_search asked = record asked { nodes = asked.nodes / 4 }
 
 -- All cuts are clear, and the prefixes of the serial histories are listed. Or there are too many serial
 -- histories, and the answer is the verdict on one round.

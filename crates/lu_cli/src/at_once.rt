@@ -19,14 +19,14 @@ use lu_serial_graph::{SerialGraph, learn_graph};
 use lu_spec::Spec;
 use std::alloc::{AllocError, Global};
 
-/// The options of this search, in which a node takes far more memory than one of a cut.
+/// The options of this search, in which a node takes more memory than one of a cut.
 fn in_one_search(asked: CertifyOptions) -> CertifyOptions
     ensures { result ≡ spec.in_one_search asked }
 {
     CertifyOptions {
         options: asked.options,
         local: asked.local,
-        nodes: asked.nodes / 32,
+        nodes: asked.nodes / 4,
     }
 }
 

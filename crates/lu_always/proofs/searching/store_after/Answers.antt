@@ -9,10 +9,10 @@ returns-in_ok-clear_dead-in-None c =
     let s = c.args.machine.now in
     let cleared = c.clear_dead.new.machine in
     let old = c.args.all.now in
-    let new = c.store.new.all in
+    let new = c.store_same.new.all in
     let monitor = c.args.monitor.now in
-    subst (λ e. IfOk c.store.result (StoresAfter given.dead.now given.table.now s e monitor c.args.arrival cleared old new)) (sym c.in-None.is)
-    (stored_after given.dead.now given.table.now s None monitor c.args.arrival cleared old new monitor refl c.in_ok-clear_dead-in-None.ensures.cleared c.store.result c.store.ensures.grows c.store.ensures.there c.store.ensures.only)
+    subst (λ e. IfOk c.store_same.result (StoresAfter given.dead.now given.table.now s e monitor c.args.arrival cleared old new)) (sym c.in-None.is)
+    (stored_after given.dead.now given.table.now s None monitor c.args.arrival cleared old new monitor refl c.in_ok-clear_dead-in-None.ensures.cleared c.store_same.result c.store_same.ensures.grows c.store_same.ensures.there c.store_same.ensures.only)
 
 pub returns-in_ok-clear_dead-in-Some : goal.returns-in_ok-clear_dead-in-Some
 returns-in_ok-clear_dead-in-Some c =
@@ -20,7 +20,7 @@ returns-in_ok-clear_dead-in-Some c =
     let s = c.args.machine.now in
     let cleared = c.clear_dead-in-Some.new.machine in
     let old = c.args.all.now in
-    let new = c.store-in-Some.new.all in
+    let new = c.store.new.all in
     let after = c.in_ok-after-in-Some.after in
-    subst (λ e. IfOk c.store-in-Some.result (StoresAfter given.dead.now given.table.now s e c.args.monitor.now c.args.arrival cleared old new)) (sym c.in-Some.is)
-    (stored_after given.dead.now given.table.now s (Some c.in-Some.event) c.args.monitor.now c.args.arrival cleared old new after c.in_ok-after-in-Some.ensures c.in_ok-clear_dead-in-Some.ensures.cleared c.store-in-Some.result c.store-in-Some.ensures.grows c.store-in-Some.ensures.there c.store-in-Some.ensures.only)
+    subst (λ e. IfOk c.store.result (StoresAfter given.dead.now given.table.now s e c.args.monitor.now c.args.arrival cleared old new)) (sym c.in-Some.is)
+    (stored_after given.dead.now given.table.now s (Some c.in-Some.event) c.args.monitor.now c.args.arrival cleared old new after c.in_ok-after-in-Some.ensures c.in_ok-clear_dead-in-Some.ensures.cleared c.store.result c.store.ensures.grows c.store.ensures.there c.store.ensures.only)

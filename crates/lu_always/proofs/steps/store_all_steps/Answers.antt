@@ -2,6 +2,7 @@ use Rattle.std.proofs.Common.{arith, ◌++◌, inl, inr, refl, ◌∙◌, ap, su
 use Rattle.lu_always.specs.Exits.{AreExitsOf}
 use Rattle.lu_always.specs.Searching.{Grows}
 use Rattle.lu_always.proofs.Exiting.{between_all, between_next, between_none}
+use Rattle.lu_always.proofs.Keeping.{monitor_more}
 use Rattle.lu_always.proofs.StepsMade.{threads_all, threads_next, threads_none}
 use Rattle.lu_always.proofs.steps.store_all_steps.Goals as goal
 
@@ -51,3 +52,6 @@ returns-clause-grows c = c.loop-thread.invariant.steps.grows
 
 pub returns-clause-new : goal.returns-clause-new
 returns-clause-new c = c.loop-thread.invariant.steps.adds
+
+pub store_steps-requires-clause-at : goal.store_steps-requires-clause-at
+store_steps-requires-clause-at c = monitor_more c.args.machine.now c.args.all.now c.loop-thread.all c.loop-thread.invariant.steps.grows c.args.at c.args.monitor.now c.requires.at

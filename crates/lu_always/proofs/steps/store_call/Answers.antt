@@ -34,3 +34,6 @@ pub returns-clause-new : goal.returns-clause-new
 returns-clause-new c =
     adds_called c.args.given.dead.now c.args.given.rounds c.args.given.table.now c.args.machine.now c.args.monitor.now c.args.call c.client_step.new.machine c.in_ok-event.event c.in_ok-after.after
     c.in_ok-event.ensures.step c.in_ok-after.ensures c.args.at c.args.all.now c.store_moves.new.all c.in_ok-store_moves.ensures.new
+
+pub store_moves-requires-clause-beside : goal.store_moves-requires-clause-beside
+store_moves-requires-clause-beside c = λ none. absurd cc

@@ -5,6 +5,7 @@ use Rattle.lu_always.specs.declared.stored.Arrival.{Arrival}
 use Rattle.lu_always.specs.Exits.{AreReached, MovesTo}
 use Rattle.lu_always.specs.Searching.{Grows}
 use Rattle.lu_always.proofs.Exiting.{Below, picks_all, picks_next, picks_none}
+use Rattle.lu_always.proofs.Keeping.{monitor_more}
 use Rattle.lu_always.proofs.StepsMade.{moves_all, moves_next, moves_none}
 use Rattle.lu_always.proofs.steps.store_moves.Goals as goal
 
@@ -29,6 +30,9 @@ loop-pick-preserved c =
           c.in_ok-index.ensures.home c.in_ok-index.ensures.grows c.in_ok-index.ensures.next c.in_ok-index.ensures.new,
       picks_next c.args.given.dead.now c.args.given.rounds s c.args.thread c.loop-pick.all new c.loop-pick.indexes.items c.push.new.self.items c.loop-pick.pick c.in_ok-index.index grows c.in_ok-push.ensures.items leads c.loop-pick.invariant.1,
     )
+
+pub store_next-requires-clause-beside : goal.store_next-requires-clause-beside
+store_next-requires-clause-beside c = λ none. monitor_more c.args.machine.now c.args.all.now c.loop-pick.all c.loop-pick.invariant.0.grows c.args.origin.index c.args.monitor.now (c.requires.beside none)
 
 pub returns-clause-moves : goal.returns-clause-moves
 returns-clause-moves c =

@@ -39,3 +39,6 @@ pub returns-clause-exits : goal.returns-clause-exits
 returns-clause-exits c =
     exits_shut c.args.given.dead.now c.args.given.rounds c.args.machine.now c.args.thread c.store_call.new.all c.new-2.result.items c.new-2.ensures.items
     (not_waiting c.args.machine.now c.args.thread c.is_waiting.result c.is_waiting.ensures c.if-is_waiting.false)
+
+pub store_moves-requires-clause-beside : goal.store_moves-requires-clause-beside
+store_moves-requires-clause-beside c = λ none. c.requires.at

@@ -53,3 +53,7 @@ returns-clause-visit c = λ kept at.
     let judged : IsJudgedAt c.args.given c.stand_at.new.machine c.in_ok-monitor.monitor it = subst (IsJudgedAt c.args.given c.stand_at.new.machine c.in_ok-monitor.monitor) c.in-BadAfterCall.is c.in_ok-judged.ensures.judged in
     let same = here_node c.args.machine.now c.stand_at.new.machine c.args.all.now c.args.index c.in_ok-monitor.monitor c.stand_at.ensures (copied_monitor c.args.all.now c.args.index c.monitor.result.now c.in_ok-monitor.monitor c.in_ok-monitor.ensures c.monitor.ensures) kept at in
     subst (λ (x : Node). IsJudged c.args.given.rounds c.args.given.table.now x it) same judged
+
+pub store_all_steps-requires-clause-at : goal.store_all_steps-requires-clause-at
+store_all_steps-requires-clause-at c =
+    copied_monitor c.args.all.now c.args.index c.monitor.result.now c.in_ok-monitor.monitor c.in_ok-monitor.ensures c.monitor.ensures

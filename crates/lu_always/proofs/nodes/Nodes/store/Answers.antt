@@ -1,6 +1,6 @@
 use Rattle.std.proofs.Common.{sym, subst}
 use Rattle.std.proofs.lemmas.Result.{IfOk-weaker}
-use Rattle.lu_always.specs.Rows.{HasRow, IsMonitorOf, stored_in}
+use Rattle.lu_always.specs.Rows.{IsCoveredBy, IsMonitorOf, stored_in}
 use Rattle.lu_always.specs.Stored.{Stores}
 use Rattle.lu_always.proofs.Rowed.{are_more, are_stay, grow_on, monitor_stays, stores, whole_from}
 use Rattle.lu_always.specs.Stored.{position_in}
@@ -38,7 +38,7 @@ returns c =
     let its = monitor_stays mid new c.in_ok-row.ensures.grows c.in_ok-number.number c.args.monitor.now c.in_ok-number.ensures.number in
     let monitor = subst (λ n. IsMonitorOf new n c.args.monitor.now) (sym c.in_ok-row.ensures.monitor) its in
     let after = stored_in new c.store_row.new.rows.entries in
-    IfOk-weaker c.store_row.result (HasRow c.store_row.new.rows.entries row) (Stores s c.args.monitor.now c.args.arrival c.args.self.now after)
+    IfOk-weaker c.store_row.result (IsCoveredBy new c.store_row.new.rows.entries row) (Stores s c.args.monitor.now c.args.arrival c.args.self.now after)
     (λ index there.
     subst (λ before. Stores s c.args.monitor.now c.args.arrival before after index) c.self.view_is
     (stores old new s c.args.monitor.now c.args.arrival c.self.inside.rows.entries c.store_row.new.rows.entries row index grow c.self.invariant c.in_ok-row.ensures.position monitor c.store_row.ensures.only there))

@@ -1,0 +1,1 @@
+use Rattle.lu_always.proofs.nodes.stands_for.Goals as goal
