@@ -102,7 +102,7 @@ module _ (c : Component) (setup : List ACall) (bound : ℕ) (r : Run) (s : State
 
   pub at_end : (verdict : RunVerdict) → IsEndVerdict r.is_stuck table list pending verdict → IsVerdict c bound s r verdict
   at_end Passes is = passes_now r.is_stuck refl is
-  at_end (FailsAt n) is = absurd is
+  at_end (FailsAt failure) is = absurd is
   at_end (Offends t n) is = absurd is
   at_end (NotStuck t) is =
       let now = stuck_now t (by_thread pending t) refl is.1 in

@@ -17,7 +17,7 @@ use Rattle.lu_run.specs.Asking.{rest_at}
 use Rattle.lu_run.specs.Judging.{IsFollowed, IsForeseen, HasLinearization, Represents}
 use Rattle.lu_run.specs.Runs.{history_of}
 
-first_of : (positions : List Position) → 0 < length positions → (p : Position) × IsAmong p positions
+pub first_of : (positions : List Position) → 0 < length positions → (p : Position) × IsAmong p positions
 first_of [] some = absurd (omega arith)
 first_of (p ∷ positions) some = (p, inl refl)
 

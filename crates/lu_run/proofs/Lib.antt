@@ -22,3 +22,4 @@ pub mod BeginningLines
 pub mod ReadRuns
 pub mod SetupLines
 pub mod Halving
+pub mod Expected

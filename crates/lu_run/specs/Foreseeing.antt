@@ -6,6 +6,7 @@ use Rattle.lu_linearization.specs.declared.configuration.Configuration.{Configur
 use Rattle.lu_linearization.specs.Monitors.{AreClosed, by_thread}
 use Rattle.lu_run.specs.declared.automaton.Foreseen.{Foreseen}
 use Rattle.lu_run.specs.declared.automaton.ThreadCall.{ThreadCall}
+use Rattle.lu_run.specs.declared.following.Follower.{Follower}
 use Rattle.lu_run.specs.declared.run.RunEvent.{RunEvent}
 use Rattle.lu_run.specs.declared.run.RunEvent.TheVariants.{Call as Calls, Return as Returns}
 use Rattle.lu_run.specs.declared.table.Table.{Table}
@@ -40,9 +41,8 @@ abbrev pub NextForeseen : Foreseen → ℕ → ThreadCall → SerialOutcome → 
 NextForeseen it state call outcome next =
     NextAllowed it.table.now it.returns.now state call outcome next
 
--- what is returned, if anything is, has the configurations of this list after a call of thread t, and
--- those that come of them, as far as pending calls may return these outcomes
-abbrev pub IfCloses : {E : Type 0} → Table → List (Option ThreadCall) → List (Option SerialOutcome)
-    → ℕ → List Kept → Result (List Kept) E → Type 0
-IfCloses table pending returns t list result =
-    IfOk result (AreClosed (NextAllowed table returns) (by_thread pending) t list)
+-- what is returned, if anything is, has the follower's configurations after a call of thread t, and
+-- those that come of them, as far as its pending calls may return what it foresees
+abbrev pub IfCloses : {E : Type 0} → Table → Follower → ℕ → Result (List Kept) E → Type 0
+IfCloses table f t result =
+    IfOk result (AreClosed (NextAllowed table f.returns) (by_thread f.pending) t f.monitor)

@@ -22,11 +22,15 @@ use Rattle.lu_linearization.specs.Monitors.{CanBeStuck, Holds, by_thread}
 use Rattle.lu_run.specs.declared.automaton.ThreadCall.{ThreadCall}
 use Rattle.lu_run.specs.declared.run.Run.{Run}
 use Rattle.lu_run.specs.declared.run.RunEvent.{RunEvent}
+use Rattle.lu_run.specs.declared.run.RunEvent.TheVariants.{Call as Calls, Return as Returns}
 use Rattle.lu_run.specs.declared.table.Rests.{Rests}
 use Rattle.lu_run.specs.declared.table.Table.{Table}
 use Rattle.lu_run.specs.declared.following.FollowFault.{FollowFault}
 use Rattle.lu_run.specs.declared.following.FollowFault.TheVariants as fault
 use Rattle.lu_run.specs.declared.following.Follower.{Follower}
+use Rattle.lu_run.specs.declared.following.SerialRuns.{SerialRuns}
+use Rattle.lu_run.specs.declared.judging.Followed.{Followed}
+use Rattle.lu_run.specs.declared.judging.RunFailure.{RunFailure}
 use Rattle.lu_run.specs.declared.judging.RunVerdict.{RunVerdict}
 use Rattle.lu_run.specs.declared.judging.RunVerdict.TheVariants.{Passes, FailsAt, CannotBeStuck as NotStuck, Offends}
 use Rattle.lu_run.specs.declared.table.Question.{Question}
@@ -132,10 +136,10 @@ Advances c calls event more table old later new =
     → Foresees c s calls events later new (history_of (done ++ event ∷ [])) more
 
 -- the same, of what a step returns, unless a serial run offends or memory ran out
-abbrev pub IfAdvances : {E : Type 0} → Component → List ACall → RunEvent → List RunEvent → Table
-    → Follower → Table → Result Follower E → Type 0
-IfAdvances c calls event more table old later result =
-    IfOk result (Advances c calls event more table old later)
+abbrev pub IfAdvances : {E : Type 0} → SerialRuns → RunEvent → List RunEvent → Table → Follower
+    → Table → Result Follower E → Type 0
+IfAdvances runs event more table old later result =
+    IfOk result (Advances runs.component.now runs.calls.now event more table old later)
 
 -- the follower is ready
 abbrev pub IfReady : {E : Type 0} → Component → List ACall → Table → Result Follower E → Type 0
@@ -159,6 +163,12 @@ abbrev pub FollowsAll : Component → List ACall → Table → List RunEvent →
 FollowsAll c calls old part new f =
     OfEachRun c calls old part
     (λ s events. IsFollowed c s calls events new f.pending f.monitor (history_of part))
+
+-- the same, of what is returned, unless a serial run offends or memory ran out
+abbrev pub IfFollows : {E : Type 0} → SerialRuns → Table → List RunEvent → Table
+    → Result Followed E → Type 0
+IfFollows runs old part new result =
+    IfOk result (λ all. FollowsAll runs.component.now runs.calls.now old part new all.follower)
 
 -- the matrix with this setup, in which eight threads make no calls
 abbrev pub idle_matrix : List ACall → Matrix
@@ -207,6 +217,28 @@ pub record IsFirstWithout (s : State) (events : List RunEvent) (n : ℕ) : Type 
   pub before : HasLinearization s (take n events)
   pub after : HasLinearization s (take (n + 1) events) → ⊥
 
+-- the thread of the event
+abbrev pub thread_of : RunEvent → ℕ
+thread_of (Calls t n) = t
+thread_of (Returns t outcome) = t
+
+-- in some linearization of these events, the pending operation of thread t has this outcome
+abbrev pub MayReturn : State → List RunEvent → ℕ → SerialOutcome → Type 0
+MayReturn s part t outcome =
+    (d : Configuration Rest) × IsConfiguration (RestAfter s) (history_of part) d
+    × (d.effects t ≡ Some outcome)
+
+-- such an outcome; or none, if there is none
+abbrev pub IsExpected : State → List RunEvent → ℕ → Option SerialOutcome → Type 0
+IsExpected s part t None = (outcome : SerialOutcome) → MayReturn s part t outcome → ⊥
+IsExpected s part t (Some outcome) = MayReturn s part t outcome
+
+-- so it is of the operation of event number n, after the events before it
+abbrev pub IsExpectedAt : State → List RunEvent → ℕ → Option SerialOutcome → Type 0
+IsExpectedAt s events n expected =
+    (e : RunEvent) × (slice_get events n ≡ Some e)
+    × IsExpected s (take n events) (thread_of e) expected
+
 -- Thread t has a pending call, and no serial run gets stuck in it: without the other pending calls,
 -- the history has no witness.
 pub record IsNeverStuck (s : State) (events : List RunEvent) (t : ℕ) : Type 0 where
@@ -223,8 +255,9 @@ RunPasses s run = IsPassing s run.events.items run.is_stuck
 -- its calls offends, the verdict is that call.
 abbrev pub IsVerdict : Component → ℕ → State → Run → RunVerdict → Type 0
 IsVerdict c bound s run Passes = RunPasses s run
-IsVerdict c bound s run (FailsAt n) =
-    IsFirstWithout s run.events.items n × (RunPasses s run → ⊥)
+IsVerdict c bound s run (FailsAt failure) =
+    IsFirstWithout s run.events.items failure.event × (RunPasses s run → ⊥)
+    × IsExpectedAt s run.events.items failure.event failure.expected
 IsVerdict c bound s run (NotStuck t) =
     (run.is_stuck ≡ true) × IsNeverStuck s run.events.items t × (RunPasses s run → ⊥)
 IsVerdict c bound s run (Offends t n) = IsOffence c run.calls.items (rest_of s) bound t n
@@ -265,13 +298,50 @@ abbrev pub TellsOfEach : Component → List ACall → Table → List RunEvent �
 TellsOfEach c calls table part lost =
     OfEachRun c calls table part (λ s events. TellsLost s part lost)
 
+-- the same, of what is returned, unless a serial run offends or memory ran out
+abbrev pub IfTells : {E : Type 0} → SerialRuns → Table → List RunEvent → Result Followed E → Type 0
+IfTells runs table part result =
+    IfOk result (λ all. TellsOfEach runs.component.now runs.calls.now table part all.lost)
+
 -- what is returned, if anything is, is the first event after which the events have no linearization, if
 -- they have none, and the first `kept` of them have one
-abbrev pub FindsFirst : {E : Type 0} → Component → List ACall → Table → List RunEvent → ℕ
-    → Result ℕ E → Type 0
-FindsFirst c calls table part kept result =
-    OfEachRun c calls table part
+abbrev pub FindsFirst : {E : Type 0} → SerialRuns → Table → List RunEvent → ℕ → Result ℕ E → Type 0
+FindsFirst runs table part kept result =
+    OfEachRun runs.component.now runs.calls.now table part
     (λ s events. TellsLost s part (Some kept) → IfOk result (IsFirstWithout s part))
+
+-- this outcome, or the next one
+abbrev pub first_some : Option SerialOutcome → Option SerialOutcome → Option SerialOutcome
+first_some None next = next
+first_some (Some outcome) next = Some outcome
+
+-- the outcome of the pending operation of thread t in the first configuration where it has taken
+-- effect
+abbrev pub first_effect : ℕ → List Kept → Option SerialOutcome
+first_effect t [] = None
+first_effect t (one ∷ list) = first_some (by_thread one.effects t) (first_effect t list)
+
+-- what is returned, if anything is, is an outcome that the pending operation of thread t has in some
+-- linearization of the events
+abbrev pub FindsExpected : {E : Type 0} → SerialRuns → Table → List RunEvent → ℕ
+    → Result (Option SerialOutcome) E → Type 0
+FindsExpected runs table part t result =
+    OfEachRun runs.component.now runs.calls.now table part
+    (λ s events. IfOk result (IsExpected s part t))
+
+-- the event is the first after which the events have no linearization, and this is the outcome that
+-- is expected
+abbrev pub IsFailure : State → List RunEvent → RunFailure → Type 0
+IsFailure s part failure =
+    IsFirstWithout s part failure.event × IsExpectedAt s part failure.event failure.expected
+
+-- what is returned, if anything is, is the failure of the events, if they have no linearization, and
+-- the first `kept` of them have one
+abbrev pub FindsFailure : {E : Type 0} → SerialRuns → Table → List RunEvent → ℕ
+    → Result RunFailure E → Type 0
+FindsFailure runs table part kept result =
+    OfEachRun runs.component.now runs.calls.now table part
+    (λ s events. TellsLost s part (Some kept) → IfOk result (IsFailure s part))
 
 -- the pending call of the thread can't be stuck; where there is no such thread, each can be
 abbrev pub TellsNotStuck : Table → List Kept → List (Option ThreadCall) → Option ℕ → Type 0

@@ -14,4 +14,5 @@ pub mod Reading
 pub mod Beginnings
 pub mod Setups
 pub mod Bundled
+pub mod Endings
 pub mod Verdicts

@@ -78,6 +78,10 @@ pub record Learns (c : Component) (calls : List ACall) (old new : Table) : Type 
   pub grows : Grows old new
   pub reached : (start : Rest) → AreReached c calls start old → AreReached c calls start new
 
+-- the same, of these serial runs
+abbrev pub LearnsBy : SerialRuns → Table → Table → Type 0
+LearnsBy runs old new = Learns runs.component.now runs.calls.now old new
+
 -- from each rest from which the table's states are reached, a serial run offends
 abbrev pub OffendsFrom : Component → List ACall → ℕ → Table → ThreadCall → Type 0
 OffendsFrom c calls bound table call =

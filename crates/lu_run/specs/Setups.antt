@@ -1,7 +1,8 @@
 -- The text of a setup.
-use Rattle.std.specs.Prelude.{[], ◌∷◌, Result, Ok}
+use Rattle.std.specs.Prelude.{ℕ, List, [], ◌∷◌, Result, Ok}
 use Rattle.std.specs.Option.{unwrap_or}
-use Rattle.lu_text.specs.Faults.{Grammar}
+use Rattle.lu_text.specs.Faults.{Grammar, meaning_of_lines}
+use Rattle.lu_text.specs.declared.fault.Fault.{Fault}
 use Rattle.lu_component.specs.Component.{Component}
 use Rattle.lu_test.specs.Matrix.{Matrix, matrix_with}
 use Rattle.lu_test.specs.MatrixText.{MatrixDraft, line_of, nothing}
@@ -20,3 +21,7 @@ setup_read draft = Ok (setup_matrix draft)
 abbrev pub setup_grammar : Component → Grammar MatrixFaultKind MatrixDraft Matrix
 setup_grammar c =
     record { nothing = nothing; line = line_of (signatures c.operations); finish = setup_read }
+
+-- the matrix of the setup that these lines say, or their first fault
+abbrev pub setup_said : Component → List (List ℕ) → Result Matrix (Fault MatrixFaultKind)
+setup_said c lines = meaning_of_lines (setup_grammar c) lines

@@ -10,6 +10,9 @@ use Rattle.lu_run.specs.declared.judging.RunVerdict.TheVariants.{Passes, FailsAt
 use Rattle.lu_run.specs.declared.run.Run.{Run}
 use Rattle.lu_run.specs.declared.run.RunEvent.{RunEvent}
 use Rattle.lu_run.specs.declared.run.RunEvent.TheVariants.{Call, Return}
+use Rattle.lu_history.specs.Text.{serial_outcome_text}
+use Rattle.lu_history.specs.declared.serial.SerialOutcome.{SerialOutcome}
+use Rattle.lu_run.specs.Endings.{end_text, line_of}
 use Rattle.lu_run.specs.Judging.{IsVerdict}
 use Rattle.lu_run.specs.Runs.{matrix_of}
 use Rattle.lu_run.specs.RunWriting.{event_words, numbered_call, run_text}
@@ -64,14 +67,20 @@ call_at c run (Some n) = numbered_call c.operations run.calls.items n
 
 -- the event of the verdict, if it has one, is one of the run
 abbrev pub NamesEventOf : Run → RunVerdict → Type 0
-NamesEventOf run (FailsAt n) = n < length run.events.items
+NamesEventOf run (FailsAt failure) = failure.event < length run.events.items
 NamesEventOf run verdict = Unit {0}
 
+-- what would go on, in place of this outcome
+abbrev pub expected_words : Option SerialOutcome → List ℕ
+expected_words None = codes "`, the run has no linearization, whatever the call returns\n"
+expected_words (Some outcome) =
+    codes "`, the run has no linearization; with `" ++ (serial_outcome_text outcome
+    ++ codes "` it has one\n")
+
 -- what is said of this line, this call of thread t, and this call of a serial run
-abbrev pub lost_words : ℕ → List ℕ → List ℕ
-lost_words line words =
-    codes "after line " ++ (decimal line ++ (codes ", `" ++ (words
-    ++ codes "`, the run has no linearization\n")))
+abbrev pub lost_words : ℕ → List ℕ → Option SerialOutcome → List ℕ
+lost_words line words expected =
+    codes "after line " ++ (decimal line ++ (codes ", `" ++ (words ++ expected_words expected)))
 
 abbrev pub never_stuck_words : List ℕ → ℕ → List ℕ
 never_stuck_words call t =
@@ -83,17 +92,21 @@ offence_words call t bound =
     codes "in a serial run of its calls, `" ++ (call ++ (codes "` of thread " ++ (decimal t
     ++ (codes " has two outcomes or takes more than " ++ (decimal bound ++ codes " moves\n")))))
 
--- Why the run does not pass. Event number n is on line n + 2 of the run's text as it is written.
+-- Why the run does not pass. Lines are those of the text that is shown.
 abbrev pub reason_text : Component → ℕ → Run → RunVerdict → List ℕ
 reason_text c bound run Passes = []
-reason_text c bound run (FailsAt n) =
-    lost_words (n + 2) (words_at c run (slice_get run.events.items n))
+reason_text c bound run (FailsAt failure) =
+    lost_words (line_of run.events.items failure.event)
+    (words_at c run (slice_get run.events.items failure.event)) failure.expected
 reason_text c bound run (NotStuck t) =
     never_stuck_words (call_at c run (last_call t run.events.items)) t
 reason_text c bound run (Offends t n) = offence_words (call_at c run (Some n)) t bound
 
--- the text of the run as far as it shows the reason: up to the event after which no linearization is
--- left, or to its end
+abbrev pub IsReason : Component → ℕ → Run → RunVerdict → List ℕ → Type 0
+IsReason c bound run verdict text = text ≡ reason_text c bound run verdict
+
+-- the text of the run as far as it shows the reason: its end, up to the event after which no
+-- linearization is left; or the whole run
 abbrev pub failing_text : Component → Run → RunVerdict → List ℕ
-failing_text c run (FailsAt n) = run_text c run (n + 1)
+failing_text c run (FailsAt failure) = end_text c run failure.event
 failing_text c run verdict = run_text c run (length run.events.items)

@@ -5,7 +5,7 @@ ghost use Rattle.lu_machine.specs.declared.TheConstants.{MOST_MOVES};
 ghost use Rattle.lu_linearization.specs.Monitors.{by_thread};
 ghost use Rattle.lu_run.specs.Following.{AllKnown, AreAnswered, AreSeated, HasState, HasStates, IsKnownAt, question_at};
 ghost use Rattle.lu_run.specs.Foreseeing.{IfCloses};
-ghost use Rattle.lu_run.specs.Offending.{IsFollowFaultOf, Learns};
+ghost use Rattle.lu_run.specs.Offending.{IsFollowFaultOf, LearnsBy};
 ghost use Rattle.lu_run.specs.Tables.{AreCallsOf, IsTable};
 ghost use Rattle.lu_run.specs.declared.following.FollowFault.TheVariants.{Memory};
 
@@ -96,8 +96,7 @@ fn learn_at(
     requires seated { AreSeated runs.calls.now pending.now }
     requires state { HasState table.old one.now.state }
     requires few { runs.bound ≤ MOST_MOVES }
-    ensures learns { OnOk result
-        (Learns runs.entry.component.now runs.entry.calls.now table.old table.new) }
+    ensures learns { OnOk result (LearnsBy runs.entry table.old table.new) }
     ensures known { OnOk result (IsKnownAt table.new pending.now one.now) }
     ensures same { IfOk result (λ new. new ≡ false → table.new ≡ table.old) }
     ensures offends { IfErr result (IsFollowFaultOf runs.entry table.old) }
@@ -133,8 +132,7 @@ fn learn_all(
     requires seated { AreSeated runs.calls.now pending.now }
     requires states { HasStates table.old configurations.now }
     requires few { runs.bound ≤ MOST_MOVES }
-    ensures learns { OnOk result
-        (Learns runs.entry.component.now runs.entry.calls.now table.old table.new) }
+    ensures learns { OnOk result (LearnsBy runs.entry table.old table.new) }
     ensures known { OnOk result (AllKnown table.new pending.now configurations.now) }
     ensures same { IfOk result (λ new. new ≡ false → table.new ≡ table.old) }
     ensures offends { IfErr result (IsFollowFaultOf runs.entry table.old) }
@@ -164,10 +162,8 @@ pub(crate) fn follow(
     requires seated { AreSeated runs.calls.now follower.now.pending }
     requires thread { thread < 8 }
     requires few { runs.bound ≤ MOST_MOVES }
-    ensures learns { OnOk result
-        (Learns runs.entry.component.now runs.entry.calls.now table.old table.new) }
-    ensures closed { IfCloses
-        table.new follower.now.pending follower.now.returns thread follower.now.monitor result }
+    ensures learns { OnOk result (LearnsBy runs.entry table.old table.new) }
+    ensures closed { IfCloses table.new follower.now thread result }
     ensures known { IfOk result (AreAnswered table.new (by_thread follower.now.pending)) }
     ensures offends { IfErr result (IsFollowFaultOf runs.entry table.old) }
 {

@@ -3,10 +3,11 @@
 ghost use Rattle.std.specs.Prelude.{◌≡◌, ◌<◌, ◌≤◌, ◌↔◌, IfErr, IfOk, IsTrue, OnOk};
 ghost use Rattle.lu_machine.specs.declared.TheConstants.{MOST_MOVES};
 ghost use Rattle.lu_machine.specs.Starts.{CanRun};
+ghost use Rattle.lu_linearization.specs.Monitors.{by_thread};
 ghost use Rattle.lu_run.specs.Following.{HasState};
 ghost use Rattle.lu_run.specs.Foreseeing.{next_return};
-ghost use Rattle.lu_run.specs.Judging.{EndsLost, FindsFirst, FindsLost, FollowsAll, IfAdvances, IfReady, IsEndVerdict, IsReady, JudgesRun, NamesOffence, StuckIfPending, TellsNotStuck, TellsOfEach};
-ghost use Rattle.lu_run.specs.Offending.{IsFollowFaultOf, Learns};
+ghost use Rattle.lu_run.specs.Judging.{EndsLost, FindsExpected, FindsFailure, FindsFirst, FindsLost, IfAdvances, IfFollows, IfReady, IfTells, IsEndVerdict, IsReady, JudgesRun, NamesOffence, StuckIfPending, TellsNotStuck, first_effect, thread_of};
+ghost use Rattle.lu_run.specs.Offending.{IsFollowFaultOf, LearnsBy};
 ghost use Rattle.lu_run.specs.Runs.{AreEventsOf, IsEventOf, IsRun};
 ghost use Rattle.lu_run.specs.Tables.{AreCallsOf, IsTable};
 
@@ -17,9 +18,21 @@ use crate::starting::{first_table, start_of};
 use crate::table::Table;
 use lu_component::Component;
 use lu_history::SerialOutcome;
-use lu_linearization::Monitor;
+use lu_linearization::{Configuration, Monitor};
 use lu_test::Matrix;
 use std::alloc::{AllocError, Global};
+
+/// Where a run has no linearization any more.
+#[derive(Clone, Copy, Debug, PartialEq, Eq)]
+pub struct RunFailure {
+    /// The number of the event after which the run has no linearization, counted from 0. Before it,
+    /// the run has one.
+    pub event: usize,
+
+    /// An outcome that the event's operation has in some linearization of the events before; None if
+    /// it has none in any.
+    pub expected: Option<SerialOutcome>,
+}
 
 /// The verdict on a run.
 #[derive(Clone, Copy, Debug, PartialEq, Eq)]
@@ -27,9 +40,8 @@ pub enum RunVerdict {
     /// The run is linearizable; or it is stuck, and so are its pending calls in some serial runs.
     Passes,
 
-    /// The run does not pass: after the event with this number, counted from 0, it has no
-    /// linearization, and before it, it has one.
-    FailsAt(usize),
+    /// The run does not pass: after an event it has no linearization.
+    FailsAt(RunFailure),
 
     /// The run does not pass: it is stuck, and no serial run gets stuck in the pending call of this
     /// thread.
@@ -78,11 +90,9 @@ fn advance(
     requires event { IsEventOf runs.calls.now event }
     requires few { runs.bound ≤ MOST_MOVES }
     ensures ready { IfReady runs.entry.component.now runs.entry.calls.now table.new result }
-    ensures learns { OnOk result
-        (Learns runs.entry.component.now runs.entry.calls.now table.old table.new) }
+    ensures learns { OnOk result (LearnsBy runs.entry table.old table.new) }
     ensures advances { IfAdvances
-        runs.entry.component.now runs.entry.calls.now event more.now table.old follower
-        table.new result }
+        runs.entry event more.now table.old follower table.new result }
     ensures offends { IfErr result (IsFollowFaultOf runs.entry table.old) }
 {
     let mut next = follower;
@@ -195,13 +205,9 @@ fn follow_all(
     requires calls { AreCallsOf runs.component.now runs.calls.now }
     requires events { AreEventsOf runs.calls.now events.now }
     requires few { runs.bound ≤ MOST_MOVES }
-    ensures learns { OnOk result
-        (Learns runs.entry.component.now runs.entry.calls.now table.old table.new) }
-    ensures follows { IfOk result (λ all. FollowsAll
-        runs.entry.component.now runs.entry.calls.now table.old events.now table.new
-        all.follower) }
-    ensures tells { IfOk result (λ all. TellsOfEach
-        runs.entry.component.now runs.entry.calls.now table.old events.now all.lost) }
+    ensures learns { OnOk result (LearnsBy runs.entry table.old table.new) }
+    ensures follows { IfFollows runs.entry table.old events.now table.new result }
+    ensures tells { IfTells runs.entry table.old events.now result }
     ensures offends { IfErr result (IsFollowFaultOf runs.entry table.old) }
 {
     let mut follower = Follower {
@@ -237,8 +243,8 @@ fn first_lost(
     requires calls { AreCallsOf runs.component.now runs.calls.now }
     requires events { AreEventsOf runs.calls.now events.now }
     requires few { runs.bound ≤ MOST_MOVES }
-    ensures first { FindsFirst
-        runs.entry.component.now runs.entry.calls.now table.old events.now kept result }
+    ensures learns { OnOk result (LearnsBy runs.entry table.old table.new) }
+    ensures first { FindsFirst runs.entry table.old events.now kept result }
     ensures offends { IfErr result (IsFollowFaultOf runs.entry table.old) }
 {
     let mut kept = kept;
@@ -263,6 +269,97 @@ fn first_lost(
     Ok(kept)
 }
 
+/// The thread of the event.
+fn thread_of(event: RunEvent) -> u8
+    ensures { result ≡ thread_of event }
+{
+    match event {
+        RunEvent::Call { thread, .. } => thread,
+        RunEvent::Return { thread, .. } => thread,
+    }
+}
+
+/// The outcome of the thread's pending operation in the configuration, if it has taken effect there.
+fn effect_of(one: &Configuration, thread: u8) -> Option<SerialOutcome>
+    requires { thread < 8 }
+    ensures { result ≡ by_thread one.now.effects thread }
+{
+    one.effects[usize::from(thread)]
+}
+
+/// The outcome of the thread's pending operation in the first configuration where it has taken effect.
+fn first_effect(configurations: &[Configuration], thread: u8) -> Option<SerialOutcome>
+    requires { thread < 8 }
+    ensures { result ≡ first_effect thread configurations.now }
+{
+    for one in configurations {
+        match effect_of(one, thread) {
+            None => {}
+            Some(outcome) => return Some(outcome),
+        }
+    }
+    None
+}
+
+/// An outcome that the thread's pending operation has in some linearization of the events, if it has
+/// one in any.
+///
+/// # Errors
+///
+/// After some serial calls, a call takes more moves than the bound, or has two outcomes; or out of
+/// memory.
+fn expected_outcome(
+    runs: SerialRuns<'_>,
+    table: &mut Table,
+    events: &[RunEvent],
+    thread: u8,
+) -> Result<Option<SerialOutcome>, FollowFault>
+    requires table { IsTable runs.component.now runs.calls.now table.old }
+    requires start { HasState table.old 0 }
+    requires calls { AreCallsOf runs.component.now runs.calls.now }
+    requires events { AreEventsOf runs.calls.now events.now }
+    requires few { runs.bound ≤ MOST_MOVES }
+    requires thread { thread < 8 }
+    ensures expects { FindsExpected runs.entry table.old events.now thread result }
+    ensures offends { IfErr result (IsFollowFaultOf runs.entry table.old) }
+{
+    let all = follow_all(runs, table, events)?;
+    Ok(first_effect(all.follower.monitor.configurations(), thread))
+}
+
+/// Where events have no linearization any more, if they have none, and the first `kept` of them have
+/// one.
+///
+/// # Errors
+///
+/// After some serial calls, a call takes more moves than the bound, or has two outcomes; or out of
+/// memory.
+fn failure_of(
+    runs: SerialRuns<'_>,
+    table: &mut Table,
+    events: &[RunEvent],
+    kept: usize,
+) -> Result<RunFailure, FollowFault>
+    requires table { IsTable runs.component.now runs.calls.now table.old }
+    requires start { HasState table.old 0 }
+    requires calls { AreCallsOf runs.component.now runs.calls.now }
+    requires events { AreEventsOf runs.calls.now events.now }
+    requires few { runs.bound ≤ MOST_MOVES }
+    ensures fails { FindsFailure runs.entry table.old events.now kept result }
+    ensures offends { IfErr result (IsFollowFaultOf runs.entry table.old) }
+{
+    let event = first_lost(runs, table, events, kept)?;
+    let Some(lost) = events.get(event) else {
+        return Ok(RunFailure {
+            event,
+            expected: None,
+        });
+    };
+    let thread = thread_of(*lost);
+    let expected = expected_outcome(runs, table, &events[..event], thread)?;
+    Ok(RunFailure { event, expected })
+}
+
 /// The verdict on a run that is not followed.
 fn offence(fault: FollowFault) -> Result<RunVerdict, AllocError>
     ensures { IfOk result (NamesOffence fault) }
@@ -281,8 +378,8 @@ fn offence(fault: FollowFault) -> Result<RunVerdict, AllocError>
 ///
 /// A run passes if it is linearizable (Herlihy and Wing, 1990). A run that is stuck passes if, for
 /// each pending call, a serial run with the same operations gets stuck in this call (Burckhardt,
-/// Dern, Musuvathi and Tan, 2010). A run that does not pass has the number of the first event after
-/// which it has no linearization, or else a thread whose pending call can't be stuck.
+/// Dern, Musuvathi and Tan, 2010). A run that does not pass has the first event after which it has no
+/// linearization, or else a thread whose pending call can't be stuck.
 ///
 /// The serial runs are a specification only if each call has one outcome after the same serial calls,
 /// within the bound. Where a call that comes up does not, the verdict names it.
@@ -325,8 +422,8 @@ pub fn judge_run(
             &all.follower.monitor,
             &all.follower.pending,
         )),
-        Some(kept) => match first_lost(runs, &mut table, &run.events, kept) {
-            Ok(number) => Ok(RunVerdict::FailsAt(number)),
+        Some(kept) => match failure_of(runs, &mut table, &run.events, kept) {
+            Ok(failure) => Ok(RunVerdict::FailsAt(failure)),
             Err(fault) => offence(fault),
         },
     }

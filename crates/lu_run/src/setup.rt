@@ -1,13 +1,13 @@
 //! The setup before a run.
 
 ghost use Rattle.std.specs.Prelude.{◌≡◌, IfOk};
-ghost use Rattle.lu_text.specs.Faults.{Gives, meaning_of, meaning_of_lines};
+ghost use Rattle.lu_text.specs.Faults.{Gives, meaning_of};
 ghost use Rattle.lu_text.specs.Lines.{texts};
 ghost use Rattle.lu_component.specs.Component.{IsComponent};
 ghost use Rattle.lu_test.specs.Matrix.{IsOf};
 ghost use Rattle.lu_test.specs.MatrixText.{IsDraft};
 ghost use Rattle.lu_test.specs.Signatures.{signatures as signatures_said};
-ghost use Rattle.lu_run.specs.Setups.{setup_grammar, setup_matrix};
+ghost use Rattle.lu_run.specs.Setups.{setup_grammar, setup_matrix, setup_said};
 
 use lu_component::Component;
 use lu_test::{Calls, Matrix, MatrixDraft, MatrixFault, Signature, signatures_of};
@@ -43,7 +43,7 @@ fn read_lines(
 ) -> Result<Matrix, MatrixFault>
     requires sound { IsComponent component.now }
     requires signatures { signatures.now ≡ signatures_said component.now.operations }
-    ensures exact { Gives result (meaning_of_lines (setup_grammar component.now) (texts lines.now)) }
+    ensures exact { Gives result (setup_said component.now (texts lines.now)) }
     ensures of { IfOk result (λ matrix. IsOf matrix component.now) }
 {
     let mut draft = MatrixDraft {

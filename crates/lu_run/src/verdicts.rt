@@ -5,12 +5,14 @@ ghost use Rattle.lu_machine.specs.declared.TheConstants.{MOST_MOVES};
 ghost use Rattle.lu_machine.specs.Starts.{CanRun};
 ghost use Rattle.lu_run.specs.Bundled.{IsRunOf};
 ghost use Rattle.lu_run.specs.Verdicts as spec;
-ghost use Rattle.lu_run.specs.Verdicts.{NamesEventOf, TellsFailing, failing_text, reason_text};
+ghost use Rattle.lu_run.specs.Verdicts.{IsReason, NamesEventOf, TellsFailing, failing_text};
 
-use crate::judging::{RunVerdict, judge_run};
+use crate::ending::{line_of, write_end};
+use crate::judging::{RunFailure, RunVerdict, judge_run};
 use crate::run::{Run, RunEvent};
 use crate::writing::{put_call, put_event_words, write_run};
 use lu_component::Component;
+use lu_history::SerialOutcome;
 use lu_test::Matrix;
 use std::alloc::{AllocError, Global};
 
@@ -95,12 +97,29 @@ fn call_at(
     Ok(text)
 }
 
-/// That a run has no linearization after this line, which has these words.
-fn lost(alloc: Global, line: usize, words: &str) -> Result<String, AllocError>
-    ensures { IfOk result (λ text. string_bytes text ≡ spec.lost_words line words.now) }
+/// That a run has no linearization after this line, which has these words; and what is expected.
+fn lost(
+    alloc: Global,
+    line: usize,
+    words: &str,
+    expected: Option<SerialOutcome>,
+) -> Result<String, AllocError>
+    ensures { IfOk result (λ text. string_bytes text ≡ spec.lost_words line words.now expected) }
 {
-    let text = format!(in alloc; "after line {line}, `{words}`, the run has no linearization\n")?;
-    Ok(text)
+    match expected {
+        None => {
+            let text = format!(in alloc;
+                "after line {line}, `{words}`, the run has no linearization, whatever the call returns\n"
+            )?;
+            Ok(text)
+        }
+        Some(outcome) => {
+            let text = format!(in alloc;
+                "after line {line}, `{words}`, the run has no linearization; with `{outcome}` it has one\n"
+            )?;
+            Ok(text)
+        }
+    }
 }
 
 /// That no serial run gets stuck in this call of the thread.
@@ -137,14 +156,14 @@ pub fn write_reason(
     verdict: RunVerdict,
 ) -> Result<String, AllocError>
     requires { NamesEventOf run.now verdict }
-    ensures { IfOk result (λ text.
-        string_bytes text ≡ reason_text component.now bound run.now verdict) }
+    ensures { IfOk result
+        (λ t. IsReason component.now bound run.now verdict (string_bytes t)) }
 {
     match verdict {
         RunVerdict::Passes => Ok(String::new(alloc)),
-        RunVerdict::FailsAt(number) => {
-            let words = words_at(alloc, component, run, run.events.get(number).copied())?;
-            lost(alloc, number + 2, words.as_str())
+        RunVerdict::FailsAt(RunFailure { event, expected }) => {
+            let words = words_at(alloc, component, run, run.events.get(event).copied())?;
+            lost(alloc, line_of(run, event), words.as_str(), expected)
         }
         RunVerdict::CannotBeStuck(thread) => {
             let call = call_at(alloc, component, run, last_call(&run.events, thread))?;
@@ -157,7 +176,9 @@ pub fn write_reason(
     }
 }
 
-/// The text of a run up to the event after which it has no linearization, or the whole run.
+/// The text of a run that does not pass. Where it has no linearization any more, it is shown up to the
+/// event after which it has none, from the last moment before at which no call is pending; a comment
+/// says how many events are left out. Any other run is shown whole.
 ///
 /// # Errors
 ///
@@ -172,7 +193,7 @@ pub fn write_failing(
     ensures { IfOk result (λ text. string_bytes text ≡ failing_text component.now run.now verdict) }
 {
     match verdict {
-        RunVerdict::FailsAt(number) => write_run(alloc, component, run, number + 1),
+        RunVerdict::FailsAt(failure) => write_end(alloc, component, run, failure.event),
         _ => write_run(alloc, component, run, run.events.len()),
     }
 }

@@ -70,7 +70,7 @@ fn put_event(
 }
 
 /// Adds the lines of the events.
-fn put_events(
+pub(crate) fn put_events(
     text: &mut String,
     operations: &[Op],
     calls: &[Call],
@@ -85,7 +85,7 @@ fn put_events(
 }
 
 /// Adds the line `stuck`, if the run is stuck and has at most this many events.
-fn put_stuck(text: &mut String, run: &Run, count: usize) -> Result<(), AllocError>
+pub(crate) fn put_stuck(text: &mut String, run: &Run, count: usize) -> Result<(), AllocError>
     ensures { Writes result text.old text.new (stuck_text run.now count) }
 {
     if run.is_stuck && run.events.len() <= count {

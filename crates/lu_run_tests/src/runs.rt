@@ -1,8 +1,9 @@
 //! Runs of a counter and of a slot.
 
 use lu_fixtures::fixture_of;
+use lu_history::SerialOutcome;
 use lu_machine::Outcome;
-use lu_run::{Run, RunEvent, RunVerdict, are_calls_of, is_run, judge_run};
+use lu_run::{Run, RunEvent, RunFailure, RunVerdict, are_calls_of, is_run, judge_run};
 use lu_test::{Arguments, Call};
 use std::process::Abort;
 use std::test::Fail;
@@ -59,14 +60,22 @@ fn back(thread: u8, n: u32) -> RunEvent {
     }
 }
 
+/// The verdict that a run fails at the event, whose call may return `n`.
+fn fails(event: usize, n: u32) -> RunVerdict {
+    RunVerdict::FailsAt(RunFailure {
+        event,
+        expected: Some(SerialOutcome::Ret(n)),
+    })
+}
+
 #[test]
 fn runs_of_a_counter(rt: HostRuntime) -> Result<(), Fail> {
     let good = verdict(&rt, &[INC0, INC1, back(1, 1), back(0, 2)], false)?;
     assert!(rt; good == RunVerdict::Passes);
     let lost = verdict(&rt, &[INC0, INC1, back(1, 1), back(0, 1)], false)?;
-    assert!(rt; lost == RunVerdict::FailsAt(3));
+    assert!(rt; lost == fails(3, 2));
     let late = verdict(&rt, &[INC0, back(0, 2), INC1, back(1, 1)], false)?;
-    assert!(rt; late == RunVerdict::FailsAt(1));
+    assert!(rt; late == fails(1, 1));
     let pending = verdict(&rt, &[INC0, INC1, back(1, 2)], false)?;
     assert!(rt; pending == RunVerdict::Passes);
     let waits = verdict(
@@ -76,7 +85,11 @@ fn runs_of_a_counter(rt: HostRuntime) -> Result<(), Fail> {
     )?;
     assert!(rt; waits == RunVerdict::Passes);
     let early = verdict(&rt, &[WAIT2, INC0, back(0, 1), back(2, 7)], false)?;
-    assert!(rt; early == RunVerdict::FailsAt(3));
+    let never = RunVerdict::FailsAt(RunFailure {
+        event: 3,
+        expected: None,
+    });
+    assert!(rt; early == never);
     let stuck = verdict(&rt, &[WAIT2, INC0, back(0, 1)], true)?;
     assert!(rt; stuck == RunVerdict::Passes);
     let blocked = verdict(&rt, &[WAIT2, INC0, back(0, 1), INC1, back(1, 2)], true)?;

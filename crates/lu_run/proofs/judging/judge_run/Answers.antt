@@ -4,7 +4,7 @@ use Rattle.std.proofs.lemmas.Result.{IfOk-weaker}
 use Rattle.lu_test.specs.declared.matrix.Call.{Call as ACall}
 use Rattle.lu_client.specs.Alone.{rest_of}
 use Rattle.lu_run.specs.declared.run.RunEvent.{RunEvent}
-use Rattle.lu_run.specs.Judging.{FollowsAll, IsFirstWithout, IsFollowed, IsVerdict, NamesOffence, OfEachRun, StartsAt, TellsLost, TellsOfEach}
+use Rattle.lu_run.specs.Judging.{FollowsAll, IsFailure, IsFollowed, IsVerdict, NamesOffence, OfEachRun, StartsAt, TellsLost, TellsOfEach}
 use Rattle.lu_run.specs.Offending.{AreReached, IsFollowFault, Learns}
 use Rattle.lu_run.specs.Runs.{history_of, matrix_of}
 use Rattle.lu_run.proofs.Beginning.{first_reached, first_starts, first_state, starts_grown}
@@ -18,11 +18,11 @@ follow_all-requires-clause-start c = first_state c.args.component.now c.args.run
 pub follow_all-requires-clause-calls : goal.follow_all-requires-clause-calls
 follow_all-requires-clause-calls c = rw c.deref.ensures.value c.requires.calls
 
-pub first_lost-requires-clause-start : goal.first_lost-requires-clause-start
-first_lost-requires-clause-start c = has_later c.in_ok-table.table c.follow_all.new.table c.in-Ok.ensures.learns.grows 0 (first_state c.args.component.now c.args.run.now.calls.items c.in_ok-start.start c.in_ok-table.table c.in_ok-table.ensures c.in_ok-start.ensures.at_rest)
+pub failure_of-requires-clause-start : goal.failure_of-requires-clause-start
+failure_of-requires-clause-start c = has_later c.in_ok-table.table c.follow_all.new.table c.in-Ok.ensures.learns.grows 0 (first_state c.args.component.now c.args.run.now.calls.items c.in_ok-start.start c.in_ok-table.table c.in_ok-table.ensures c.in_ok-start.ensures.at_rest)
 
-pub first_lost-requires-clause-calls : goal.first_lost-requires-clause-calls
-first_lost-requires-clause-calls c = rw c.deref.ensures.value c.requires.calls
+pub failure_of-requires-clause-calls : goal.failure_of-requires-clause-calls
+failure_of-requires-clause-calls c = rw c.deref.ensures.value c.requires.calls
 
 pub returns-in-Err : goal.returns-in-Err
 returns-in-Err c = λ s start.
@@ -55,8 +55,8 @@ returns-in-None c = λ s start.
     let told : TellsLost s events None = subst (TellsLost s events) c.in-None.is (tells setup events [] s start starts c.requires.run whole) in
     at_end component setup c.args.bound c.args.run.now s start c.requires.run new f.pending f.monitor was told c.end_verdict.result c.end_verdict.ensures
 
-pub returns-in-Ok-first_lost : goal.returns-in-Ok-first_lost
-returns-in-Ok-first_lost c = λ s start.
+pub returns-in-Ok-failure_of : goal.returns-in-Ok-failure_of
+returns-in-Ok-failure_of c = λ s start.
     let component = c.args.component.now in
     let setup = c.args.matrix.now.setup in
     let calls = c.args.run.now.calls.items in
@@ -74,11 +74,13 @@ returns-in-Ok-first_lost c = λ s start.
     let whole : events ≡ events ++ [] = sym (append-nil events) in
     let was : IsFollowed component s calls events new f.pending f.monitor (history_of events) = follows setup events [] s start starts c.requires.run whole in
     let told : TellsLost s events (Some c.in-Some.kept) = subst (TellsLost s events) c.in-Some.is (tells setup events [] s start starts c.requires.run whole) in
-    let n = c.in-Ok-first_lost.number in
+    let failure = c.in-Ok-failure_of.failure in
     let kept = c.in-Some.kept in
-    let first = subst (λ (x : List RunEvent). OfEachRun component calls new x (λ s all. TellsLost s x (Some kept) → IsFirstWithout s x n)) c.deref-in-Some.ensures.value (subst (λ (x : List ACall). OfEachRun component x new c.deref-in-Some.result.now (λ s all. TellsLost s c.deref-in-Some.result.now (Some kept) → IsFirstWithout s c.deref-in-Some.result.now n)) c.deref.ensures.value c.in-Ok-first_lost.ensures.first) in (
-      first setup events [] s start later c.requires.run whole told,
+    let fails = subst (λ (x : List RunEvent). OfEachRun component calls new x (λ s all. TellsLost s x (Some kept) → IsFailure s x failure)) c.deref-in-Some.ensures.value (subst (λ (x : List ACall). OfEachRun component x new c.deref-in-Some.result.now (λ s all. TellsLost s c.deref-in-Some.result.now (Some kept) → IsFailure s c.deref-in-Some.result.now failure)) c.deref.ensures.value c.in-Ok-failure_of.ensures.fails) in
+    let found = fails setup events [] s start later c.requires.run whole told in (
+      found.0,
       lost_fails component setup calls events s start c.requires.run new f.pending f.monitor was c.args.run.now.is_stuck told.2,
+      found.1,
     )
 
 pub returns : goal.returns
@@ -90,6 +92,6 @@ returns c = λ s start.
     let same = c.in_ok-start.ensures.rest (matrix_of c.args.matrix.now.setup calls c.args.run.now.events.items) s refl start in
     let first : AreReached component calls (rest_of s) c.in_ok-table.table = first_reached component calls p c.in_ok-table.table c.in_ok-table.ensures c.in_ok-start.ensures.at_rest (rest_of s) same in
     let reached : AreReached component calls (rest_of s) new = (subst (λ (x : List ACall). Learns component x c.in_ok-table.table new) c.deref.ensures.value c.in-Ok.ensures.learns).reached (rest_of s) first in
-    let is = subst (λ (x : List ACall). IsFollowFault component x c.args.bound new c.in-Err-first_lost.fault) c.deref.ensures.value c.in-Err-first_lost.ensures.offends in
-    IfOk-weaker c.offence-in-Err-first_lost.result (NamesOffence c.in-Err-first_lost.fault) (IsVerdict component c.args.bound s c.args.run.now)
-    (offence_found component c.args.bound s c.args.run.now new c.in-Err-first_lost.fault is reached) c.offence-in-Err-first_lost.ensures
+    let is = subst (λ (x : List ACall). IsFollowFault component x c.args.bound new c.in-Err-failure_of.fault) c.deref.ensures.value c.in-Err-failure_of.ensures.offends in
+    IfOk-weaker c.offence-in-Err-failure_of.result (NamesOffence c.in-Err-failure_of.fault) (IsVerdict component c.args.bound s c.args.run.now)
+    (offence_found component c.args.bound s c.args.run.now new c.in-Err-failure_of.fault is reached) c.offence-in-Err-failure_of.ensures
