@@ -10,7 +10,6 @@ use Rattle.lu_linearization.specs.declared.configuration.Configuration.{Configur
 use Rattle.lu_linearization.specs.Configurations.{Configuration}
 use Rattle.lu_linearization.specs.Monitors.{Holds, by_thread, configuration_of}
 use Rattle.lu_run.specs.declared.automaton.ThreadCall.{ThreadCall}
-use Rattle.lu_run.specs.declared.judging.RunFailure.{RunFailure}
 use Rattle.lu_run.specs.declared.run.RunEvent.{RunEvent}
 use Rattle.lu_run.specs.declared.run.RunEvent.TheVariants.{Call as Calls, Return as Returns}
 use Rattle.lu_run.specs.declared.table.Table.{Table}

@@ -1,4 +1,4 @@
-use Rattle.std.proofs.Common.{◌≡◌, ◌∙◌, ap}
+use Rattle.std.proofs.Common.{◌∙◌, ap}
 use Rattle.lu_run.specs.Judging.{first_effect}
 use Rattle.lu_run.proofs.Expected.{expected_told}
 use Rattle.lu_run.proofs.judging.expected_outcome.Goals as goal
