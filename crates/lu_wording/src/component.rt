@@ -50,12 +50,12 @@ impl fmt::Display for Named<'_> {
     }
 }
 
-fn named(op: &OpenOp) -> Named<'_> {
+fn operation_name(op: &OpenOp) -> Named<'_> {
     Named { before: "", op }
 }
 
 /// The same, as an operation.
-fn titled(op: &OpenOp) -> Named<'_> {
+fn operation_title(op: &OpenOp) -> Named<'_> {
     Named {
         before: "operation ",
         op,
@@ -170,7 +170,7 @@ fn form_outside(
 fn no_instruction(alloc: Global, op: &OpenOp, word: &[u8]) -> Result<String, AllocError> {
     let said = shown(word);
     if declaration(word).is_some() {
-        let name = titled(op);
+        let name = operation_title(op);
         return format!(in alloc;
             "`{said}` is not allowed inside {name}; help: close the operation with `end`"
         );
@@ -338,7 +338,7 @@ fn limit_outside(
 /// Inside an operation, a line for which there is no room.
 fn limit_inside(alloc: Global, op: &OpenOp) -> Result<String, AllocError> {
     if op.statements.len() >= 64 {
-        let name = named(op);
+        let name = operation_name(op);
         return format!(in alloc; "too many instructions in {name}; an operation has at most 64");
     }
     String::from_str(alloc, "the number after `pick` is out of range (1 to 8)")
@@ -436,7 +436,7 @@ fn labelled_name(
 ) -> Result<String, AllocError> {
     if let Some(op) = &draft.begun {
         if op.labels.iter().any(|other| other.name.is(label)) {
-            let (label, operation) = (shown(label), named(op));
+            let (label, operation) = (shown(label), operation_name(op));
             return format!(in alloc; "label `{label}` is defined twice in {operation}");
         }
     }
@@ -542,7 +542,7 @@ fn number(
 fn flow(alloc: Global, draft: &ComponentDraft) -> Result<String, AllocError> {
     match &draft.begun {
         Some(op) if op.statements.is_empty() => {
-            let name = titled(op);
+            let name = operation_title(op);
             format!(in alloc; "{name} is empty; help: write at least `return 0`")
         }
         _ => String::from_str(
@@ -622,7 +622,7 @@ pub(crate) fn jump_wording(
 }
 
 fn no_label(alloc: Global, op: &OpenOp, label: &Name) -> Result<String, AllocError> {
-    let (name, said) = (named(op), label.as_str());
+    let (name, said) = (operation_name(op), label.as_str());
     match near(&op.labels, label.as_bytes()) {
         Some(near) => format!(in alloc;
             "undefined label `{said}` in {name}; help: a similar label exists: `{near}`"
@@ -635,7 +635,7 @@ fn no_label(alloc: Global, op: &OpenOp, label: &Name) -> Result<String, AllocErr
 pub(crate) fn end_wording(alloc: Global, draft: &ComponentDraft) -> Result<String, AllocError> {
     match &draft.begun {
         Some(op) => {
-            let name = titled(op);
+            let name = operation_title(op);
             format!(in alloc; "{name} is not closed; help: add `end`")
         }
         None => String::from_str(
