@@ -257,9 +257,7 @@ impl Nodes {
         ensures { IfOk result (StoresBeside machine.now beside arrival self.old self.new) }
     {
         let likely = row_at(&self.rows, beside);
-        let row = self
-            .parts
-            .row_at(alloc, machine, likely.monitor, &likely)?;
+        let row = self.parts.row_at(alloc, machine, likely.monitor, &likely)?;
         store_row(
             alloc,
             &self.parts,
