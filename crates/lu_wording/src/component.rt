@@ -31,18 +31,18 @@ impl fmt::Display for Slip<'_> {
     }
 }
 
-/// An operation by its name; one whose line does not name it is read as `_`.
+/// The name of an operation; one whose line does not name it is read as `_`.
 #[derive(Clone, Copy)]
 struct Named<'a> {
     /// What is before the name.
     before: &'static str,
 
-    op: &'a OpenOp,
+    name: &'a str,
 }
 
 impl fmt::Display for Named<'_> {
     fn fmt<W: fmt::Write>(&self, f: &mut fmt::Formatter<W>) -> fmt::Result {
-        let (before, name) = (self.before, self.op.name.as_str());
+        let (before, name) = (self.before, self.name);
         if name == "_" {
             return write!(f, "this operation");
         }
@@ -51,14 +51,17 @@ impl fmt::Display for Named<'_> {
 }
 
 fn operation_name(op: &OpenOp) -> Named<'_> {
-    Named { before: "", op }
+    Named {
+        before: "",
+        name: op.name.as_str(),
+    }
 }
 
 /// The same, as an operation.
 fn operation_title(op: &OpenOp) -> Named<'_> {
     Named {
         before: "operation ",
-        op,
+        name: op.name.as_str(),
     }
 }
 
