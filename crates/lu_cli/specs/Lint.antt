@@ -1,9 +1,11 @@
 -- What `lint` answers.
-use Rattle.std.specs.Prelude.{◌≡◌, ◌-◌, ℕ, nat_lt, MatchBool, MatchResult, List, [], ◌∷◌, ◌++◌, length, Option, Some, None, if◌then◌else◌, Vec, codes, String, string_bytes}
-use Rattle.std.specs.List.{filter_map}
+use Rattle.std.specs.Prelude.{◌≡◌, ◌-◌, ℕ, nat_le, nat_lt, Bool, true, false, MatchBool, MatchResult, List, [], ◌∷◌, ◌++◌, length, Option, Some, None, if◌then◌else◌, Vec, codes, String, string_bytes}
+use Rattle.std.specs.List.{filter, filter_map}
 use Rattle.std.specs.List.Sorted.{IsNonDecreasingBy}
 use Rattle.std.specs.Fmt.{decimal}
-use Rattle.lu_text.specs.Lines.{lines_of}
+use Rattle.std.specs.Str.{bytes_eq}
+use Rattle.lu_text.specs.Lines.{lines_of, words_of}
+use Rattle.lu_text.specs.Words.{Word}
 use Rattle.lu_component.specs.Component.{Component}
 use Rattle.lu_lang.specs.ComponentText.{component_text}
 use Rattle.lu_source_text.specs.Begins.{is_source}
@@ -37,10 +39,54 @@ remarked remarks = record {
 abbrev pub options_of : LintRequest → LintOptions
 options_of asked = record { serial = asked.bounds.serial; marks = asked.marks }
 
+-- a line with these words, where it has some, and whether the first is this one; or else that of
+-- the lines below
+abbrev pub line_or : List ℕ → ℕ → List Word → Option (ℕ × Bool) → Option (ℕ × Bool)
+line_or word n [] below = below
+line_or word n (first ∷ others) below = Some (n, bytes_eq first word)
+
+-- the first of these lines that has words, counted on from `above`
+abbrev pub first_line : List ℕ → ℕ → List (List ℕ) → Option (ℕ × Bool)
+first_line word above [] = None
+first_line word above (line ∷ lines) =
+    line_or word (line_below above 1) (words_of line) (first_line word (line_below above 1) lines)
+
+-- the line in which the first of these parts begins as recorded runs, where it does
+abbrev pub where_runs : Option (ℕ × Bool) → Option ℕ
+where_runs (Some (n, true)) = Some n
+where_runs _ = None
+
+abbrev pub line_of_runs : ℕ → List (List ℕ) → Option ℕ
+line_of_runs above [] = None
+line_of_runs above (matrix ∷ parts) =
+    where_runs (first_line (codes "run") (line_below above 1) (lines_of matrix))
+
+-- the line in which a part begins otherwise, or else this one
+abbrev pub where_other : Option (ℕ × Bool) → Option ℕ → Option ℕ
+where_other (Some (n, false)) line = Some n
+where_other _ line = line
+
+-- The last line of which something is said: that in which the first part begins as no component, or
+-- the matrix as recorded runs. Below it everything would be judged as what it is not.
+abbrev pub last_line : List (List ℕ) → Option ℕ
+last_line [] = None
+last_line (first ∷ parts) =
+    where_other (first_line (codes "component") 0 (lines_of first))
+    (line_of_runs (length (lines_of first)) parts)
+
+abbrev pub remarks_upto : ℕ → List Remark → List Remark
+remarks_upto last remarks = filter (λ r. nat_le r.said.line last) remarks
+
+abbrev pub upto_last : Option ℕ → List Remark → List Remark
+upto_last None remarks = remarks
+upto_last (Some last) remarks = remarks_upto last remarks
+
 -- what there is to say of a bundle, in the order of its lines
 abbrev pub AreRemarksOn : LintRequest → List ℕ → List Remark → Type 0
 AreRemarksOn asked bundle remarks =
-    IsSaidOf (options_of asked) bundle (said_of remarks) × IsNonDecreasingBy (λ r. r.said.line) remarks
+    (all : List Remark) × IsSaidOf (options_of asked) bundle (said_of all)
+    × IsNonDecreasingBy (λ r. r.said.line) all
+    × (remarks ≡ upto_last (last_line (bundle_parts bundle)) all)
 
 abbrev pub IsLinted : LintRequest → List ℕ → Answer → Type 0
 IsLinted asked bundle answer =

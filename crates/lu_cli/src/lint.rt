@@ -2,12 +2,12 @@
 
 ghost use Rattle.std.specs.Prelude.{◌≡◌, ◌≤◌, ◌++◌, IfOk, OnOk, string_bytes};
 ghost use Rattle.lu_report.specs.Limits.{most_moves};
-ghost use Rattle.lu_text.specs.Lines.{texts};
+ghost use Rattle.lu_text.specs.Lines.{lines_of, texts};
 ghost use Rattle.lu_text.specs.Writing.{Writes};
 ghost use Rattle.lu_text.specs.Results.{HasItems};
 ghost use Rattle.lu_cli.specs.Compile.{lent_after};
 ghost use Rattle.lu_cli.specs.Lint as spec;
-ghost use Rattle.lu_cli.specs.Lint.{AddsMessage, AreRemarksAfter, IsFaulted, IsLint, IsLinted, IsLintedAfter, IsSourceLinted, WritesMessages};
+ghost use Rattle.lu_cli.specs.Lint.{AddsMessage, AreRemarksAfter, AreRemarksOn, IsFaulted, IsLint, IsLinted, IsLintedAfter, IsSourceLinted, WritesMessages};
 
 use crate::answer::Answer;
 use crate::request::LintRequest;
@@ -16,7 +16,7 @@ use lu_lang::write_component;
 use lu_lint::{LintOptions, Remark, Said, have_fault, lint, write_remarks};
 use lu_source_lint::{SourceMessage, What, faults_of, warnings_of, wording};
 use lu_source_text::{compile_text, is_source};
-use lu_text::{Fault, bundle_parts, lines_of};
+use lu_text::{Fault, bundle_parts, lines_of, words_of};
 use lu_wording::Words;
 use std::alloc::{AllocError, Global};
 
@@ -139,6 +139,102 @@ fn options_of(asked: LintRequest) -> LintOptions
     }
 }
 
+/// The number of the first of these lines that has words, counted on from `above`, and whether its
+/// first word is this one.
+fn first_line(
+    alloc: Global,
+    above: usize,
+    lines: &[&[u8]],
+    word: &[u8],
+) -> Result<Option<(usize, bool)>, AllocError>
+    ensures { IfOk result (λ first. first ≡ spec.first_line word.now above (texts lines.now)) }
+{
+    let Some((line, rest)) = lines.split_first() else {
+        return Ok(None);
+    };
+    let above = above.saturating_add(1);
+    let words = words_of(alloc, line)?;
+    match words.split_first() {
+        Some((first, _)) => Ok(Some((above, *first == word))),
+        None => first_line(alloc, above, rest, word),
+    }
+}
+
+/// The same of a text's lines.
+fn first_line_of(
+    alloc: Global,
+    above: usize,
+    text: &[u8],
+    word: &[u8],
+) -> Result<Option<(usize, bool)>, AllocError>
+    ensures { IfOk result (λ first. first ≡ spec.first_line word.now above (lines_of text.now)) }
+{
+    let lines = lines_of(alloc, text)?;
+    first_line(alloc, above, &lines, word)
+}
+
+/// The line of a bundle in which its matrix begins as recorded runs, where it does.
+fn line_of_runs(alloc: Global, above: usize, parts: &[&[u8]]) -> Result<Option<usize>, AllocError>
+    ensures { IfOk result (λ line. line ≡ spec.line_of_runs above (texts parts.now)) }
+{
+    let Some((matrix, _)) = parts.split_first() else {
+        return Ok(None);
+    };
+    match first_line_of(alloc, above.saturating_add(1), matrix, b"run")? {
+        Some((line, true)) => Ok(Some(line)),
+        _ => Ok(None),
+    }
+}
+
+/// The last line of which something is said: that in which the first part begins as no component, or
+/// the matrix as recorded runs.
+fn last_line(alloc: Global, parts: &[&[u8]]) -> Result<Option<usize>, AllocError>
+    ensures { IfOk result (λ line. line ≡ spec.last_line (texts parts.now)) }
+{
+    let Some((first, rest)) = parts.split_first() else {
+        return Ok(None);
+    };
+    match first_line_of(alloc, 0, first, b"component")? {
+        Some((line, false)) => Ok(Some(line)),
+        _ => line_of_runs(alloc, lines_of(alloc, first)?.len(), rest),
+    }
+}
+
+/// The remarks up to this line.
+fn remarks_upto(alloc: Global, remarks: Vec<Remark>, last: usize) -> Result<Vec<Remark>, AllocError>
+    ensures { HasItems result (spec.remarks_upto last remarks.items) }
+{
+    remarks
+        .into_iter()
+        .filter(|remark| remark.said.line <= last)
+        .collect(alloc)
+}
+
+/// What there is to say of a bundle with a component, in the order of its lines.
+fn remarks_on(alloc: Global, asked: LintRequest, bundle: &[u8]) -> Result<Vec<Remark>, AllocError>
+    ensures { IfOk result (λ remarks. AreRemarksOn asked bundle.now remarks.items) }
+{
+    let parts = bundle_parts(alloc, bundle)?;
+    let last = last_line(alloc, &parts)?;
+    let linted = lint(alloc, &Words, bundle, options_of(asked))?;
+    match last {
+        None => Ok(linted.remarks),
+        Some(last) => remarks_upto(alloc, linted.remarks, last),
+    }
+}
+
+/// The answer that says this text, and then the remarks.
+fn remarked_after(mut text: String, remarks: &[Remark]) -> Result<Answer, AllocError>
+    ensures { IfOk result
+        (λ answer. answer ≡ spec.remarked_after (string_bytes text) remarks.now) }
+{
+    write_remarks(&mut text, remarks)?;
+    Ok(Answer {
+        text,
+        status: if have_fault(remarks) { 2 } else { 0 },
+    })
+}
+
 /// What there is to say of the parts after the source, whose component is this, on their lines.
 fn remarks_after(
     alloc: Global,
@@ -152,8 +248,8 @@ fn remarks_after(
     let text = write_component(alloc, component)?;
     let lines = lines_of(alloc, text.as_bytes())?.len();
     let bundle = bundle_of(alloc, component, parts)?;
-    let linted = lint(alloc, &Words, &bundle, options_of(asked))?;
-    remarks_below(alloc, linted.remarks, lines, source_lines)
+    let remarks = remarks_on(alloc, asked, &bundle)?;
+    remarks_below(alloc, remarks, lines, source_lines)
 }
 
 /// What is odd in a source without faults, whose component is this, and what there is to say of
@@ -173,11 +269,7 @@ fn lint_after(
     let remarks = remarks_after(alloc, asked, component, lines.len(), parts)?;
     let mut text = String::new(alloc);
     write_messages(alloc, &mut text, &warnings, &lines)?;
-    write_remarks(&mut text, &remarks)?;
-    Ok(Answer {
-        text,
-        status: if have_fault(&remarks) { 2 } else { 0 },
-    })
+    remarked_after(text, &remarks)
 }
 
 /// What there is to say of a source, and of the parts after it.
@@ -200,11 +292,8 @@ fn lint_source(
 fn lint_component(alloc: Global, asked: LintRequest, bundle: &[u8]) -> Result<Answer, AllocError>
     ensures { IfOk result (IsLinted asked bundle.now) }
 {
-    let linted = lint(alloc, &Words, bundle, options_of(asked))?;
-    Ok(Answer {
-        text: linted.text,
-        status: if linted.faults { 2 } else { 0 },
-    })
+    let remarks = remarks_on(alloc, asked, bundle)?;
+    remarked_after(String::new(alloc), &remarks)
 }
 
 /// `lineup lint`: what there is to say of a bundle.
