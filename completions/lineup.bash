@@ -4,7 +4,7 @@ _lineup() {
     COMPREPLY=()
     if [ "$COMP_CWORD" -eq 1 ]; then
         COMPREPLY=($(compgen -W 'compile lint serial check certify witness conform explain draw trace replay shrink campaign spec refute
-            commands test --help --version --build --install' -- "$word"))
+            commands test findings --help --version --build --install' -- "$word"))
         return
     fi
     case "$before" in
@@ -22,6 +22,7 @@ _lineup() {
             case "${COMP_WORDS[1]}" in
                 check) options='--bound --serial --workers --depth --spec --marks' ;;
                 certify | test) options='--bound --serial --workers --depth --local --nodes --rounds --forever' ;;
+                findings) options='gcc junit sarif --check --lint --watch' ;;
                 serial | shrink) options='--bound --serial' ;;
                 witness) options='--bound --serial --spec --marks' ;;
                 conform) options='--show' ;;

@@ -1,6 +1,6 @@
 # Completion of `lineup` for fish. The script passes --source and --hints by itself.
 complete -c lineup -f
-complete -c lineup -n '__lineup_says test' -F
+complete -c lineup -n '__lineup_says test findings' -F
 function __lineup_says --description 'whether the command is one of these'
     set -l words (commandline -opc)
     test (count $words) -gt 1; and contains -- $words[2] $argv
@@ -13,6 +13,7 @@ complete -c lineup -n __lineup_first -a serial -d 'the serial histories'
 complete -c lineup -n __lineup_first -a check -d 'the report: pass, or the first fault within the bound'
 complete -c lineup -n __lineup_first -a certify -d 'whether it is linearizable, for schedules of any length'
 complete -c lineup -n __lineup_first -a test -d 'certify each file, and the files of each folder'
+complete -c lineup -n __lineup_first -a findings -d 'report the verdicts of files to editors and CI'
 complete -c lineup -n __lineup_first -a witness -d 'whether recorded histories have serial witnesses'
 complete -c lineup -n __lineup_first -a conform -d 'whether the component can produce recorded histories'
 complete -c lineup -n __lineup_first -a explain -d 'why no serial history explains the schedule'
@@ -47,3 +48,7 @@ complete -c lineup -n '__lineup_says campaign' -l count -d 'print only the numbe
 complete -c lineup -n '__lineup_says campaign' -l certify -d 'certify each matrix'
 complete -c lineup -n '__lineup_says campaign' -l all -d 'continue after a matrix that is not linearizable'
 complete -c lineup -n '__lineup_says campaign' -l spec -d 'compare with a trusted component, the third part'
+complete -c lineup -n '__lineup_says findings' -a 'gcc junit sarif'
+complete -c lineup -n '__lineup_says findings' -l check -d 'check in place of certify'
+complete -c lineup -n '__lineup_says findings' -l lint -d 'only what lint reports'
+complete -c lineup -n '__lineup_says findings' -l watch -d 'print again whenever a file is saved'
