@@ -1,5 +1,5 @@
 -- The table: the commands, and their options.
-use Rattle.std.specs.Prelude.{List, [], ◌∷◌, map, Option, Some, None, option_map, codes}
+use Rattle.std.specs.Prelude.{List, [], ◌∷◌, ◌++◌, map, Option, Some, None, option_map, codes}
 use Rattle.clap.specs.Words.{Text}
 use Rattle.lu_text.specs.Lines.{texts}
 use Rattle.lu_cli.specs.declared.table.CommandRow.{CommandRow}
