@@ -15,7 +15,7 @@ fn remark_word(cause: &Cause) -> &'static str
     if cause.is_fault() { "" } else { "warning: " }
 }
 
-/// What stands before the line of the part, where the remark is shown on this line.
+/// The words before the number of the line on which the remark is reported.
 fn line_word(kind: FaultKind, shown: usize, line: usize) -> &'static str
     ensures { result.now ≡ spec.line_word kind shown line }
 {

@@ -10,7 +10,7 @@ use crate::writing::{put_events, put_stuck};
 use lu_component::Component;
 use std::alloc::{AllocError, Global};
 
-/// The number of pending calls after the event, if so many are pending before it.
+/// The number of pending calls after the event, given the number before it.
 fn pending_after(pending: usize, event: RunEvent) -> usize
     requires { pending < 2 ^ 64 - 1 }
     ensures number { result ≡ spec.pending_after pending event }

@@ -39,7 +39,7 @@ fn wrong_bytes(text: &[u8]) -> Option<&'static str> {
     }
 }
 
-/// Whether a space stands last, before the LF.
+/// Whether the text ends with a space, or with one and a newline.
 fn has_last_space(text: &[u8]) -> bool {
     text.ends_with(b" \n") || text.ends_with(b" ")
 }
