@@ -12,6 +12,7 @@ pub mod Histories
 pub mod Advanced
 pub mod Beginning
 pub mod Finished
+pub mod Found
 pub mod Ran
 pub mod Checked
 pub mod Completed

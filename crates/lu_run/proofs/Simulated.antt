@@ -66,7 +66,7 @@ module _ (c : Component) (calls : List ACall) (table : Table) (is : IsTable c ca
           let which : right.call ≡ a = same_Some right.call a (sym right.called ∙ called) in
           answered answer right.from right.call right.right e (rest, subst (λ (z : Rests). HasRest z.positions.items rest) (sym same) has, subst (λ z. Plays c rest call.thread z o after) (sym which) plays)
 
-  from_state : (x y : ℕ) (call : ThreadCall) (after : Rest) (o : SerialOutcome) → NextState table x call o y → InState table y after → (rest : Rest) × InState table x rest × NextRest c calls rest call o after
+  pub from_state : (x y : ℕ) (call : ThreadCall) (after : Rest) (o : SerialOutcome) → NextState table x call o y → InState table y after → (rest : Rest) × InState table x rest × NextRest c calls rest call o after
   from_state x y call after o next (state, at, has) =
       let right = is.answers (question_of x call) (Some (o, y)) next in
       let to = right.right in
@@ -74,7 +74,7 @@ module _ (c : Component) (calls : List ACall) (table : Table) (is : IsTable c ca
       let from = (to.2.exact o after).1 (refl, subst (λ (z : Rests). HasRest z.positions.items after) (sym same) has) in
       (from.0, (right.from, right.state, from.1), (right.call, right.called, from.2))
 
-  next_state : (x y : ℕ) (call : ThreadCall) (o : SerialOutcome) → NextState table x call o y → (state : Rests) × (slice_get table.states.keys y ≡ Some state)
+  pub next_state : (x y : ℕ) (call : ThreadCall) (o : SerialOutcome) → NextState table x call o y → (state : Rests) × (slice_get table.states.keys y ≡ Some state)
   next_state x y call o next =
       let right = is.answers (question_of x call) (Some (o, y)) next in
       (right.right.0, right.right.1)

@@ -37,7 +37,7 @@ use Rattle.lu_run.specs.declared.table.Table.{Table}
 use Rattle.lu_run.specs.Asking.{HasRest}
 use Rattle.lu_run.specs.Tables.{Answer, recorded}
 use Rattle.lu_run.specs.Following.{NextState, question_of}
-use Rattle.lu_run.specs.Judging.{IsFollowed, HasLinearization, IsGoodNow, IsPassing, IsPassingNow, StuckIfPending, call_of}
+use Rattle.lu_run.specs.Judging.{IsFollowed, HasLinearization, IsGoodNow, IsLinearizable, IsPassing, IsPassingNow, StuckIfPending, call_of}
 use Rattle.lu_run.proofs.Finished.{none_left, some_left}
 use Rattle.lu_run.specs.Runs.{IsRun, history_of, listed, matrix_of, numbers_of, with_numbers}
 use Rattle.lu_run.proofs.Automated.{next_back, next_to, no_calls, numbers_none, own_calls}
@@ -98,6 +98,20 @@ module _ (c : Component) (setup calls : List ACall) (events : List RunEvent) (s 
             omega (arith, line, few, made, as_many))
         | inr past ↦ (let none = ap length (no_calls setup calls events t past) in omega (arith, none))
       ]
+
+  never_stuck : (q : List SerialOp) (t k : ℕ) → Reads (RestAfter s) q → slice_get (entries t q) k ≡ Some Stuck → ⊥
+  never_stuck q t k (rest, (u, shown)) stuck =
+      let a : OpId = record { t = t; k = k } in
+      let there = entry_of q a (slice_get_within (entries t q) k Stuck stuck) in
+      let op = there.1.0 in
+      let is : op.outcome ≡ Stuck = same_Some op.outcome Stuck (sym (entry_outcome q a there.0 there.1) ∙ stuck) in
+      none_stuck shown.history (take there.0 q) op (drop (suc there.0) q) (sym shown.holds.1 ∙ split_at q op there.0 there.1.1) is
+
+  nobody : (t : ℕ) → 8 ≤ t → calls_count t (history_of events) ≡ 0
+  nobody t past = (let made = calls_after t [] events in let none = ap length (numbers_none calls t past events run.events_of) in omega (arith, made, none))
+
+  pub linear_passes : HasLinearization s events → IsLinearizable s events
+  linear_passes line = (completes (Reads (RestAfter s)) never_stuck (history_of events) run.sequential nobody).0 line
 
   module _ (table : Table) (pending : List (Option ThreadCall)) (list : List Kept) (was : IsFollowed c s calls events table pending list (history_of events)) where
     -- a pending call has its witness exactly where it can be stuck
@@ -201,20 +215,9 @@ module _ (c : Component) (setup calls : List ACall) (events : List RunEvent) (s 
       stuck = λ a pend. (stuck_witness a pend (waits a pend)).1 (subst (StuckIfPending table list) (waits a pend) (now.stuck a.t (seat a pend)));
     }
 
-    never_stuck : (q : List SerialOp) (t k : ℕ) → Reads (RestAfter s) q → slice_get (entries t q) k ≡ Some Stuck → ⊥
-    never_stuck q t k (rest, (u, shown)) stuck =
-        let a : OpId = record { t = t; k = k } in
-        let there = entry_of q a (slice_get_within (entries t q) k Stuck stuck) in
-        let op = there.1.0 in
-        let is : op.outcome ≡ Stuck = same_Some op.outcome Stuck (sym (entry_outcome q a there.0 there.1) ∙ stuck) in
-        none_stuck shown.history (take there.0 q) op (drop (suc there.0) q) (sym shown.holds.1 ∙ split_at q op there.0 there.1.1) is
-
-    nobody : (t : ℕ) → 8 ≤ t → calls_count t (history_of events) ≡ 0
-    nobody t past = (let made = calls_after t [] events in let none = ap length (numbers_none calls t past events run.events_of) in omega (arith, made, none))
-
     pub passing : (stuck : Bool) → IsPassingNow stuck table list pending → IsPassing s events stuck
     passing true now = tells_good now
-    passing false some = (completes (Reads (RestAfter s)) never_stuck (history_of events) run.sequential nobody).0 (some_left c s calls events events table pending list some was)
+    passing false some = linear_passes (some_left c s calls events events table pending list some was)
 
     pub passing_back : (stuck : Bool) → IsPassing s events stuck → IsPassingNow stuck table list pending
     passing_back true good = good_tells good

@@ -38,7 +38,7 @@ use Rattle.lu_run.specs.Asking.{HasRest, IsAtRest, rest_at}
 use Rattle.lu_run.specs.Completions.{HasCompletion}
 use Rattle.lu_run.specs.Following.{AreAnswered, AreSeated, HasStates, NextState}
 use Rattle.lu_run.specs.Foreseeing.{FitsReturns, next_return}
-use Rattle.lu_run.specs.Offending.{IsOffence}
+use Rattle.lu_run.specs.Offending.{AreReached, IsOffence}
 use Rattle.lu_run.specs.Runs.{IsRun, history_of, matrix_of, numbers_of}
 use Rattle.lu_run.specs.Tables.{IsTable, recorded}
 
@@ -267,6 +267,25 @@ abbrev pub JudgesRun : {E : Type 0} → Component → Matrix → ℕ → Run →
 JudgesRun c matrix bound run result =
     FromEachStart c (matrix_of matrix.setup run.calls.items run.events.items)
     (λ s. IfOk result (IsVerdict c bound s run))
+
+-- what holds of the run with these events, from a start that is state 0 of the table
+abbrev pub OfRun : Component → List ACall → Table → List RunEvent → (State → Type 0) → Type 0
+OfRun c calls table events P =
+    (setup : List ACall) (s : State) →
+    IsStart c (matrix_of setup calls events) s → StartsAt table s → IsRun calls events → P s
+
+-- the verdict on the run is right, if the table's states are reached from its start
+abbrev pub JudgesFrom : {E : Type 0} → SerialRuns → Table → Run → Result RunVerdict E → Type 0
+JudgesFrom runs table run result =
+    OfRun runs.component.now runs.calls.now table run.events.items
+    (λ s. AreReached runs.component.now runs.calls.now (rest_of s) table
+    → IfOk result (IsVerdict runs.component.now runs.bound s run))
+
+-- where it is known that the run passes, it does
+abbrev pub FindsPassing : {E : Type 0} → SerialRuns → Table → Run → Result Bool E → Type 0
+FindsPassing runs table run result =
+    IfOk result (λ found. found ≡ true
+    → OfRun runs.component.now runs.calls.now table run.events.items (λ s. RunPasses s run))
 
 -- the verdict names the call that offends
 abbrev pub NamesOffence : FollowFault → RunVerdict → Type 0

@@ -10,6 +10,7 @@ pub mod Foreseeing
 pub mod Offending
 pub mod Completions
 pub mod Judging
+pub mod Finding
 pub mod Reading
 pub mod Beginnings
 pub mod Setups

@@ -67,7 +67,7 @@ const ROUNDS: u8 = 9;
 
 /// What the thread's pending call answers in the configuration: the question, if the thread has a
 /// pending call that has not taken effect.
-fn question_at(
+pub(crate) fn question_at(
     pending: &[Option<ThreadCall>; 8],
     one: &Configuration,
     thread: usize,

@@ -6,12 +6,13 @@ ghost use Rattle.lu_machine.specs.Starts.{CanRun};
 ghost use Rattle.lu_linearization.specs.Monitors.{by_thread};
 ghost use Rattle.lu_run.specs.Following.{HasState};
 ghost use Rattle.lu_run.specs.Foreseeing.{next_return};
-ghost use Rattle.lu_run.specs.Judging.{EndsLost, FindsExpected, FindsFailure, FindsFirst, FindsLost, IfAdvances, IfFollows, IfReady, IfTells, IsEndVerdict, IsReady, JudgesRun, NamesOffence, StuckIfPending, TellsNotStuck, first_effect, thread_of};
+ghost use Rattle.lu_run.specs.Judging.{EndsLost, FindsExpected, FindsFailure, FindsFirst, FindsLost, FindsPassing, IfAdvances, IfFollows, IfReady, IfTells, IsEndVerdict, IsReady, JudgesFrom, JudgesRun, NamesOffence, StuckIfPending, TellsNotStuck, first_effect, thread_of};
 ghost use Rattle.lu_run.specs.Offending.{IsFollowFaultOf, LearnsBy};
 ghost use Rattle.lu_run.specs.Runs.{AreEventsOf, IsEventOf, IsRun};
 ghost use Rattle.lu_run.specs.Tables.{AreCallsOf, IsTable};
 
 use crate::automaton::ThreadCall;
+use crate::finding::find_linearization;
 use crate::following::{FollowFault, Follower, SerialRuns, follow};
 use crate::run::{Run, RunEvent};
 use crate::starting::{first_table, start_of};
@@ -53,7 +54,7 @@ pub enum RunVerdict {
 }
 
 /// What the pending call of the thread returns in these events; None if it does not return.
-fn next_return(thread: u8, more: &[RunEvent]) -> Option<SerialOutcome>
+pub(crate) fn next_return(thread: u8, more: &[RunEvent]) -> Option<SerialOutcome>
     ensures { result ≡ next_return thread more.now }
 {
     for event in more {
@@ -373,6 +374,70 @@ fn offence(fault: FollowFault) -> Result<RunVerdict, AllocError>
     }
 }
 
+/// The verdict on the run, where state 0 of the table is that of its start, by all of its
+/// linearizations.
+///
+/// # Errors
+///
+/// Out of memory.
+fn judge_by_all(
+    runs: SerialRuns<'_>,
+    table: &mut Table,
+    run: &Run,
+) -> Result<RunVerdict, AllocError>
+    requires table { IsTable runs.component.now runs.calls.now table.old }
+    requires start { HasState table.old 0 }
+    requires calls { AreCallsOf runs.component.now runs.calls.now }
+    requires same { runs.calls.now ≡ run.now.calls.items }
+    requires run { IsRun run.now.calls.items run.now.events.items }
+    requires few { runs.bound ≤ MOST_MOVES }
+    ensures { JudgesFrom runs.entry table.old run.now result }
+{
+    let all = match follow_all(runs, table, &run.events) {
+        Ok(all) => all,
+        Err(fault) => return offence(fault),
+    };
+    match all.lost {
+        None => Ok(end_verdict(
+            run.is_stuck,
+            &*table,
+            &all.follower.monitor,
+            &all.follower.pending,
+        )),
+        Some(kept) => match failure_of(runs, table, &run.events, kept) {
+            Ok(failure) => Ok(RunVerdict::FailsAt(failure)),
+            Err(fault) => offence(fault),
+        },
+    }
+}
+
+/// Whether a linearization of the run is found, if that is enough for the run to pass. `false` says
+/// nothing.
+///
+/// # Errors
+///
+/// After some serial calls, a call takes more moves than the bound, or has two outcomes; or out of
+/// memory.
+fn passes_at_once(
+    runs: SerialRuns<'_>,
+    table: &mut Table,
+    run: &Run,
+) -> Result<bool, FollowFault>
+    requires table { IsTable runs.component.now runs.calls.now table.old }
+    requires start { HasState table.old 0 }
+    requires calls { AreCallsOf runs.component.now runs.calls.now }
+    requires events { AreEventsOf runs.calls.now run.now.events.items }
+    requires few { runs.bound ≤ MOST_MOVES }
+    ensures learns { OnOk result (LearnsBy runs.entry table.old table.new) }
+    ensures finds { FindsPassing runs.entry table.old run.now result }
+    ensures offends { IfErr result (IsFollowFaultOf runs.entry table.old) }
+{
+    if run.is_stuck {
+        return Ok(false);
+    }
+    find_linearization(runs, table, &run.events)
+}
+
 /// Whether the run passes, with the component's serial runs as the specification, after the setup of
 /// the matrix. The matrix's threads don't matter.
 ///
@@ -411,20 +476,9 @@ pub fn judge_run(
         calls: &run.calls,
         bound,
     };
-    let all = match follow_all(runs, &mut table, &run.events) {
-        Ok(all) => all,
-        Err(fault) => return offence(fault),
-    };
-    match all.lost {
-        None => Ok(end_verdict(
-            run.is_stuck,
-            &table,
-            &all.follower.monitor,
-            &all.follower.pending,
-        )),
-        Some(kept) => match failure_of(runs, &mut table, &run.events, kept) {
-            Ok(failure) => Ok(RunVerdict::FailsAt(failure)),
-            Err(fault) => offence(fault),
-        },
+    match passes_at_once(runs, &mut table, run) {
+        Ok(true) => Ok(RunVerdict::Passes),
+        Ok(false) => judge_by_all(runs, &mut table, run),
+        Err(fault) => offence(fault),
     }
 }

@@ -7,6 +7,7 @@ mod bundled;
 mod checking;
 mod ending;
 mod fault;
+mod finding;
 mod first_word;
 mod following;
 mod judging;

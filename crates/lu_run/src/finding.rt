@@ -1,0 +1,384 @@
+//! A search for one linearization of a run.
+
+ghost use Rattle.std.specs.Prelude.{◌≡◌, ◌↔◌, ◌<◌, ◌≤◌, ◌++◌, ◌+◌, ◌∷◌, [], IfErr, IfOk, IfSome, IsTrue, None, OnOk, length, replicate};
+ghost use Rattle.lu_history.specs.Parts.{as_serial};
+ghost use Rattle.lu_machine.specs.declared.TheConstants.{MOST_MOVES};
+ghost use Rattle.lu_run.specs.Finding.{Finds, HasEffect, IsAfterCall, IsAfterEffect, IsAfterReturn, IsAttempt, IsLaterPart, Opens, OpensOf};
+ghost use Rattle.lu_run.specs.Following.{HasState};
+ghost use Rattle.lu_run.specs.Offending.{IsFollowFaultOf, LearnsBy};
+ghost use Rattle.lu_run.specs.Runs.{AreEventsOf};
+ghost use Rattle.lu_run.specs.Tables.{AreCallsOf, IsTable};
+
+use crate::automaton::{ThreadCall, is_allowed};
+use crate::following::{FollowFault, SerialRuns, question_at};
+use crate::judging::next_return;
+use crate::run::RunEvent;
+use crate::table::{Table, learn, recall};
+use indexmap::IndexSet;
+use lu_history::SerialOutcome;
+use lu_linearization::Configuration;
+use lu_machine::Outcome;
+use std::alloc::{AllocError, Global};
+
+/// A linearization of the first events of a run, as far as it matters for the events that come next.
+#[derive(Clone, Copy)]
+struct Attempt {
+    /// The number of these events.
+    events: usize,
+
+    /// For each thread, its pending call.
+    pending: [Option<ThreadCall>; 8],
+
+    /// For each thread, what its pending call returns, if it returns.
+    returns: [Option<SerialOutcome>; 8],
+
+    configuration: Configuration,
+}
+
+/// What tells an attempt from others: two with the same are rarely worth going on from.
+#[derive(Clone, Copy, Debug, PartialEq, Eq, Hash)]
+struct Seen {
+    events: usize,
+    state: u32,
+
+    /// The threads whose pending operations have taken effect, one bit each.
+    effects: u8,
+}
+
+/// The attempts that were gone on from.
+#[derive(Drop)]
+struct Past {
+    seen: IndexSet<Seen>,
+
+    /// The most events that an attempt had.
+    furthest: usize,
+
+    /// The number of attempts since one had more events than those before.
+    idle: u32,
+}
+
+/// The number of attempts that are remembered, and of those that may be open.
+const MOST_KEPT: usize = 65_536;
+
+/// The number of attempts without a further event after which the search gives up.
+const MOST_IDLE: u32 = 65_536;
+
+/// The number of attempts, for each event, after which the search gives up.
+const MOST_FOR_EVENT: usize = 64;
+
+/// The attempt before any event.
+fn first_attempt() -> Attempt
+    ensures events { result.events ≡ 0 }
+    ensures state { result.configuration.state ≡ 0 }
+    ensures pending { result.pending ≡ replicate 8 None }
+    ensures effects { result.configuration.effects ≡ replicate 8 None }
+{
+    Attempt {
+        events: 0,
+        pending: [None; 8],
+        returns: [None; 8],
+        configuration: Configuration {
+            state: 0,
+            effects: [None; 8],
+        },
+    }
+}
+
+/// The attempt after one more call, with what it returns later. `next` is the number of the events
+/// with it.
+fn after_call(
+    from: &Attempt,
+    next: usize,
+    call: ThreadCall,
+    returns: Option<SerialOutcome>,
+) -> Attempt
+    requires next { next ≡ from.now.events + 1 }
+    requires thread { call.thread < 8 }
+    ensures { IsAfterCall from.now call result }
+{
+    let mut to = *from;
+    to.events = next;
+    to.pending[usize::from(call.thread)] = Some(call);
+    to.returns[usize::from(call.thread)] = returns;
+    to
+}
+
+/// The attempt after the thread's operation returns. `next` is the number of the events with it.
+fn after_return(from: &Attempt, next: usize, thread: u8) -> Attempt
+    requires next { next ≡ from.now.events + 1 }
+    requires thread { thread < 8 }
+    ensures { IsAfterReturn from.now thread result }
+{
+    let mut to = *from;
+    to.events = next;
+    to.pending[usize::from(thread)] = None;
+    to.configuration.effects[usize::from(thread)] = None;
+    to
+}
+
+/// The attempt in which the thread's pending operation has this outcome and leads to this state.
+fn with_effect(from: &Attempt, thread: usize, outcome: SerialOutcome, state: u32) -> Attempt
+    requires { thread < 8 }
+    ensures { HasEffect from.now thread outcome state result }
+{
+    let mut to = *from;
+    to.configuration.state = state;
+    to.configuration.effects[thread] = Some(outcome);
+    to
+}
+
+/// The attempt in which the thread's pending operation takes effect. None where it has no pending
+/// operation, where that has taken effect already, where it is stuck, or where it returns something
+/// else later.
+///
+/// # Errors
+///
+/// After some serial calls, a call takes more moves than the bound, or has two outcomes; or out of
+/// memory.
+fn take_effect(
+    runs: SerialRuns<'_>,
+    table: &mut Table,
+    from: &Attempt,
+    thread: usize,
+) -> Result<Option<Attempt>, FollowFault>
+    requires table { IsTable runs.component.now runs.calls.now table.old }
+    requires calls { AreCallsOf runs.component.now runs.calls.now }
+    requires from { IsAttempt runs.calls.now table.old from.now }
+    requires thread { thread < 8 }
+    requires few { runs.bound ≤ MOST_MOVES }
+    ensures learns { OnOk result (LearnsBy runs.entry table.old table.new) }
+    ensures effect { IfOk result
+        (λ to. IfSome to (IsAfterEffect table.new from.now thread)) }
+    ensures offends { IfErr result (IsFollowFaultOf runs.entry table.old) }
+{
+    let Some(question) = question_at(&from.pending, &from.configuration, thread) else {
+        return Ok(None);
+    };
+    learn(
+        runs.alloc,
+        runs.component,
+        runs.calls,
+        runs.bound,
+        table,
+        question,
+    )?;
+    match recall(table, question) {
+        Some(Some((outcome, state))) => {
+            if is_allowed(&from.returns, question.thread, outcome) {
+                Ok(Some(with_effect(from, thread, outcome, state)))
+            } else {
+                Ok(None)
+            }
+        }
+        _ => Ok(None),
+    }
+}
+
+/// Adds the attempt.
+fn add(open: &mut Vec<Attempt>, attempt: Attempt) -> Result<(), AllocError>
+    ensures { OnOk result (open.new.items ≡ open.old.items ++ attempt ∷ []) }
+{
+    open.push(attempt)?;
+    Ok(())
+}
+
+/// Adds the attempt in which the thread's pending operation takes effect, if it can.
+fn open_effect(
+    runs: SerialRuns<'_>,
+    table: &mut Table,
+    from: &Attempt,
+    thread: usize,
+    open: &mut Vec<Attempt>,
+) -> Result<(), FollowFault>
+    requires table { IsTable runs.component.now runs.calls.now table.old }
+    requires calls { AreCallsOf runs.component.now runs.calls.now }
+    requires from { IsAttempt runs.calls.now table.old from.now }
+    requires thread { thread < 8 }
+    requires few { runs.bound ≤ MOST_MOVES }
+    ensures learns { OnOk result (LearnsBy runs.entry table.old table.new) }
+    ensures opens { OnOk result
+        (Opens runs.entry from.now table.old open.old.items table.new open.new.items) }
+    ensures offends { IfErr result (IsFollowFaultOf runs.entry table.old) }
+{
+    if let Some(to) = take_effect(runs, table, from, thread)? {
+        add(open, to)?;
+    }
+    Ok(())
+}
+
+/// Adds each attempt in which one more pending operation takes effect. That of the last thread is
+/// the first to go on from.
+fn open_effects(
+    runs: SerialRuns<'_>,
+    table: &mut Table,
+    from: &Attempt,
+    last: usize,
+    open: &mut Vec<Attempt>,
+) -> Result<(), FollowFault>
+    requires table { IsTable runs.component.now runs.calls.now table.old }
+    requires calls { AreCallsOf runs.component.now runs.calls.now }
+    requires from { IsAttempt runs.calls.now table.old from.now }
+    requires last { last < 8 }
+    requires few { runs.bound ≤ MOST_MOVES }
+    ensures learns { OnOk result (LearnsBy runs.entry table.old table.new) }
+    ensures opens { OnOk result
+        (Opens runs.entry from.now table.old open.old.items table.new open.new.items) }
+    ensures offends { IfErr result (IsFollowFaultOf runs.entry table.old) }
+{
+    for thread in 0..8 {
+        if thread != last {
+            open_effect(runs, table, from, thread, open)?;
+        }
+    }
+    open_effect(runs, table, from, last, open)?;
+    Ok(())
+}
+
+/// Whether the operation took effect with this outcome.
+fn is_outcome(effect: SerialOutcome, outcome: Outcome) -> bool
+    ensures { IsTrue result ↔ (effect ≡ as_serial outcome) }
+{
+    effect == SerialOutcome::from(outcome)
+}
+
+/// Adds the attempts to which this one leads: that after the next event, if there is one; else, if
+/// the next event is a return of an operation that has not taken effect, those in which one more
+/// operation has.
+fn go_on(
+    runs: SerialRuns<'_>,
+    table: &mut Table,
+    events: &[RunEvent],
+    from: &Attempt,
+    open: &mut Vec<Attempt>,
+) -> Result<(), FollowFault>
+    requires table { IsTable runs.component.now runs.calls.now table.old }
+    requires calls { AreCallsOf runs.component.now runs.calls.now }
+    requires events { AreEventsOf runs.calls.now events.now }
+    requires from { IsAttempt runs.calls.now table.old from.now }
+    requires next { from.now.events < length events.now }
+    requires few { runs.bound ≤ MOST_MOVES }
+    ensures learns { OnOk result (LearnsBy runs.entry table.old table.new) }
+    ensures opens { OnOk result (OpensOf runs.entry
+        events.now from.now table.old open.old.items table.new open.new.items) }
+    ensures offends { IfErr result (IsFollowFaultOf runs.entry table.old) }
+{
+    let next = from.events + 1;
+    match events[from.events] {
+        RunEvent::Call { thread, call } => {
+            let returns = next_return(thread, &events[next..]);
+            add(
+                open,
+                after_call(from, next, ThreadCall { thread, call }, returns),
+            )?;
+            Ok(())
+        }
+        RunEvent::Return { thread, outcome } => {
+            match from.configuration.effects[usize::from(thread)] {
+                None => {
+                    open_effects(runs, table, from, usize::from(thread), open)?;
+                    Ok(())
+                }
+                Some(effect) => {
+                    if is_outcome(effect, outcome) {
+                        add(open, after_return(from, next, thread))?;
+                    }
+                    Ok(())
+                }
+            }
+        }
+    }
+}
+
+/// The threads whose pending operations have taken effect, one bit each.
+fn effect_bits(configuration: &Configuration) -> u8 {
+    let mut bits = 0u8;
+    for effect in configuration.effects {
+        bits = bits << 1 | u8::from(effect.is_some());
+    }
+    bits
+}
+
+/// Notes the attempt. Returns whether to go on from it: not where one like it was noted before.
+fn is_new(alloc: Global, past: &mut Past, attempt: &Attempt) -> Result<bool, AllocError> {
+    if past.seen.len() >= MOST_KEPT {
+        past.seen = IndexSet::new(alloc);
+    }
+    let is_new = past.seen.insert(Seen {
+        events: attempt.events,
+        state: attempt.configuration.state,
+        effects: effect_bits(&attempt.configuration),
+    })?;
+    Ok(is_new)
+}
+
+/// Counts the attempt. Returns whether there were too many without a further event.
+fn is_too_long(past: &mut Past, attempt: &Attempt) -> bool {
+    if attempt.events > past.furthest {
+        past.furthest = attempt.events;
+        past.idle = 0;
+    } else {
+        past.idle = past.idle.saturating_add(1);
+    }
+    past.idle >= MOST_IDLE
+}
+
+/// Forgets the earlier half of the open attempts where there are too many.
+fn forget_earlier(alloc: Global, open: &mut Vec<Attempt>) -> Result<(), AllocError>
+    ensures { OnOk result (IsLaterPart open.old.items open.new.items) }
+{
+    if open.len() >= MOST_KEPT {
+        let later = Vec::from_slice(alloc, &open[MOST_KEPT / 2..])?;
+        *open = later;
+    }
+    Ok(())
+}
+
+/// Whether the events, all of a run, have a linearization. `false` says nothing: the search gives up
+/// after some time, and forgets what it has not gone on from where that is too much.
+///
+/// The search is that of Wing and Gong (1993) with the memo of Lowe (2017): a depth-first search, in
+/// which operations take effect where the next return needs it.
+///
+/// # Errors
+///
+/// After some serial calls, a call takes more moves than the bound, or has two outcomes; or out of
+/// memory.
+pub(crate) fn find_linearization(
+    runs: SerialRuns<'_>,
+    table: &mut Table,
+    events: &[RunEvent],
+) -> Result<bool, FollowFault>
+    requires table { IsTable runs.component.now runs.calls.now table.old }
+    requires start { HasState table.old 0 }
+    requires calls { AreCallsOf runs.component.now runs.calls.now }
+    requires events { AreEventsOf runs.calls.now events.now }
+    requires few { runs.bound ≤ MOST_MOVES }
+    ensures learns { OnOk result (LearnsBy runs.entry table.old table.new) }
+    ensures finds { Finds runs.entry table.old events.now result }
+    ensures offends { IfErr result (IsFollowFaultOf runs.entry table.old) }
+{
+    let mut open = Vec::new(runs.alloc);
+    add(&mut open, first_attempt())?;
+    let mut past = Past {
+        seen: IndexSet::new(runs.alloc),
+        furthest: 0,
+        idle: 0,
+    };
+    let most = events.len().saturating_mul(MOST_FOR_EVENT).saturating_add(MOST_KEPT);
+    for _attempt in 0..most {
+        let Some(attempt) = open.pop() else {
+            return Ok(false);
+        };
+        if attempt.events >= events.len() {
+            return Ok(true);
+        }
+        if is_too_long(&mut past, &attempt) {
+            return Ok(false);
+        }
+        if is_new(runs.alloc, &mut past, &attempt)? {
+            go_on(runs, table, events, &attempt, &mut open)?;
+            forget_earlier(runs.alloc, &mut open)?;
+        }
+    }
+    Ok(false)
+}
