@@ -29,7 +29,7 @@ use Rattle.lu_run.specs.declared.run.RunEvent.{RunEvent}
 use Rattle.lu_run.specs.declared.run.RunEvent.TheVariants.{Call as Calls, Return as Back}
 use Rattle.lu_run.specs.declared.table.Table.{Table}
 use Rattle.lu_run.specs.declared.following.SerialRuns.{SerialRuns}
-use Rattle.lu_run.specs.Finding.{AreSound, IsAfterCall, IsAfterEffect, IsAfterReturn, IsAttempt, IsLinearized, IsSound, Opens}
+use Rattle.lu_run.specs.Finding.{AreSound, IsAfterCall, IsAfterEffect, IsAfterReturn, IsAlike, IsAttempt, IsLinearized, IsSound, Opens}
 use Rattle.lu_run.specs.Following.{AreSeated, HasState, NextState}
 use Rattle.lu_run.specs.Judging.{HasLinearization, InState, StartsAt, call_of}
 use Rattle.lu_run.specs.Offending.{NextRest}
@@ -111,7 +111,7 @@ module _ (c : Component) (setup calls : List ACall) (events : List RunEvent) (s 
   automaton_is : IsAutomaton (RestAfter s) (NextRest c calls) (call_of calls events)
   automaton_is = automaton c setup calls events run s start
 
-  sequential_at : (n : ℕ) → HasSequentialThreads (history_of (take n events))
+  pub sequential_at : (n : ℕ) → HasSequentialThreads (history_of (take n events))
   sequential_at n = sequential_front (take n events) (drop n events) (subst (λ x. HasSequentialThreads (history_of x)) (parts n events) run.sequential)
     where
       parts : (n : ℕ) (xs : List RunEvent) → xs ≡ take n xs ++ drop n xs
@@ -121,10 +121,10 @@ module _ (c : Component) (setup calls : List ACall) (events : List RunEvent) (s 
 
   -- the history after one event more
   module _ (n : ℕ) (e : RunEvent) (at : slice_get events n ≡ Some e) where
-    next_history : history_of (take (n + 1) events) ≡ history_of (take n events) ++ next_event (history_of (take n events)) e ∷ []
+    pub next_history : history_of (take (n + 1) events) ≡ history_of (take n events) ++ next_event (history_of (take n events)) e ∷ []
     next_history = rw (add-one n) (ap history_of (take_next events e n at) ∙ history_push [] (take n events) e)
 
-    next_sequential : HasSequentialThreads (history_of (take n events) ++ next_event (history_of (take n events)) e ∷ [])
+    pub next_sequential : HasSequentialThreads (history_of (take n events) ++ next_event (history_of (take n events)) e ∷ [])
     next_sequential = one_more c setup calls events (take n events) (drop (suc n) events) s start run e (split_at events e n at)
 
   module _ (table : Table) (a b : Attempt) (eight : length a.pending ≡ 8) (was : IsLinearized s calls events table a) where
@@ -238,7 +238,36 @@ module _ (c : Component) (calls : List ACall) (events : List RunEvent) (first ta
     linearized = λ setup s start starts run. linearized_effect c setup calls events s start run table a b was.is.eight.0 (was.linearized setup s start starts run) t right seat was.is.eight.1 step;
   }
 
+pub sound_alike : (c : Component) (calls : List ACall) (events : List RunEvent) (first table : Table) (a b : Attempt) → IsAlike a b → IsSound c calls events first table a → IsSound c calls events first table b
+sound_alike c calls events first table a b alike was = record {
+  is = record {
+    seated = subst (AreSeated calls) (sym alike.pending) was.is.seated;
+    state = subst (λ (x : Kept). HasState table x.state) (sym alike.configuration) was.is.state;
+    eight = (ap length alike.pending ∙ was.is.eight.0, ap (λ (x : Kept). length x.effects) alike.configuration ∙ was.is.eight.1);
+  };
+  linearized = λ setup s start starts run.
+      (let line = was.linearized setup s start starts run in
+      record {
+        pends = λ t. ap (λ x. by_thread x t) alike.pending ∙ (line.pends t ∙ ap (λ n. pending_call (call_of calls events) (history_of (take n events)) t) (sym alike.events));
+        linearizes = λ rest at.
+            (let before : InState table a.configuration.state rest = subst (λ (x : Kept). InState table x.state rest) alike.configuration at in
+            subst (λ n. IsConfiguration (RestAfter s) (history_of (take n events)) (record { state = rest; effects = by_thread b.configuration.effects })) (sym alike.events)
+            (subst (λ (x : Kept). IsConfiguration (RestAfter s) (history_of (take a.events events)) (record { state = rest; effects = by_thread x.effects })) (sym alike.configuration) (line.linearizes rest before)));
+      });
+}
+
 -- ---- at the start and at the end
+
+pub no_effects : (t : ℕ) → by_thread {C = SerialOutcome} (replicate 8 None) t ≡ None
+no_effects zero = refl
+no_effects (suc zero) = refl
+no_effects (suc (suc zero)) = refl
+no_effects (suc (suc (suc zero))) = refl
+no_effects (suc (suc (suc (suc zero)))) = refl
+no_effects (suc (suc (suc (suc (suc zero))))) = refl
+no_effects (suc (suc (suc (suc (suc (suc zero)))))) = refl
+no_effects (suc (suc (suc (suc (suc (suc (suc zero))))))) = refl
+no_effects (suc (suc (suc (suc (suc (suc (suc (suc t)))))))) = refl
 
 pub sound_first : (c : Component) (calls : List ACall) (events : List RunEvent) (table : Table) (a : Attempt) → HasState table 0 → a.events ≡ 0 → a.configuration.state ≡ 0 → a.pending ≡ replicate 8 None → a.configuration.effects ≡ replicate 8 None → IsSound c calls events table table a
 sound_first c calls events table a there none zero_state pending effects = record {
@@ -259,21 +288,6 @@ sound_first c calls events table a there none zero_state pending effects = recor
             subst (λ x. IsConfiguration (RestAfter s) x new) (sym h) is);
       });
 }
-  where
-    no_effects : (t : ℕ) → by_thread {C = SerialOutcome} (replicate 8 None) t ≡ None
-    no_effects t = by t
-      where
-        by : (t : ℕ) → by_thread {C = SerialOutcome} (replicate 8 None) t ≡ None
-        by zero = refl
-        by (suc zero) = refl
-        by (suc (suc zero)) = refl
-        by (suc (suc (suc zero))) = refl
-        by (suc (suc (suc (suc zero)))) = refl
-        by (suc (suc (suc (suc (suc zero))))) = refl
-        by (suc (suc (suc (suc (suc (suc zero)))))) = refl
-        by (suc (suc (suc (suc (suc (suc (suc zero))))))) = refl
-        by (suc (suc (suc (suc (suc (suc (suc (suc t)))))))) = refl
-
 pub sound_last_event : (c : Component) (calls : List ACall) (events : List RunEvent) (first table : Table) (a : Attempt) → IsTable c calls table → IsSound c calls events first table a → length events ≤ a.events → (setup : List ACall) (s : State) → IsStart c (matrix_of setup calls events) s → StartsAt first s → IsRun calls events → HasLinearization s events
 sound_last_event c calls events first table a right was le setup s start starts run =
     let line = was.linearized setup s start starts run in

@@ -13,6 +13,8 @@ pub mod Advanced
 pub mod Beginning
 pub mod Finished
 pub mod Found
+pub mod Ordered
+pub mod Replayed
 pub mod Ran
 pub mod Checked
 pub mod Completed

@@ -1,11 +1,12 @@
 -- The end of a run that has no linearization.
-use Rattle.std.specs.Prelude.{ℕ, ◌+◌, ◌-◌, ◌==◌, ◌++◌, List, [], ◌∷◌, codes, drop, take, if◌then◌else◌}
+use Rattle.std.specs.Prelude.{ℕ, ◌+◌, ◌-◌, ◌/◌, ◌==◌, ◌++◌, List, [], ◌∷◌, codes, drop, take, if◌then◌else◌}
 use Rattle.std.specs.Fmt.{decimal}
 use Rattle.lu_component.specs.Component.{Component}
 use Rattle.lu_run.specs.declared.run.Run.{Run}
 use Rattle.lu_run.specs.declared.run.RunEvent.{RunEvent}
 use Rattle.lu_run.specs.declared.run.RunEvent.TheVariants.{Call, Return}
-use Rattle.lu_run.specs.RunWriting.{events_text, stuck_text}
+use Rattle.lu_run.specs.declared.ordering.RunOperation.{RunOperation}
+use Rattle.lu_run.specs.RunWriting.{events_text, operations_text, stuck_text}
 
 -- the number of pending calls after the event
 abbrev pub pending_after : ℕ → RunEvent → ℕ
@@ -44,3 +45,27 @@ end_text c run n =
 abbrev pub line_of : List RunEvent → ℕ → ℕ
 line_of events n =
     if since_quiet (take n events) == n then n + 2 else since_quiet (take n events) + 3
+
+-- ---- a linearization of the events before
+
+-- the number of events before event number n that are left out
+abbrev pub left_out : List RunEvent → ℕ → ℕ
+left_out events n = n - since_quiet (take n events)
+
+-- what is said before the operations: of how many events some are left out
+abbrev pub order_head : ℕ → List ℕ
+order_head count =
+    if count == 0 then codes "the events before have this linearization:\n"
+    else codes "the events before have a linearization that ends with:\n"
+
+-- these operations, if there are some
+abbrev pub order_lines : Component → Run → ℕ → List RunOperation → List ℕ
+order_lines c run count [] = []
+order_lines c run count (one ∷ order) =
+    order_head count ++ operations_text c.operations run.calls.items (one ∷ order)
+
+-- The operations without those of the events that are left out. No call was pending after these, so
+-- each of their operations is two of them.
+abbrev pub order_text : Component → Run → ℕ → List RunOperation → List ℕ
+order_text c run n order =
+    order_lines c run (left_out run.events.items n) (drop (left_out run.events.items n / 2) order)

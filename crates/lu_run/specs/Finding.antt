@@ -1,5 +1,5 @@
 -- The search for one linearization of a run.
-use Rattle.std.specs.Prelude.{◌≡◌, ℕ, ◌+◌, ◌<◌, ◌≤◌, Bool, true, List, [], ◌∷◌, drop, length, set, take, Option, Some, None, IfOk, Result, slice_get}
+use Rattle.std.specs.Prelude.{◌≡◌, ℕ, ◌+◌, ◌<◌, ◌≤◌, Bool, true, List, [], ◌∷◌, drop, length, set, take, Option, Some, None, IfOk, IsSome, Result, slice_get}
 use Rattle.lu_component.specs.Component.{Component}
 use Rattle.lu_test.specs.declared.matrix.Call.{Call as ACall}
 use Rattle.lu_machine.specs.States.{State}
@@ -66,7 +66,20 @@ Finds runs table events result =
     IfOk result (λ found. found ≡ true
     → OfRun runs.component.now runs.calls.now table events (λ s. HasLinearization s events))
 
+-- where an attempt at the whole run is found, the run has a linearization
+abbrev pub FindsAttempt : {E : Type 0} → SerialRuns → Table → List RunEvent
+    → Result (Option Attempt) E → Type 0
+FindsAttempt runs table events result =
+    IfOk result (λ found. IsSome found
+    → OfRun runs.component.now runs.calls.now table events (λ s. HasLinearization s events))
+
 -- ---- one step
+
+-- They have the same events, calls and configuration.
+pub record IsAlike (a b : Attempt) : Type 0 where
+  pub events : b.events ≡ a.events
+  pub pending : b.pending ≡ a.pending
+  pub configuration : b.configuration ≡ a.configuration
 
 -- The thread makes this call.
 pub record IsAfterCall (from : Attempt) (call : ThreadCall) (to : Attempt) : Type 0 where

@@ -11,6 +11,7 @@ pub mod Offending
 pub mod Completions
 pub mod Judging
 pub mod Finding
+pub mod Ordering
 pub mod Reading
 pub mod Beginnings
 pub mod Setups

@@ -8,6 +8,8 @@ use Rattle.lu_test.specs.declared.matrix.Call.{Call as ACall}
 use Rattle.lu_test.specs.MatrixText.{call_text}
 use Rattle.lu_machine.specs.declared.event.Outcome.{Outcome}
 use Rattle.lu_machine.specs.declared.event.Outcome.TheVariants.{Ret, Trap}
+use Rattle.lu_history.specs.Text.{serial_outcome_text}
+use Rattle.lu_run.specs.declared.ordering.RunOperation.{RunOperation}
 use Rattle.lu_run.specs.declared.run.Run.{Run}
 use Rattle.lu_run.specs.declared.run.RunEvent.{RunEvent}
 use Rattle.lu_run.specs.declared.run.RunEvent.TheVariants.{Call, Return}
@@ -38,6 +40,15 @@ event_text operations calls e = event_words operations calls e ++ 10 ∷ []
 
 abbrev pub events_text : List Op → List ACall → List RunEvent → List ℕ
 events_text operations calls events = flat_map (event_text operations calls) events
+
+-- an operation of a linearization: its thread, its call and its outcome
+abbrev pub operation_text : List Op → List ACall → RunOperation → List ℕ
+operation_text operations calls one =
+    codes "  " ++ decimal one.thread ++ codes " " ++ numbered_call operations calls one.call
+    ++ codes " " ++ serial_outcome_text one.outcome ++ codes "\n"
+
+abbrev pub operations_text : List Op → List ACall → List RunOperation → List ℕ
+operations_text operations calls order = flat_map (operation_text operations calls) order
 
 -- the line `stuck`, after all events of a run that is stuck
 abbrev pub stuck_text : Run → ℕ → List ℕ

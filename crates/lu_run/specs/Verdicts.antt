@@ -7,12 +7,13 @@ use Rattle.lu_machine.specs.Starts.{IsStart}
 use Rattle.lu_machine.specs.States.{State}
 use Rattle.lu_run.specs.declared.judging.RunVerdict.{RunVerdict}
 use Rattle.lu_run.specs.declared.judging.RunVerdict.TheVariants.{Passes, FailsAt, CannotBeStuck as NotStuck, Offends}
+use Rattle.lu_run.specs.declared.ordering.RunOperation.{RunOperation}
 use Rattle.lu_run.specs.declared.run.Run.{Run}
 use Rattle.lu_run.specs.declared.run.RunEvent.{RunEvent}
 use Rattle.lu_run.specs.declared.run.RunEvent.TheVariants.{Call, Return}
 use Rattle.lu_history.specs.Text.{serial_outcome_text}
 use Rattle.lu_history.specs.declared.serial.SerialOutcome.{SerialOutcome}
-use Rattle.lu_run.specs.Endings.{end_text, line_of}
+use Rattle.lu_run.specs.Endings.{end_text, line_of, order_text}
 use Rattle.lu_run.specs.Judging.{IsVerdict}
 use Rattle.lu_run.specs.Runs.{matrix_of}
 use Rattle.lu_run.specs.RunWriting.{event_words, numbered_call, run_text}
@@ -92,18 +93,20 @@ offence_words call t bound =
     codes "in a serial run of its calls, `" ++ (call ++ (codes "` of thread " ++ (decimal t
     ++ (codes " has two outcomes or takes more than " ++ (decimal bound ++ codes " moves\n")))))
 
--- Why the run does not pass. Lines are those of the text that is shown.
-abbrev pub reason_text : Component → ℕ → Run → RunVerdict → List ℕ
-reason_text c bound run Passes = []
-reason_text c bound run (FailsAt failure) =
+-- Why the run does not pass. Lines are those of the text that is shown. The order is that of a
+-- linearization of the events before the one after which there is none; empty where none is known.
+abbrev pub reason_text : Component → ℕ → Run → RunVerdict → List RunOperation → List ℕ
+reason_text c bound run Passes order = []
+reason_text c bound run (FailsAt failure) order =
     lost_words (line_of run.events.items failure.event)
     (words_at c run (slice_get run.events.items failure.event)) failure.expected
-reason_text c bound run (NotStuck t) =
+    ++ order_text c run failure.event order
+reason_text c bound run (NotStuck t) order =
     never_stuck_words (call_at c run (last_call t run.events.items)) t
-reason_text c bound run (Offends t n) = offence_words (call_at c run (Some n)) t bound
+reason_text c bound run (Offends t n) order = offence_words (call_at c run (Some n)) t bound
 
-abbrev pub IsReason : Component → ℕ → Run → RunVerdict → List ℕ → Type 0
-IsReason c bound run verdict text = text ≡ reason_text c bound run verdict
+abbrev pub IsReason : Component → ℕ → Run → RunVerdict → List RunOperation → List ℕ → Type 0
+IsReason c bound run verdict order text = text ≡ reason_text c bound run verdict order
 
 -- the text of the run as far as it shows the reason: its end, up to the event after which no
 -- linearization is left; or the whole run

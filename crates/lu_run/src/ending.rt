@@ -3,10 +3,11 @@
 ghost use Rattle.std.specs.Prelude.{◌≡◌, ◌<◌, ◌≤◌, ◌+◌, ◌-◌, ◌^◌, IfOk, length, string_bytes};
 ghost use Rattle.lu_text.specs.Writing.{Writes};
 ghost use Rattle.lu_run.specs.Endings as spec;
-ghost use Rattle.lu_run.specs.Endings.{end_text, left_out_text};
+ghost use Rattle.lu_run.specs.Endings.{end_text, left_out_text, order_head, order_text};
 
+use crate::ordering::RunOperation;
 use crate::run::{Run, RunEvent};
-use crate::writing::{put_events, put_stuck};
+use crate::writing::{put_events, put_operations, put_stuck};
 use lu_component::Component;
 use std::alloc::{AllocError, Global};
 
@@ -89,4 +90,36 @@ pub(crate) fn write_end(
     )?;
     put_stuck(&mut text, run, event + 1)?;
     Ok(text)
+}
+
+/// Adds what is said before the operations of a linearization, where this many events are left out.
+fn put_order_head(text: &mut String, count: usize) -> Result<(), AllocError>
+    ensures { Writes result text.old text.new (order_head count) }
+{
+    if count == 0 {
+        text.push_str("the events before have this linearization:\n")
+    } else {
+        text.push_str("the events before have a linearization that ends with:\n")
+    }
+}
+
+/// Adds the operations of a linearization of the events before the one with this number, in their
+/// order, without those of the events that are left out.
+pub(crate) fn put_order(
+    text: &mut String,
+    component: &Component,
+    run: &Run,
+    event: usize,
+    order: &[RunOperation],
+) -> Result<(), AllocError>
+    requires { event < length run.now.events.items }
+    ensures { Writes result text.old text.new (order_text component.now run.now event order.now) }
+{
+    let left_out = event - since_quiet(&run.events[..event]);
+    let shown = &order[order.len().min(left_out / 2)..];
+    if shown.is_empty() {
+        return Ok(());
+    }
+    put_order_head(text, left_out)?;
+    put_operations(text, component.operations(), &run.calls, shown)
 }

@@ -3,7 +3,7 @@
 ghost use Rattle.std.specs.Prelude.{◌≡◌, ◌↔◌, ◌<◌, ◌≤◌, ◌++◌, ◌+◌, ◌∷◌, [], IfErr, IfOk, IfSome, IsTrue, None, OnOk, length, replicate};
 ghost use Rattle.lu_history.specs.Parts.{as_serial};
 ghost use Rattle.lu_machine.specs.declared.TheConstants.{MOST_MOVES};
-ghost use Rattle.lu_run.specs.Finding.{Finds, HasEffect, IsAfterCall, IsAfterEffect, IsAfterReturn, IsAttempt, IsLaterPart, Opens, OpensOf};
+ghost use Rattle.lu_run.specs.Finding.{Finds, FindsAttempt, HasEffect, IsAfterCall, IsAfterEffect, IsAfterReturn, IsAlike, IsAttempt, IsLaterPart, Opens, OpensOf};
 ghost use Rattle.lu_run.specs.Following.{HasState};
 ghost use Rattle.lu_run.specs.Offending.{IsFollowFaultOf, LearnsBy};
 ghost use Rattle.lu_run.specs.Runs.{AreEventsOf};
@@ -22,17 +22,21 @@ use std::alloc::{AllocError, Global};
 
 /// A linearization of the first events of a run, as far as it matters for the events that come next.
 #[derive(Clone, Copy)]
-struct Attempt {
+pub(crate) struct Attempt {
     /// The number of these events.
-    events: usize,
+    pub(crate) events: usize,
 
     /// For each thread, its pending call.
-    pending: [Option<ThreadCall>; 8],
+    pub(crate) pending: [Option<ThreadCall>; 8],
 
     /// For each thread, what its pending call returns, if it returns.
-    returns: [Option<SerialOutcome>; 8],
+    pub(crate) returns: [Option<SerialOutcome>; 8],
 
-    configuration: Configuration,
+    pub(crate) configuration: Configuration,
+
+    /// The number of the last operation that took effect, from 1, in the order in which they were
+    /// noted; 0 if there is none, or if they are not noted.
+    last: u32,
 }
 
 /// What tells an attempt from others: two with the same are rarely worth going on from.
@@ -45,10 +49,25 @@ struct Seen {
     effects: u8,
 }
 
+/// An operation that took effect in an attempt.
+#[derive(Clone, Copy, Debug)]
+struct Noted {
+    /// The number of the operation that took effect before it; 0 if there is none.
+    before: u32,
+
+    thread: u8,
+}
+
 /// The attempts that were gone on from.
 #[derive(Drop)]
-struct Past {
+pub(crate) struct Past {
     seen: IndexSet<Seen>,
+
+    /// The operations that took effect in attempts.
+    noted: Vec<Noted>,
+
+    /// Whether they are noted.
+    notes: bool,
 
     /// The most events that an attempt had.
     furthest: usize,
@@ -67,7 +86,7 @@ const MOST_IDLE: u32 = 65_536;
 const MOST_FOR_EVENT: usize = 64;
 
 /// The attempt before any event.
-fn first_attempt() -> Attempt
+pub(crate) fn first_attempt() -> Attempt
     ensures events { result.events ≡ 0 }
     ensures state { result.configuration.state ≡ 0 }
     ensures pending { result.pending ≡ replicate 8 None }
@@ -81,12 +100,13 @@ fn first_attempt() -> Attempt
             state: 0,
             effects: [None; 8],
         },
+        last: 0,
     }
 }
 
 /// The attempt after one more call, with what it returns later. `next` is the number of the events
 /// with it.
-fn after_call(
+pub(crate) fn after_call(
     from: &Attempt,
     next: usize,
     call: ThreadCall,
@@ -104,7 +124,7 @@ fn after_call(
 }
 
 /// The attempt after the thread's operation returns. `next` is the number of the events with it.
-fn after_return(from: &Attempt, next: usize, thread: u8) -> Attempt
+pub(crate) fn after_return(from: &Attempt, next: usize, thread: u8) -> Attempt
     requires next { next ≡ from.now.events + 1 }
     requires thread { thread < 8 }
     ensures { IsAfterReturn from.now thread result }
@@ -135,7 +155,7 @@ fn with_effect(from: &Attempt, thread: usize, outcome: SerialOutcome, state: u32
 ///
 /// After some serial calls, a call takes more moves than the bound, or has two outcomes; or out of
 /// memory.
-fn take_effect(
+pub(crate) fn take_effect(
     runs: SerialRuns<'_>,
     table: &mut Table,
     from: &Attempt,
@@ -182,12 +202,35 @@ fn add(open: &mut Vec<Attempt>, attempt: Attempt) -> Result<(), AllocError>
     Ok(())
 }
 
+/// Notes that the thread's operation takes effect, after the operation with the number `before`.
+/// Returns its number; 0 if it is not noted.
+fn note(past: &mut Past, before: u32, thread: usize) -> Result<u32, AllocError> {
+    if !past.notes {
+        return Ok(0);
+    }
+    let (Ok(number), Ok(thread)) = (u32::try_from(past.noted.len()), u8::try_from(thread)) else {
+        return Err(AllocError);
+    };
+    past.noted.push(Noted { before, thread })?;
+    Ok(number.saturating_add(1))
+}
+
+/// The attempt with another last operation.
+fn with_last(attempt: &Attempt, last: u32) -> Attempt
+    ensures { IsAlike attempt.now result }
+{
+    let mut to = *attempt;
+    to.last = last;
+    to
+}
+
 /// Adds the attempt in which the thread's pending operation takes effect, if it can.
 fn open_effect(
     runs: SerialRuns<'_>,
     table: &mut Table,
     from: &Attempt,
     thread: usize,
+    past: &mut Past,
     open: &mut Vec<Attempt>,
 ) -> Result<(), FollowFault>
     requires table { IsTable runs.component.now runs.calls.now table.old }
@@ -201,7 +244,8 @@ fn open_effect(
     ensures offends { IfErr result (IsFollowFaultOf runs.entry table.old) }
 {
     if let Some(to) = take_effect(runs, table, from, thread)? {
-        add(open, to)?;
+        let last = note(past, from.last, thread)?;
+        add(open, with_last(&to, last))?;
     }
     Ok(())
 }
@@ -213,6 +257,7 @@ fn open_effects(
     table: &mut Table,
     from: &Attempt,
     last: usize,
+    past: &mut Past,
     open: &mut Vec<Attempt>,
 ) -> Result<(), FollowFault>
     requires table { IsTable runs.component.now runs.calls.now table.old }
@@ -227,15 +272,15 @@ fn open_effects(
 {
     for thread in 0..8 {
         if thread != last {
-            open_effect(runs, table, from, thread, open)?;
+            open_effect(runs, table, from, thread, past, open)?;
         }
     }
-    open_effect(runs, table, from, last, open)?;
+    open_effect(runs, table, from, last, past, open)?;
     Ok(())
 }
 
 /// Whether the operation took effect with this outcome.
-fn is_outcome(effect: SerialOutcome, outcome: Outcome) -> bool
+pub(crate) fn is_outcome(effect: SerialOutcome, outcome: Outcome) -> bool
     ensures { IsTrue result ↔ (effect ≡ as_serial outcome) }
 {
     effect == SerialOutcome::from(outcome)
@@ -249,6 +294,7 @@ fn go_on(
     table: &mut Table,
     events: &[RunEvent],
     from: &Attempt,
+    past: &mut Past,
     open: &mut Vec<Attempt>,
 ) -> Result<(), FollowFault>
     requires table { IsTable runs.component.now runs.calls.now table.old }
@@ -275,7 +321,7 @@ fn go_on(
         RunEvent::Return { thread, outcome } => {
             match from.configuration.effects[usize::from(thread)] {
                 None => {
-                    open_effects(runs, table, from, usize::from(thread), open)?;
+                    open_effects(runs, table, from, usize::from(thread), past, open)?;
                     Ok(())
                 }
                 Some(effect) => {
@@ -333,11 +379,62 @@ fn forget_earlier(alloc: Global, open: &mut Vec<Attempt>) -> Result<(), AllocErr
     Ok(())
 }
 
-/// Whether the events, all of a run, have a linearization. `false` says nothing: the search gives up
-/// after some time, and forgets what it has not gone on from where that is too much.
+/// Nothing that was gone on from yet. `notes` says whether operations are noted.
+fn no_past(alloc: Global, notes: bool) -> Past {
+    Past {
+        seen: IndexSet::new(alloc),
+        noted: Vec::new(alloc),
+        notes,
+        furthest: 0,
+        idle: 0,
+    }
+}
+
+/// The attempt at all events of a run, if one is found. None says nothing: the search gives up after
+/// some time, and forgets what it has not gone on from where that is too much.
 ///
 /// The search is that of Wing and Gong (1993) with the memo of Lowe (2017): a depth-first search, in
 /// which operations take effect where the next return needs it.
+fn search(
+    runs: SerialRuns<'_>,
+    table: &mut Table,
+    events: &[RunEvent],
+    past: &mut Past,
+) -> Result<Option<Attempt>, FollowFault>
+    requires table { IsTable runs.component.now runs.calls.now table.old }
+    requires start { HasState table.old 0 }
+    requires calls { AreCallsOf runs.component.now runs.calls.now }
+    requires events { AreEventsOf runs.calls.now events.now }
+    requires few { runs.bound ≤ MOST_MOVES }
+    ensures learns { OnOk result (LearnsBy runs.entry table.old table.new) }
+    ensures finds { FindsAttempt runs.entry table.old events.now result }
+    ensures offends { IfErr result (IsFollowFaultOf runs.entry table.old) }
+{
+    let mut open = Vec::new(runs.alloc);
+    add(&mut open, first_attempt())?;
+    let most = events
+        .len()
+        .saturating_mul(MOST_FOR_EVENT)
+        .saturating_add(MOST_KEPT);
+    for _attempt in 0..most {
+        let Some(attempt) = open.pop() else {
+            return Ok(None);
+        };
+        if attempt.events >= events.len() {
+            return Ok(Some(attempt));
+        }
+        if is_too_long(past, &attempt) {
+            return Ok(None);
+        }
+        if is_new(runs.alloc, past, &attempt)? {
+            go_on(runs, table, events, &attempt, past, &mut open)?;
+            forget_earlier(runs.alloc, &mut open)?;
+        }
+    }
+    Ok(None)
+}
+
+/// Whether the events, all of a run, have a linearization. `false` says nothing.
 ///
 /// # Errors
 ///
@@ -357,28 +454,53 @@ pub(crate) fn find_linearization(
     ensures finds { Finds runs.entry table.old events.now result }
     ensures offends { IfErr result (IsFollowFaultOf runs.entry table.old) }
 {
-    let mut open = Vec::new(runs.alloc);
-    add(&mut open, first_attempt())?;
-    let mut past = Past {
-        seen: IndexSet::new(runs.alloc),
-        furthest: 0,
-        idle: 0,
-    };
-    let most = events.len().saturating_mul(MOST_FOR_EVENT).saturating_add(MOST_KEPT);
-    for _attempt in 0..most {
-        let Some(attempt) = open.pop() else {
-            return Ok(false);
-        };
-        if attempt.events >= events.len() {
-            return Ok(true);
-        }
-        if is_too_long(&mut past, &attempt) {
-            return Ok(false);
-        }
-        if is_new(runs.alloc, &mut past, &attempt)? {
-            go_on(runs, table, events, &attempt, &mut open)?;
-            forget_earlier(runs.alloc, &mut open)?;
-        }
+    let mut past = no_past(runs.alloc, false);
+    match search(runs, table, events, &mut past)? {
+        None => Ok(false),
+        Some(_) => Ok(true),
     }
-    Ok(false)
+}
+
+/// The threads of the operations that took effect up to the one with this number, the last first.
+fn threads_back(alloc: Global, noted: &[Noted], last: u32) -> Result<Vec<u8>, AllocError> {
+    let mut threads = Vec::new(alloc);
+    let mut number = last as usize;
+    for _step in 0..noted.len() {
+        let Some(before) = number.checked_sub(1) else {
+            return Ok(threads);
+        };
+        let Some(one) = noted.get(before) else {
+            return Ok(threads);
+        };
+        threads.push(one.thread)?;
+        number = one.before as usize;
+    }
+    Ok(threads)
+}
+
+/// The threads of the operations in an order in which they may take effect, for which the events are
+/// linearizable, the last first. None if no such order is found.
+///
+/// # Errors
+///
+/// After some serial calls, a call takes more moves than the bound, or has two outcomes; or out of
+/// memory.
+pub(crate) fn find_threads(
+    runs: SerialRuns<'_>,
+    table: &mut Table,
+    events: &[RunEvent],
+) -> Result<Option<Vec<u8>>, FollowFault>
+    requires table { IsTable runs.component.now runs.calls.now table.old }
+    requires start { HasState table.old 0 }
+    requires calls { AreCallsOf runs.component.now runs.calls.now }
+    requires events { AreEventsOf runs.calls.now events.now }
+    requires few { runs.bound ≤ MOST_MOVES }
+    ensures learns { OnOk result (LearnsBy runs.entry table.old table.new) }
+    ensures offends { IfErr result (IsFollowFaultOf runs.entry table.old) }
+{
+    let mut past = no_past(runs.alloc, true);
+    match search(runs, table, events, &mut past)? {
+        None => Ok(None),
+        Some(attempt) => Ok(Some(threads_back(runs.alloc, &past.noted, attempt.last)?)),
+    }
 }

@@ -271,7 +271,7 @@ fn first_lost(
 }
 
 /// The thread of the event.
-fn thread_of(event: RunEvent) -> u8
+pub(crate) fn thread_of(event: RunEvent) -> u8
     ensures { result ≡ thread_of event }
 {
     match event {

@@ -7,8 +7,9 @@ ghost use Rattle.lu_run.specs.Bundled.{IsRunOf};
 ghost use Rattle.lu_run.specs.Verdicts as spec;
 ghost use Rattle.lu_run.specs.Verdicts.{IsReason, NamesEventOf, TellsFailing, failing_text};
 
-use crate::ending::{line_of, write_end};
+use crate::ending::{line_of, put_order, write_end};
 use crate::judging::{RunFailure, RunVerdict, judge_run};
+use crate::ordering::RunOperation;
 use crate::run::{Run, RunEvent};
 use crate::writing::{put_call, put_event_words, write_run};
 use lu_component::Component;
@@ -143,7 +144,8 @@ fn offence(alloc: Global, call: &str, thread: u8, bound: u16) -> Result<String, 
 }
 
 /// Why the run does not pass, as a line of text. It counts lines in the text that [`write_failing`]
-/// writes.
+/// writes. After it come the operations of `order`, if there are some: a linearization of the events
+/// that are shown, before the one after which there is none.
 ///
 /// # Errors
 ///
@@ -154,16 +156,19 @@ pub fn write_reason(
     run: &Run,
     bound: u16,
     verdict: RunVerdict,
+    order: &[RunOperation],
 ) -> Result<String, AllocError>
     requires { NamesEventOf run.now verdict }
     ensures { IfOk result
-        (λ t. IsReason component.now bound run.now verdict (string_bytes t)) }
+        (λ t. IsReason component.now bound run.now verdict order.now (string_bytes t)) }
 {
     match verdict {
         RunVerdict::Passes => Ok(String::new(alloc)),
         RunVerdict::FailsAt(RunFailure { event, expected }) => {
             let words = words_at(alloc, component, run, run.events.get(event).copied())?;
-            lost(alloc, line_of(run, event), words.as_str(), expected)
+            let mut text = lost(alloc, line_of(run, event), words.as_str(), expected)?;
+            put_order(&mut text, component, run, event, order)?;
+            Ok(text)
         }
         RunVerdict::CannotBeStuck(thread) => {
             let call = call_at(alloc, component, run, last_call(&run.events, thread))?;

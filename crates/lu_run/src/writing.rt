@@ -3,8 +3,9 @@
 ghost use Rattle.std.specs.Prelude.{◌≡◌, IfOk, string_bytes};
 ghost use Rattle.lu_text.specs.Writing.{Writes};
 ghost use Rattle.lu_run.specs.RunWriting as spec;
-ghost use Rattle.lu_run.specs.RunWriting.{event_text, event_words, events_text, numbered_call, run_text, stuck_text};
+ghost use Rattle.lu_run.specs.RunWriting.{event_text, event_words, events_text, numbered_call, operation_text, operations_text, run_text, stuck_text};
 
+use crate::ordering::RunOperation;
 use crate::run::{Run, RunEvent};
 use lu_component::{Component, Op};
 use lu_machine::Outcome;
@@ -80,6 +81,41 @@ pub(crate) fn put_events(
 {
     for event in events {
         put_event(text, operations, calls, *event)?;
+    }
+    Ok(())
+}
+
+/// Adds the line of an operation of a linearization.
+fn put_operation(
+    text: &mut String,
+    operations: &[Op],
+    calls: &[Call],
+    operation: RunOperation,
+) -> Result<(), AllocError>
+    ensures { Writes result text.old text.new
+        (operation_text operations.now calls.now operation) }
+{
+    let RunOperation {
+        thread,
+        call,
+        outcome,
+    } = operation;
+    write!(text, "  {thread} ")?;
+    put_call(text, operations, calls, call)?;
+    write!(text, " {outcome}\n")
+}
+
+/// Adds the lines of the operations of a linearization.
+pub(crate) fn put_operations(
+    text: &mut String,
+    operations: &[Op],
+    calls: &[Call],
+    order: &[RunOperation],
+) -> Result<(), AllocError>
+    ensures { Writes result text.old text.new (operations_text operations.now calls.now order.now) }
+{
+    for operation in order {
+        put_operation(text, operations, calls, *operation)?;
     }
     Ok(())
 }

@@ -1,6 +1,6 @@
 use Rattle.std.proofs.Common.{sym, subst, ◌++◌, ◌∷◌, []}
 use Rattle.lu_run.specs.Finding.{AreSound}
-use Rattle.lu_run.proofs.Found.{all_later, attempt_later, sound_effect, sound_later, sound_pushed}
+use Rattle.lu_run.proofs.Found.{all_later, sound_alike, sound_effect, sound_later, sound_pushed}
 use Rattle.lu_run.proofs.finding.open_effect.Goals as goal
 
 pub returns-in_ok-add-clause-opens : goal.returns-in_ok-add-clause-opens
@@ -14,8 +14,8 @@ returns-in_ok-add-clause-opens c = λ events first is all.
     let to = c.in-Some.to in
     let later = sound_later component calls events first old new learns.grows from is in
     subst (AreSound component calls events first new) (sym c.in_ok-add.ensures)
-    (sound_pushed component calls events first new c.args.open.now.items to (all_later component calls events first old new learns.grows c.args.open.now.items all)
-    (sound_effect component calls events first new from to later c.args.thread learns.right c.requires.thread (rw (c.in-Some.is) at c.in_ok-to.ensures.effect)))
+    (sound_pushed component calls events first new c.args.open.now.items c.with_last.result (all_later component calls events first old new learns.grows c.args.open.now.items all)
+    (sound_alike component calls events first new to c.with_last.result c.with_last.ensures (sound_effect component calls events first new from to later c.args.thread learns.right c.requires.thread (rw (c.in-Some.is) at c.in_ok-to.ensures.effect))))
 
 pub returns-in_default-clause-opens : goal.returns-in_default-clause-opens
 returns-in_default-clause-opens c = λ events first is all.

@@ -1,6 +1,6 @@
 use Rattle.lu_run.specs.Finding.{AreSound}
 use Rattle.lu_run.specs.Offending.{Learns}
-use Rattle.lu_run.proofs.finding.find_linearization.Given as goal
+use Rattle.lu_run.proofs.finding.search.Given as goal
 
 abbrev pub invariant-loop-attempt : goal.invariant-loop-attempt
 invariant-loop-attempt l = record {

@@ -5,8 +5,8 @@ use Rattle.lu_run.specs.Finding.{AreSound}
 use Rattle.lu_run.specs.Offending.{Learns}
 use Rattle.lu_run.proofs.Found.{sound_dropped, sound_first, sound_last, sound_last_event, sound_nothing, sound_pushed, sound_rest}
 use Rattle.lu_run.proofs.Learning.{fault_earlier, learns_none, learns_on}
-use Rattle.lu_run.proofs.finding.find_linearization.Goals as goal
-use Rattle.lu_run.proofs.finding.find_linearization.Goals.{then-branch+in_ok-go_on+in_ok-forget_earlier, else-branch}
+use Rattle.lu_run.proofs.finding.search.Goals as goal
+use Rattle.lu_run.proofs.finding.search.Goals.{then-branch+in_ok-go_on+in_ok-forget_earlier, else-branch}
 
 pub loop-attempt-init : goal.loop-attempt-init
 loop-attempt-init c =
