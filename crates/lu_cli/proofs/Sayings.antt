@@ -571,15 +571,15 @@ histories_else limits parts answer is =
     (λ p more. texts_else p.0 p.1 (λ c m. IsJudgedTexts c m limits p.2) answer
     (λ c m from. recorded_else m p.2 (IsJudgedSerially c m limits) answer (λ all last. judged_serially_else c m limits all answer last) from) more) is
 
-run_shown_else : (c : Component) (bound n : ℕ) (run : Run) (verdict : RunVerdict) (answer : Answer) → answer ≡ run_shown c bound n run verdict → IsElse answer
-run_shown_else c bound n run Passes answer is = status_else answer 1 (ap (λ (a : Answer). a.status) is) (λ e. omega arith)
-run_shown_else c bound n run (FailsAt i) answer is = status_else answer 1 (ap (λ (a : Answer). a.status) is) (λ e. omega arith)
-run_shown_else c bound n run (NotStuck t) answer is = status_else answer 1 (ap (λ (a : Answer). a.status) is) (λ e. omega arith)
-run_shown_else c bound n run (Offends t call) answer is = status_else answer 3 (ap (λ (a : Answer). a.status) is) (λ e. omega arith)
+run_shown_else : (c : Component) (n : ℕ) (run : Run) (verdict : RunVerdict) (reason : List ℕ) (answer : Answer) → answer ≡ run_shown c n run verdict reason → IsElse answer
+run_shown_else c n run Passes reason answer is = status_else answer 1 (ap (λ (a : Answer). a.status) is) (λ e. omega arith)
+run_shown_else c n run (FailsAt i) reason answer is = status_else answer 1 (ap (λ (a : Answer). a.status) is) (λ e. omega arith)
+run_shown_else c n run (NotStuck t) reason answer is = status_else answer 1 (ap (λ (a : Answer). a.status) is) (λ e. omega arith)
+run_shown_else c n run (Offends t call) reason answer is = status_else answer 3 (ap (λ (a : Answer). a.status) is) (λ e. omega arith)
 
 runs_judged_else : (c : Component) (m : Matrix) (limits : Bounds) (runs : List Run) (answer : Answer) → AreJudged c m limits runs answer → IsElse answer
 runs_judged_else c m limits runs answer (None, found, is) = status_else answer 0 (ap (λ (a : Answer). a.status) is) (λ e. omega arith)
-runs_judged_else c m limits runs answer (Some (n, verdict), found, is) = run_shown_else c limits.serial n is.0 verdict answer is.2
+runs_judged_else c m limits runs answer (Some (n, verdict), found, is) = run_shown_else c n is.0 verdict is.2 answer is.4
 
 runs_else : (c : Component) (m : Matrix) (limits : Bounds) (texts : List (List ℕ)) (answer : Answer) → AreJudgedTexts c m limits texts answer → IsElse answer
 runs_else c m limits texts answer (inl is) = runs_judged_else c m limits is.0 answer is.2

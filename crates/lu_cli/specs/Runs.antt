@@ -11,9 +11,11 @@ use Rattle.lu_machine.specs.Starts.{IsUnsettledAt, Settles}
 use Rattle.lu_report.specs.Limits.{Bounds}
 use Rattle.lu_run.specs.Beginnings.{is_run_text}
 use Rattle.lu_run.specs.Setups.{setup_grammar}
-use Rattle.lu_run.specs.Verdicts.{TellsFailing, failing_text, reason_text}
+use Rattle.lu_run.specs.Ordering.{HasOrder}
+use Rattle.lu_run.specs.Verdicts.{IsReason, TellsFailing, failing_text}
 use Rattle.lu_run.specs.declared.judging.RunVerdict.{RunVerdict}
 use Rattle.lu_run.specs.declared.judging.RunVerdict.TheVariants.{Offends}
+use Rattle.lu_run.specs.declared.ordering.RunOperation.{RunOperation}
 use Rattle.lu_run.specs.declared.run.Run.{Run}
 use Rattle.lu_cli.specs.declared.refusal.Refusal.{Refusal}
 use Rattle.lu_cli.specs.declared.texts.Fault.{Fault as TextsFault}
@@ -57,24 +59,31 @@ undecided n reason = record {
   status = 3;
 }
 
--- run n, which has this verdict, does not pass
-abbrev pub run_shown : AComponent → ℕ → ℕ → Run → RunVerdict → Answer
-run_shown c bound n run (Offends t call) =
-    undecided n (reason_text c bound run (Offends t call))
-run_shown c bound n run verdict =
-    unwitnessed n (failing_text c run verdict) (reason_text c bound run verdict)
+-- run n, which has this verdict, does not pass, for this reason
+abbrev pub run_shown : AComponent → ℕ → Run → RunVerdict → List ℕ → Answer
+run_shown c n run (Offends t call) reason = undecided n reason
+run_shown c n run verdict reason = unwitnessed n (failing_text c run verdict) reason
 
--- all runs pass; or the first that does not is shown
-abbrev pub TellsRuns : AComponent → ℕ → List Run → Option (ℕ × RunVerdict) → Answer → Type 0
-TellsRuns c bound runs None answer = answer ≡ all_witnessed (length runs)
-TellsRuns c bound runs (Some (n, verdict)) answer =
-    (run : Run) × (slice_get runs n ≡ Some run) × (answer ≡ run_shown c bound n run verdict)
+-- why the run does not pass; with the order of a linearization of the events before, if it is known
+abbrev pub IsReasonFor : AComponent → AMatrix → ℕ → Run → RunVerdict → List ℕ → Type 0
+IsReasonFor c m bound run verdict reason =
+    (order : List RunOperation) × HasOrder c m run verdict order
+    × IsReason c bound run verdict order reason
+
+-- all runs pass; or the first that does not is shown, with the reason
+abbrev pub TellsRuns : AComponent → AMatrix → ℕ → List Run → Option (ℕ × RunVerdict) → Answer
+    → Type 0
+TellsRuns c m bound runs None answer = answer ≡ all_witnessed (length runs)
+TellsRuns c m bound runs (Some (n, verdict)) answer =
+    (run : Run) × (slice_get runs n ≡ Some run)
+    × (reason : List ℕ) × IsReasonFor c m bound run verdict reason
+    × (answer ≡ run_shown c n run verdict reason)
 
 -- the runs, judged by the serial runs after the setup of the matrix
 abbrev pub AreJudged : AComponent → AMatrix → Bounds → List Run → Answer → Type 0
 AreJudged c m limits runs answer =
     (found : Option (ℕ × RunVerdict)) × TellsFailing c m limits.serial runs found
-    × TellsRuns c limits.serial runs found answer
+    × TellsRuns c m limits.serial runs found answer
 
 -- the runs are read, and then judged
 abbrev pub AreJudgedTexts : AComponent → AMatrix → Bounds → List Word → Answer → Type 0
@@ -113,10 +122,15 @@ IsFaultOfCase component setup fault =
     (c : AComponent) × (meaning_of component_grammar component ≡ Ok c)
     × IsFaultOfSetup c setup fault
 
-abbrev pub ShowsRun : {E : Type 0} → AComponent → ℕ → ℕ → Run → RunVerdict → Result Answer E
-    → Type 0
-ShowsRun c bound n run verdict result =
-    IfOk result (λ answer. answer ≡ run_shown c bound n run verdict)
+abbrev pub ShowsRun : {E : Type 0} → AComponent → ℕ → Run → RunVerdict → List ℕ
+    → Result Answer E → Type 0
+ShowsRun c n run verdict reason result =
+    IfOk result (λ answer. answer ≡ run_shown c n run verdict reason)
+
+-- the same, of a test
+abbrev pub HasReason : Test → ℕ → Run → RunVerdict → List ℕ → Type 0
+HasReason test bound run verdict reason =
+    IsReasonFor test.component.now test.matrix.now bound run verdict reason
 
 abbrev pub JudgesRuns : {E : Type 0} → Test → Bounds → List Run → Result Answer E → Type 0
 JudgesRuns test limits runs result =

@@ -1,14 +1,15 @@
 //! Whether runs pass.
 
-ghost use Rattle.std.specs.Prelude.{◌≡◌, ◌≢◌, All, IfErr, IfOk};
+ghost use Rattle.std.specs.Prelude.{◌≡◌, ◌≢◌, ◌≤◌, All, IfErr, IfOk, string_bytes};
 ghost use Rattle.lu_text.specs.Lines.{texts};
+ghost use Rattle.lu_machine.specs.declared.TheConstants.{MOST_MOVES};
 ghost use Rattle.lu_machine.specs.Starts.{CanRun};
 ghost use Rattle.lu_run.specs.Bundled.{IsRunOf};
 ghost use Rattle.lu_run.specs.Verdicts.{NamesEventOf};
 ghost use Rattle.lu_run.specs.declared.judging.RunVerdict.TheVariants.{Passes};
 ghost use Rattle.lu_cli.specs.Refusals.{Answered};
 ghost use Rattle.lu_cli.specs.Runs as spec;
-ghost use Rattle.lu_cli.specs.Runs.{AreSettledTexts, IsAnswerToRuns, IsFaultOfCase, IsFaultOfSetup, IsSettledSetup, JudgesRunTexts, JudgesRuns, ShowsRun};
+ghost use Rattle.lu_cli.specs.Runs.{AreSettledTexts, HasReason, IsAnswerToRuns, IsFaultOfCase, IsFaultOfSetup, IsSettledSetup, JudgesRunTexts, JudgesRuns, ShowsRun};
 ghost use Rattle.lu_cli.specs.Witness.{seen_as_three};
 
 use crate::answer::Answer;
@@ -19,7 +20,8 @@ use lu_lang::read_component;
 use lu_machine::Test;
 use lu_report::Bounds;
 use lu_run::{
-    Run, RunVerdict, first_failing, is_run_text, read_runs, read_setup, write_failing, write_reason,
+    Run, RunVerdict, find_order_before, first_failing, is_run_text, read_runs, read_setup,
+    write_failing, write_reason,
 };
 use lu_test::Matrix;
 use std::alloc::{AllocError, Global};
@@ -59,26 +61,42 @@ fn undecided(alloc: Global, number: usize, reason: &str) -> Result<Answer, Alloc
     Ok(Answer { text, status: 3 })
 }
 
-/// The run with this number, which does not pass.
+/// The run with this number, which does not pass, and why.
 fn show_run(
     alloc: Global,
     component: &Component,
-    bound: u16,
     number: usize,
     run: &Run,
     verdict: RunVerdict,
+    reason: &str,
 ) -> Result<Answer, AllocError>
     requires { NamesEventOf run.now verdict }
-    ensures { ShowsRun component.now bound number run.now verdict result }
+    ensures { ShowsRun component.now number run.now verdict reason.now result }
 {
-    let reason = write_reason(alloc, component, run, bound, verdict)?;
     match verdict {
-        RunVerdict::Offends { .. } => undecided(alloc, number, reason.as_str()),
+        RunVerdict::Offends { .. } => undecided(alloc, number, reason),
         _ => {
             let text = write_failing(alloc, component, run, verdict)?;
-            unwitnessed(alloc, number, text.as_str(), reason.as_str())
+            unwitnessed(alloc, number, text.as_str(), reason)
         }
     }
+}
+
+/// Why the run does not pass, with the order of a linearization of the events before, if one is found.
+fn reason_of(
+    alloc: Global,
+    test: Test<'_>,
+    bound: u16,
+    run: &Run,
+    verdict: RunVerdict,
+) -> Result<String, AllocError>
+    requires of { IsRunOf test.component.now run.now }
+    requires names { NamesEventOf run.now verdict }
+    requires few { bound ≤ MOST_MOVES }
+    ensures { IfOk result (λ t. HasReason test.entry bound run.now verdict (string_bytes t)) }
+{
+    let order = find_order_before(alloc, test.component, test.matrix, run, bound, verdict)?;
+    write_reason(alloc, test.component, run, bound, verdict, &order)
 }
 
 /// Runs, judged by the serial runs after the setup of the matrix.
@@ -94,14 +112,11 @@ fn judge_runs(
     let bound = bounds.serial();
     match first_failing(alloc, test.component, test.matrix, runs, bound)? {
         None => all_witnessed(alloc, runs.len()),
-        Some((number, verdict)) => show_run(
-            alloc,
-            test.component,
-            bound,
-            number,
-            &runs[number],
-            verdict,
-        ),
+        Some((number, verdict)) => {
+            let run = &runs[number];
+            let reason = reason_of(alloc, test, bound, run, verdict)?;
+            show_run(alloc, test.component, number, run, verdict, reason.as_str())
+        }
     }
 }
 

@@ -33,7 +33,7 @@ use Rattle.lu_run.specs.declared.table.Table.{Table}
 use Rattle.lu_run.specs.Asking.{rest_at}
 use Rattle.lu_run.specs.Finding.{HasEffect, IsAfterCall, IsAfterEffect, IsAfterReturn, IsAttempt, IsLinearized, IsSound}
 use Rattle.lu_run.specs.Following.{HasState}
-use Rattle.lu_run.specs.Judging.{InState, call_of}
+use Rattle.lu_run.specs.Judging.{InState, call_of, thread_of}
 use Rattle.lu_run.specs.Offending.{NextRest}
 use Rattle.lu_run.specs.Ordering.{FollowsTo, HaveCalls, IsNextEvent, IsOperationOf, IsOrder, IsReplay, IsReplayed, IsSeated, PlacesTo, StepsTo, entries_of, entry_of}
 use Rattle.lu_run.specs.Runs.{IsEventOf, IsRun, history_of, matrix_of}
@@ -49,6 +49,16 @@ use Rattle.lu_run.proofs.Simulated.{from_state, next_state}
 pub some_weaker : {A : Type 0} (o : Option A) (P Q : A → Type 0) → ((x : A) → P x → Q x) → IfSome o P → IfSome o Q
 some_weaker None P Q weaker is = tt
 some_weaker (Some x) P Q weaker is = weaker x is
+
+pub taken_at : (n : ℕ) (xs : List RunEvent) (i : ℕ) (e : RunEvent) → slice_get (take n xs) i ≡ Some e → slice_get xs i ≡ Some e
+taken_at zero xs i e at = absurd cc
+taken_at (suc n) [] i e at = absurd cc
+taken_at (suc n) (x ∷ xs) zero e at = at
+taken_at (suc n) (x ∷ xs) (suc i) e at = taken_at n xs i e at
+
+pub event_seat : (calls : List ACall) (e : RunEvent) → IsEventOf calls e → thread_of e < 8
+event_seat calls (Calls t n) is = is.0
+event_seat calls (Back t outcome) is = is
 
 same_call : (a b : ThreadCall) → a.thread ≡ b.thread → a.call ≡ b.call → a ≡ b
 same_call a b thread call =

@@ -1,6 +1,6 @@
 //! An order in which the operations of a run take effect.
 
-ghost use Rattle.std.specs.Prelude.{◌≡◌, ◌<◌, ◌≤◌, ◌++◌, ◌+◌, ◌∷◌, [], IfErr, IfOk, IfSome, IsTrue, OnOk, length};
+ghost use Rattle.std.specs.Prelude.{◌≡◌, ◌<◌, ◌≤◌, ◌++◌, ◌+◌, ◌∷◌, [], IfErr, IfOk, IfSome, IsTrue, OnOk, length, slice_get};
 ghost use Rattle.lu_machine.specs.declared.TheConstants.{MOST_MOVES};
 ghost use Rattle.lu_machine.specs.Starts.{CanRun};
 ghost use Rattle.lu_linearization.specs.Monitors.{by_thread};
@@ -298,6 +298,13 @@ pub(crate) fn find_order(
     Ok(Vec::new(runs.alloc))
 }
 
+/// The event with this number, if there is one.
+fn event_at(events: &[RunEvent], number: usize) -> Option<RunEvent>
+    ensures { result ≡ slice_get events.now number }
+{
+    events.get(number).copied()
+}
+
 /// For a run with this verdict that has no linearization after an event, an order in which the
 /// operations of the events before take effect: a linearization of these events, in which the event's
 /// operation has the outcome that is expected. Empty for a run with another verdict, and where none is
@@ -324,7 +331,7 @@ pub fn find_order_before(
     let RunVerdict::FailsAt(failure) = verdict else {
         return Ok(Vec::new(alloc));
     };
-    let Some(event) = run.events.get(failure.event) else {
+    let Some(event) = event_at(&run.events, failure.event) else {
         return Ok(Vec::new(alloc));
     };
     let start = start_of(alloc, component, matrix)?;
@@ -336,7 +343,7 @@ pub fn find_order_before(
         bound,
     };
     let before = &run.events[..failure.event];
-    match find_order(runs, &mut table, before, thread_of(*event), failure.expected) {
+    match find_order(runs, &mut table, before, thread_of(event), failure.expected) {
         Ok(order) => Ok(order),
         Err(FollowFault::Offends(_)) => Ok(Vec::new(alloc)),
         Err(FollowFault::Memory) => Err(AllocError),
