@@ -12,7 +12,12 @@ use Rattle.lu_run.specs.Beginnings.{is_run_text}
 use Rattle.lu_run.specs.Bundled.{IsFirstRefused}
 use Rattle.lu_run.specs.declared.bundled.RunPartFault.{RunPartFault}
 use Rattle.lu_run.specs.declared.fault.RunFaultKind.{RunFaultKind}
+use Rattle.lu_run.specs.declared.judging.RunVerdict.{RunVerdict}
+use Rattle.lu_run.specs.declared.judging.RunVerdict.TheVariants.{Passes, FailsAt, CannotBeStuck as NotStuck, Offends}
 use Rattle.lu_run.specs.declared.run.Run.{Run}
+use Rattle.lu_run.specs.Judging.{IsVerdict}
+use Rattle.lu_run.specs.Verdicts.{NamesEventOf}
+use Rattle.lu_machine.specs.States.{State}
 use Rattle.lu_cli.specs.declared.refusal.Refusal.{Refusal}
 use Rattle.lu_cli.specs.declared.texts.Fault.{Fault as TextsFault}
 use Rattle.lu_cli.specs.declared.texts.Fault.TheVariants as variant
@@ -76,3 +81,10 @@ no_runs [] d h isnt also = absurd (omega arith)
 no_runs (a ∷ []) d h isnt also = absurd (omega arith)
 no_runs (a ∷ b ∷ []) d h isnt also = absurd (omega arith)
 no_runs (a ∷ b ∷ c ∷ parts) d h isnt also = rw (isnt, also) refl
+
+-- the event of a verdict is one of the run
+pub names_event : (c : Component) (bound : ℕ) (s : State) (run : Run) (verdict : RunVerdict) → IsVerdict c bound s run verdict → NamesEventOf run verdict
+names_event c bound s run Passes is = tt
+names_event c bound s run (FailsAt failure) is = is.0.within
+names_event c bound s run (NotStuck t) is = tt
+names_event c bound s run (Offends t n) is = tt
