@@ -12,12 +12,12 @@ use Rattle.lu_serial.specs.Offences.{IsFirstConflict, IsFirstCut, IsSetOf}
 use Rattle.lu_serial_graph.specs.declared.learning.LearntGraph.{LearntGraph}
 use Rattle.lu_serial_graph.specs.Learning.{IsLearntGraph}
 use Rattle.lu_lint.specs.declared.remark.SerialHint.{SerialHint}
-use Rattle.lu_lint.specs.Runs.{CanPlay, HintsOfCut, ShownSerially, hints_if_few}
+use Rattle.lu_lint.specs.Runs.{CanPlay, HintsOfCut, ShownSerially, set_hints}
 
 pub learnt_so : {A : Type 0} (c : Component) (matrix : Matrix) (bound : ℕ) (x y : LearntGraph A) → FromEachStart c matrix (λ s. IsLearntGraph s bound x) → x ≡ y → FromEachStart c matrix (λ s. IsLearntGraph s bound y)
 learnt_so {A = A} c matrix bound x y all is = subst (λ (z : LearntGraph A). FromEachStart c matrix (λ s. IsLearntGraph s bound z)) is all
 
-pub shown_by_set : (c : Component) (matrix : Matrix) (bound : ℕ) (members : List (List SerialOp)) (hints : List SerialHint) → FromEachStart c matrix (λ s. IsSetOf s bound members) → IsStrictlySortedBy history_cmp members → hints ≡ hints_if_few members → FromEachStart c matrix (ShownSerially bound hints)
+pub shown_by_set : (c : Component) (matrix : Matrix) (bound : ℕ) (members : List (List SerialOp)) (hints : List SerialHint) → FromEachStart c matrix (λ s. IsSetOf s bound members) → IsStrictlySortedBy history_cmp members → hints ≡ set_hints members → FromEachStart c matrix (ShownSerially bound hints)
 shown_by_set c matrix bound members hints all sorted is = λ s start. inl (members, all s start, sorted, is)
 
 pub can_play : (c : Component) (matrix : Matrix) (bound : ℕ) (u : List Move) → FromEachStart c matrix (λ s. IsFirstCut s bound u) → FromEachStart c matrix (CanPlay u)

@@ -10,6 +10,7 @@ pub mod SettingUp
 pub mod Played
 pub mod LineNumbers
 pub mod LearntHints
+pub mod CountedSteps
 pub mod FaultsSaid
 pub mod Signed
 pub mod FurtherParts

@@ -9,6 +9,7 @@ pub mod Schedule
 pub mod Parts
 pub mod Further
 pub mod Warnings
+pub mod Steps
 pub mod Runs
 pub mod Bundle
 pub mod Reading

@@ -1,5 +1,5 @@
 -- Warnings by runs: what the setup's run and the serial runs show.
-use Rattle.std.specs.Prelude.{◌≡◌, ◌⊎◌, ℕ, ◌+◌, ◌-◌, ◌≤◌, Bool, true, false, List, [], ◌∷◌, ◌++◌, length, map, filter, replicate, Option, Some, None, IfSome, Result, IfOk, Vec, slice_get, codes, ◌==◌, ◌&&◌, if◌then◌else◌, nat_lt}
+use Rattle.std.specs.Prelude.{◌≡◌, ◌⊎◌, ℕ, ◌+◌, ◌-◌, ◌≤◌, Bool, true, false, List, [], ◌∷◌, ◌++◌, length, map, filter, replicate, Option, Some, None, IfSome, Result, IfOk, Vec, slice_get, codes, ◌==◌, ◌&&◌, if◌then◌else◌}
 use Rattle.std.specs.List.{flat_map, list_any}
 use Rattle.std.specs.List.Sorted.{IsStrictlySortedBy}
 use Rattle.std.specs.Option.{unwrap_or}
@@ -31,12 +31,13 @@ use Rattle.lu_lint.specs.declared.remark.Ending.{Ending}
 use Rattle.lu_lint.specs.declared.remark.Ending.TheVariants.{Trap as Trapped, Stuck as Blocked, Cut}
 use Rattle.lu_lint.specs.declared.remark.SerialHint.{SerialHint}
 use Rattle.lu_lint.specs.declared.remark.RunHint.{RunHint}
-use Rattle.lu_lint.specs.declared.remark.RunHint.TheVariants.{SetupGoesOn, SetupTraps, Serial}
+use Rattle.lu_lint.specs.declared.remark.RunHint.TheVariants.{SetupGoesOn, SetupTraps, Serial, TooManySteps}
 use Rattle.lu_lint.specs.declared.component.ReadComponent.{ReadComponent}
 use Rattle.lu_lint.specs.declared.component.ReadComponent.TheVariants.{Sound, Faulty}
-use Rattle.lu_lint.specs.declared.serial_runs.TheConstants.{MOST_HISTORIES}
+use Rattle.lu_lint.specs.declared.step_count.TheConstants.{MOST_STEPS}
 use Rattle.lu_lint.specs.declared.setup_run.TheConstants.{MOST_MOVES_OF_SETUP}
 use Rattle.lu_lint.specs.Said.{line_below}
+use Rattle.lu_lint.specs.Steps.{HasMoreSteps}
 
 -- ---- the setup
 
@@ -131,11 +132,6 @@ with_firsts found (hint ∷ hints) = with_firsts (with_hint found hint) hints
 abbrev pub set_hints : List (List SerialOp) → List SerialHint
 set_hints histories = with_firsts [] (flat_map history_hints histories)
 
--- the same where the histories are few enough to look at each
-abbrev pub hints_if_few : List (List SerialOp) → List SerialHint
-hints_if_few histories =
-    if nat_lt MOST_HISTORIES (length histories) then [] else set_hints histories
-
 -- these hints with those of the set's histories, each after the path
 abbrev pub with_set : List SerialHint → List SerialOp → List (List SerialOp) → List SerialHint
 with_set found path set = with_firsts found (flat_map (λ h. history_hints (path ++ h)) set)
@@ -167,11 +163,11 @@ HintsOfCut u hints s =
 
 -- ---- all serial runs
 
--- the histories of the serial runs are these, in order; where there are too many, nothing is said
+-- the histories of the serial runs are these, in order
 abbrev pub ShownBySet : State → ℕ → List SerialHint → Type 0
 ShownBySet s bound hints =
     (members : List (List SerialOp)) × IsSetOf s bound members
-    × IsStrictlySortedBy history_cmp members × (hints ≡ hints_if_few members)
+    × IsStrictlySortedBy history_cmp members × (hints ≡ set_hints members)
 
 -- the least serial offence is cut
 abbrev pub ShownByCut : State → ℕ → List SerialHint → Type 0
@@ -208,13 +204,24 @@ pub record AreShownHints (c : Component) (matrix : Matrix) (bound : ℕ) (hints 
   pub serially : FromEachStart c matrix (ShownSerially bound serial)
   pub all : hints ≡ first ++ map Serial serial
 
+-- the setup settles, and the serial runs have too many steps: the setup's run shows the first of
+-- these, and the last one says that the serial runs are not looked at
+pub record AreUnseenHints (c : Component) (matrix : Matrix) (bound : ℕ) (hints : List RunHint)
+    : Type 0 where
+  pub first : List RunHint
+  pub setup : ShownBySetup c matrix first
+  pub many : FromEachStart c matrix (HasMoreSteps bound MOST_STEPS)
+  pub all : hints ≡ first ++ TooManySteps ∷ []
+
 -- a call of the setup does not end
 abbrev pub IsSetupHint : Component → Matrix → List RunHint → Type 0
 IsSetupHint c matrix hints = (k : ℕ) × IsUnsettledAt c matrix k × (hints ≡ SetupGoesOn k ∷ [])
 
 -- what runs of a component and a matrix show
 abbrev pub Show : Component → Matrix → ℕ → List RunHint → Type 0
-Show c matrix bound hints = IsSetupHint c matrix hints ⊎ AreShownHints c matrix bound hints
+Show c matrix bound hints =
+    IsSetupHint c matrix hints ⊎ AreShownHints c matrix bound hints
+    ⊎ AreUnseenHints c matrix bound hints
 
 -- ---- lines
 
@@ -241,6 +248,7 @@ abbrev pub hint_line : List ℕ → List ℕ → RunHint → ℕ
 hint_line setup threads (SetupGoesOn k) = unwrap_or (slice_get setup 0) 0
 hint_line setup threads (SetupTraps k) = unwrap_or (slice_get setup 0) 0
 hint_line setup threads (Serial hint) = unwrap_or (slice_get threads hint.thread) 0
+hint_line setup threads TooManySteps = unwrap_or (slice_get threads 0) 0
 
 -- what is said of a hint of a matrix with these lines, before which this many of the bundle stand
 abbrev pub said_of_hint : ℕ → List ℕ → List ℕ → RunHint → Said

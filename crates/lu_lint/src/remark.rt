@@ -159,6 +159,9 @@ pub enum RunHint {
 
     /// A call traps, is stuck or is cut in a serial run, on its thread's line.
     Serial(SerialHint),
+
+    /// The serial runs have too many steps to look at them, on the first thread's line.
+    TooManySteps,
 }
 
 /// What a remark is about.

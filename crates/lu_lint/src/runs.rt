@@ -1,19 +1,20 @@
 //! Warnings by runs of the setup and by the serial runs.
 
-ghost use Rattle.std.specs.Prelude.{◌≡◌, ◌≤◌, IfOk, map};
+ghost use Rattle.std.specs.Prelude.{◌≡◌, ◌≤◌, ◌∷◌, [], IfOk, map};
 ghost use Rattle.lu_report.specs.Limits.{most_moves};
 ghost use Rattle.lu_test.specs.Matrix.{IsOf};
 ghost use Rattle.lu_text.specs.Results.{HasItems};
 ghost use Rattle.lu_lint.specs.Items.{Extends};
 ghost use Rattle.lu_lint.specs.Runs as spec;
 ghost use Rattle.lu_lint.specs.Runs.{AreTest, RunsSaid, Show};
-ghost use Rattle.lu_lint.specs.declared.remark.RunHint.TheVariants.{Serial};
+ghost use Rattle.lu_lint.specs.declared.remark.RunHint.TheVariants.{Serial, TooManySteps};
 ghost use Rattle.lu_lint.specs.Said.{SaysAlso, SaysSuch};
 
 use crate::component::ReadComponent;
 use crate::remark::{Cause, Remark, RunHint, Said, SerialHint, line_below, with_remark};
 use crate::serial_runs::serial_hints;
 use crate::setup_run::setup_hints;
+use crate::step_count::has_many_steps;
 use crate::words::Wording;
 use lu_component::Component;
 use lu_machine::{Test, settles};
@@ -31,8 +32,16 @@ fn all_hints(mut setup: Vec<RunHint>, serial: Vec<SerialHint>) -> Result<Vec<Run
     Ok(setup)
 }
 
+/// The hints of the setup, and then that the serial runs are not looked at.
+fn with_unseen(mut setup: Vec<RunHint>) -> Result<Vec<RunHint>, AllocError>
+    ensures { Extends result setup (TooManySteps ∷ []) }
+{
+    setup.push(RunHint::TooManySteps)?;
+    Ok(setup)
+}
+
 /// What runs of a component and a matrix show: that the setup does not settle; or else the setup's own
-/// run, and then the serial runs.
+/// run, and then the serial runs, or that these have too many steps.
 fn hints_of(
     alloc: Global,
     component: &Component,
@@ -49,6 +58,9 @@ fn hints_of(
     }
     let test = Test { component, matrix };
     let setup = setup_hints(alloc, test)?;
+    if has_many_steps(alloc, test, bound)? {
+        return with_unseen(setup);
+    }
     let serial = serial_hints(alloc, test, bound)?;
     all_hints(setup, serial)
 }
@@ -89,6 +101,7 @@ fn hint_line(setup: &[usize], threads: &[usize], hint: &RunHint) -> usize
     let line = match hint {
         RunHint::SetupGoesOn(_) | RunHint::SetupTraps(_) => setup.first(),
         RunHint::Serial(hint) => threads.get(usize::from(hint.thread)),
+        RunHint::TooManySteps => threads.first(),
     };
     line.copied().unwrap_or(0)
 }

@@ -10,7 +10,7 @@ ghost use Rattle.lu_serial.specs.Serial as serial;
 ghost use Rattle.lu_serial_graph.specs.Graphs.{members_of};
 ghost use Rattle.lu_text.specs.Results.{HasItems};
 ghost use Rattle.lu_lint.specs.Runs as spec;
-ghost use Rattle.lu_lint.specs.Runs.{CanPlay, HintsOfCut, ShownSerially, ShowsFromEachStart, ShowsHistory, history_hints, hints_if_few, with_firsts, with_set};
+ghost use Rattle.lu_lint.specs.Runs.{CanPlay, HintsOfCut, ShownSerially, ShowsFromEachStart, ShowsHistory, history_hints, with_firsts, with_set};
 
 use crate::remark::{Ending, Operations, SerialHint};
 use lu_history::{SerialOp, SerialOutcome};
@@ -19,9 +19,6 @@ use lu_serial_graph::{LearntGraph, SerialGraph, learn_graph};
 use lu_test::Schedule;
 use lu_trie::SerialTree;
 use std::alloc::{AllocError, Global};
-
-/// The greatest number of serial histories that are looked at, one by one.
-pub const MOST_HISTORIES: u64 = 1_000_000;
 
 /// The number of operations of this thread.
 pub fn operation_count(thread: u8, ops: &[SerialOp]) -> usize
@@ -124,14 +121,13 @@ fn with_below<T: SerialTree>(
     Ok(found)
 }
 
-/// What the histories of a set show: nothing where there are too many to look at each.
+/// What the histories of a set show.
 fn set_hints(alloc: Global, set: &SerialGraph<Global>) -> Result<Vec<SerialHint>, AllocError>
     ensures sorted { IsStrictlySortedBy history_cmp (members_of set.now) }
-    ensures hints { HasItems result (hints_if_few (members_of set.now)) }
+    ensures hints { HasItems result (spec.set_hints (members_of set.now)) }
 {
-    if set.member_count() > MOST_HISTORIES {
-        return Ok(Vec::new(alloc));
-    }
+    // For the proof: the count says that the members are in order.
+    let _count = set.member_count();
     let tree = &set;
     let root = tree.root();
     with_below(alloc, Vec::new(alloc), tree, root, &mut Vec::new(alloc))

@@ -11,6 +11,7 @@ ghost use Rattle.lu_refine.specs.ByThread.{CanAsk, IsMatrixAt, IsRolesFault, IsS
 ghost use Rattle.lu_test.specs.declared.matrix.TheConstants.{MOST_CALLS_OF_THREAD};
 
 use crate::arena::check_in_arena;
+use crate::campaign_progress::{CampaignProgress, Unshown};
 use crate::campaigns::{Campaign, CampaignFault};
 use crate::choice::{Positions, bases_of, fill, same_lists};
 use crate::roles::Roles;
@@ -150,7 +151,25 @@ pub fn campaign_by_thread(alloc: Global, roles: Roles<'_>) -> Result<Campaign, C
     ensures of { IfOk result (IsFoundOf roles.entry.component.now) }
     ensures fault { IfErr result (IsRolesFault roles.entry.candidates.now roles.entry.calls) }
 {
-    campaign_slice(alloc, roles, 0, u64::MAX)
+    campaign_by_thread_with_progress(alloc, &Unshown, roles)
+}
+
+/// The same as [`campaign_by_thread`], which tells `progress` meanwhile how far it has come.
+///
+/// # Errors
+///
+/// Those of [`campaign_by_thread`].
+pub fn campaign_by_thread_with_progress<P: CampaignProgress>(
+    alloc: Global,
+    progress: &P,
+    roles: Roles<'_>,
+) -> Result<Campaign, CampaignFault>
+    requires { CanAsk (asked_of roles) }
+    ensures answer { IfOk result (IsThreadsAnswer (asked_of roles.entry)) }
+    ensures of { IfOk result (IsFoundOf roles.entry.component.now) }
+    ensures fault { IfErr result (IsRolesFault roles.entry.candidates.now roles.entry.calls) }
+{
+    campaign_slice_with_progress(alloc, progress, roles, 0, u64::MAX)
 }
 
 /// Checks some of the matrices of [`campaign_by_thread`]: those with the numbers `from` to `to - 1`
@@ -173,11 +192,32 @@ pub fn campaign_slice(
     ensures of { IfOk result (IsFoundOf roles.entry.component.now) }
     ensures fault { IfErr result (IsRolesFault roles.entry.candidates.now roles.entry.calls) }
 {
+    campaign_slice_with_progress(alloc, &Unshown, roles, from, to)
+}
+
+/// The same as [`campaign_slice`], which tells `progress` meanwhile how far it has come.
+///
+/// # Errors
+///
+/// Those of [`campaign_by_thread`].
+pub fn campaign_slice_with_progress<P: CampaignProgress>(
+    alloc: Global,
+    progress: &P,
+    roles: Roles<'_>,
+    from: u64,
+    to: u64,
+) -> Result<Campaign, CampaignFault>
+    requires { CanAsk (asked_of roles) }
+    ensures answer { IfOk result (IsSliceAnswer (asked_of roles.entry) from to) }
+    ensures of { IfOk result (IsFoundOf roles.entry.component.now) }
+    ensures fault { IfErr result (IsRolesFault roles.entry.candidates.now roles.entry.calls) }
+{
     let component = roles.component;
     let positions = positions_of(alloc, roles.candidates, roles.calls)?;
     let bases = positions.as_slice();
     let end = to.min(count_choices(bases));
     let start = from.min(end);
+    progress.begin(end - start);
     for number in start..end {
         let choice = choice_at(bases, number);
         let matrix = fill(alloc, roles, choice.as_slice())?;
@@ -185,6 +225,7 @@ pub fn campaign_slice(
         if !report.is_pass() {
             return Ok(Campaign::First { matrix, report });
         }
+        progress.next();
     }
     Ok(Campaign::AllPass(end - start))
 }

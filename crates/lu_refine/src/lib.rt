@@ -14,6 +14,7 @@
 #![tactic(auto)]
 
 mod arena;
+mod campaign_progress;
 mod campaigning;
 mod campaigns;
 mod choice;
@@ -22,7 +23,11 @@ mod roles;
 mod shrink_fault;
 mod shrinking;
 
-pub use campaigning::{campaign, campaign_by_thread, campaign_slice, count_matrices, matrix_at};
+pub use campaign_progress::{CampaignProgress, Unshown};
+pub use campaigning::{
+    campaign, campaign_by_thread, campaign_by_thread_with_progress, campaign_slice,
+    campaign_slice_with_progress, count_matrices, matrix_at,
+};
 pub use campaigns::{Campaign, CampaignFault};
 pub use choice::same_lists;
 pub use lu_refute::{RefuteFault, refute};

@@ -9,7 +9,7 @@ ghost use Rattle.lu_survey.specs.Surveys.{IsCertifiedAt, IsShownOf};
 use crate::certified_campaign::CertifiedCampaign;
 use crate::survey::CertifiedMatrix;
 use lu_certify::{Certificate, Limits, certify};
-use lu_refine::{CampaignFault, Roles, count_matrices, matrix_at};
+use lu_refine::{CampaignFault, CampaignProgress, Roles, Unshown, count_matrices, matrix_at};
 use std::alloc::{AllocError, Global};
 
 /// Whether it certifies that the component is linearizable.
@@ -74,9 +74,31 @@ pub fn certify_slice(
     ensures of { IfOk result (IsCertifiedOf roles.entry.component.now) }
     ensures fault { IfErr result (IsRolesFault roles.entry.candidates.now roles.entry.calls) }
 {
+    certify_slice_with_progress(alloc, &Unshown, roles, nodes, from, to)
+}
+
+/// The same as [`certify_slice`], which tells `progress` meanwhile how far it has come.
+///
+/// # Errors
+///
+/// Those of [`campaign_by_thread`](lu_refine::campaign_by_thread).
+pub fn certify_slice_with_progress<P: CampaignProgress>(
+    alloc: Global,
+    progress: &P,
+    roles: Roles<'_>,
+    nodes: u32,
+    from: u64,
+    to: u64,
+) -> Result<CertifiedCampaign, CampaignFault>
+    requires { CanAsk (asked_of roles) }
+    ensures answer { IfOk result (IsCertifiedAnswer (asked_of roles.entry) nodes from to) }
+    ensures of { IfOk result (IsCertifiedOf roles.entry.component.now) }
+    ensures fault { IfErr result (IsRolesFault roles.entry.candidates.now roles.entry.calls) }
+{
     let count = count_matrices(alloc, roles.candidates, roles.calls)?;
     let end = to.min(count);
     let start = from.min(end);
+    progress.begin(end - start);
     for number in start..end {
         let one = certified_at(alloc, roles, nodes, number)?;
         if !says_linearizable(&one.certificate) {
@@ -89,6 +111,7 @@ pub fn certify_slice(
                 certificate,
             });
         }
+        progress.next();
     }
     Ok(CertifiedCampaign::AllLinearizable(end - start))
 }

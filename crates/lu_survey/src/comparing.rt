@@ -12,7 +12,7 @@ use crate::comparison::{Comparison, Difference};
 use crate::serially::first_other_run;
 use lu_component::Component;
 use lu_parallel::check_one_against;
-use lu_refine::{CampaignFault, Roles, count_matrices, matrix_at};
+use lu_refine::{CampaignFault, CampaignProgress, Roles, Unshown, count_matrices, matrix_at};
 use lu_report::{Finding, Report};
 use lu_serial_graph::{LearntGraph, SerialGraph, learn_graph};
 use lu_test::Matrix;
@@ -104,9 +104,32 @@ pub fn compare_slice(
     ensures of { IfOk result (IsComparedOf roles.entry.component.now) }
     ensures fault { IfErr result (IsRolesFault roles.entry.candidates.now roles.entry.calls) }
 {
+    compare_slice_with_progress(alloc, &Unshown, roles, trusted, from, to)
+}
+
+/// The same as [`compare_slice`], which tells `progress` meanwhile how far it has come.
+///
+/// # Errors
+///
+/// Those of [`campaign_by_thread`](lu_refine::campaign_by_thread).
+pub fn compare_slice_with_progress<P: CampaignProgress>(
+    alloc: Global,
+    progress: &P,
+    roles: Roles<'_>,
+    trusted: &Component,
+    from: u64,
+    to: u64,
+) -> Result<Comparison, CampaignFault>
+    requires { CanCompare (asked_of roles) trusted.now }
+    ensures answer { IfOk result
+        (IsCompared trusted.entry.now (asked_of roles.entry) from to) }
+    ensures of { IfOk result (IsComparedOf roles.entry.component.now) }
+    ensures fault { IfErr result (IsRolesFault roles.entry.candidates.now roles.entry.calls) }
+{
     let count = count_matrices(alloc, roles.candidates, roles.calls)?;
     let end = to.min(count);
     let start = from.min(end);
+    progress.begin(end - start);
     let component = roles.component;
     for number in start..end {
         let matrix = matrix_at(alloc, roles, number)?;
@@ -118,7 +141,7 @@ pub fn compare_slice(
             roles.bound,
             roles.serial,
         )? {
-            None => {}
+            None => progress.next(),
             Some(difference) => return Ok(Comparison::First { matrix, difference }),
         }
     }

@@ -26,9 +26,9 @@ mod survey;
 mod surveying;
 
 pub use certified_campaign::CertifiedCampaign;
-pub use certifying::certify_slice;
-pub use comparing::compare_slice;
+pub use certifying::{certify_slice, certify_slice_with_progress};
+pub use comparing::{compare_slice, compare_slice_with_progress};
 pub use comparison::{Comparison, Difference};
 pub use operations::have_same_operations;
 pub use survey::{CertifiedMatrix, Survey, Tally};
-pub use surveying::survey_slice;
+pub use surveying::{survey_slice, survey_slice_with_progress};

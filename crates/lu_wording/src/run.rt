@@ -1,7 +1,7 @@
 //! The words of a warning by runs.
 
 use lu_history::SerialOp;
-use lu_lint::{Ending, MatrixRuns, RunHint, SerialHint, operation_count};
+use lu_lint::{Ending, MOST_STEPS, MatrixRuns, RunHint, SerialHint, operation_count};
 use lu_test::Call;
 use std::alloc::{AllocError, Global};
 use std::fmt::Write;
@@ -105,5 +105,10 @@ pub(crate) fn run_wording(
         }
         RunHint::SetupTraps(call) => setup_wording(alloc, runs, *call, ", traps"),
         RunHint::Serial(hint) => serial_wording(alloc, runs, hint),
+        RunHint::TooManySteps => too_many_steps_wording(alloc),
     }
+}
+
+fn too_many_steps_wording(alloc: Global) -> Result<String, AllocError> {
+    format!(in alloc; "the serial runs are not checked: they have more than {MOST_STEPS} steps")
 }

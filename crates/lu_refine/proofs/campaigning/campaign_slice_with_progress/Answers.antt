@@ -9,18 +9,18 @@ use Rattle.lu_refine.specs.Roles.{AreWithinLimits, bases, rows_matrix}
 use Rattle.lu_refine.specs.ByThread.{IsRoleChoice, IsRoleReport, asked_of, matrix_count, choice_number, role_matrix}
 use Rattle.lu_refine.proofs.Filling.{positions, rows_of, rows_run}
 use Rattle.lu_refine.proofs.Passing.{first_found, passes_more, slice_passes}
-use Rattle.lu_refine.proofs.campaigning.campaign_slice.Goals as goal
+use Rattle.lu_refine.proofs.campaigning.campaign_slice_with_progress.Goals as goal
 
 pub count_choices-requires : goal.count_choices-requires
-count_choices-requires c =
+count_choices-requires g c =
     subst AreBases (sym (c.as_slice-bases.ensures ∙ c.in_ok-positions.ensures.positions)) (positions c.args.roles.calls c.args.roles.candidates.now (c.in_ok-positions.ensures.within refl))
 
 pub choice_at-choice-requires-clause-bases : goal.choice_at-choice-requires-clause-bases
-choice_at-choice-requires-clause-bases c =
+choice_at-choice-requires-clause-bases g c =
     subst AreBases (sym (c.as_slice-bases.ensures ∙ c.in_ok-positions.ensures.positions)) (positions c.args.roles.calls c.args.roles.candidates.now (c.in_ok-positions.ensures.within refl))
 
 pub check_in_arena-requires-clause-of : goal.check_in_arena-requires-clause-of
-check_in_arena-requires-clause-of c =
+check_in_arena-requires-clause-of g c =
     let found : c.as_slice-bases.result.now ≡ bases c.args.roles.calls c.args.roles.candidates.now = c.as_slice-bases.ensures ∙ c.in_ok-positions.ensures.positions in
     let choice = c.choice_at-choice.result.items in
     let chosen : IsChoiceIn (bases c.args.roles.calls c.args.roles.candidates.now) choice = subst (λ (bs : List ℕ). IsChoiceIn bs choice) found c.choice_at-choice.ensures.choice in
@@ -28,7 +28,7 @@ check_in_arena-requires-clause-of c =
     subst (CanRun c.args.roles.component.now) (sym same) (rows_run c.args.roles.component.now c.args.roles.setup.now c.args.roles.calls c.args.roles.candidates.now choice c.requires.setup_of c.requires.settles c.requires.of chosen)
 
 pub returns-then-not-is_pass-clause-answer : goal.returns-then-not-is_pass-clause-answer
-returns-then-not-is_pass-clause-answer c =
+returns-then-not-is_pass-clause-answer g c =
     let asked = asked_of c.args.roles in
     let limits : AreWithinLimits c.args.roles.calls c.args.roles.candidates.now = c.in_ok-positions.ensures.within refl in
     let found : c.as_slice-bases.result.now ≡ bases c.args.roles.calls c.args.roles.candidates.now = c.as_slice-bases.ensures ∙ c.in_ok-positions.ensures.positions in
@@ -45,7 +45,7 @@ returns-then-not-is_pass-clause-answer c =
     )
 
 pub returns-then-not-is_pass-clause-of : goal.returns-then-not-is_pass-clause-of
-returns-then-not-is_pass-clause-of c =
+returns-then-not-is_pass-clause-of g c =
     let found : c.as_slice-bases.result.now ≡ bases c.args.roles.calls c.args.roles.candidates.now = c.as_slice-bases.ensures ∙ c.in_ok-positions.ensures.positions in
     let choice = c.choice_at-choice.result.items in
     let chosen : IsChoiceIn (bases c.args.roles.calls c.args.roles.candidates.now) choice = subst (λ (bs : List ℕ). IsChoiceIn bs choice) found c.choice_at-choice.ensures.choice in
@@ -53,7 +53,7 @@ returns-then-not-is_pass-clause-of c =
     subst (λ (m : Matrix). IsOf m c.args.roles.component.now) (sym same) (rows_of c.args.roles.component.now c.args.roles.setup.now c.args.roles.calls c.args.roles.candidates.now choice c.requires.setup_of c.requires.of chosen)
 
 pub loop-number-preserved : goal.loop-number-preserved
-loop-number-preserved c =
+loop-number-preserved g c =
     let asked = asked_of c.args.roles in
     let found : c.as_slice-bases.result.now ≡ bases c.args.roles.calls c.args.roles.candidates.now = c.as_slice-bases.ensures ∙ c.in_ok-positions.ensures.positions in
     let choice = c.choice_at-choice.result.items in
@@ -65,7 +65,7 @@ loop-number-preserved c =
     passes_more asked c.min-start.result c.loop-number.number choice c.in_ok-report.report c.loop-number.invariant chosen number report passes
 
 pub returns-clause-answer : goal.returns-clause-answer
-returns-clause-answer c =
+returns-clause-answer g c =
     let asked = asked_of c.args.roles in
     let limits : AreWithinLimits c.args.roles.calls c.args.roles.candidates.now = c.in_ok-positions.ensures.within refl in
     let found : c.as_slice-bases.result.now ≡ bases c.args.roles.calls c.args.roles.candidates.now = c.as_slice-bases.ensures ∙ c.in_ok-positions.ensures.positions in

@@ -3,25 +3,25 @@ use Rattle.std.specs.Prelude.{min}
 use Rattle.lu_refine.specs.ByThread.{asked_of, matrix_count}
 use Rattle.lu_survey.specs.Surveys.{AreShownOf}
 use Rattle.lu_survey.proofs.InSurveys.{IsSurveyedTo, has_room, none_shown, shown_more, surveyed_all, surveyed_more, surveyed_none}
-use Rattle.lu_survey.proofs.surveying.survey_slice.Goals as goal
+use Rattle.lu_survey.proofs.surveying.survey_slice_with_progress.Goals as goal
 
 pub certified_at-requires-clause-limits : goal.certified_at-requires-clause-limits
-certified_at-requires-clause-limits c = c.in_ok-count.ensures.within refl
+certified_at-requires-clause-limits g c = c.in_ok-count.ensures.within refl
 
 pub certified_at-requires-clause-number : goal.certified_at-requires-clause-number
-certified_at-requires-clause-number c = omega (arith, c.min-end.ensures, c.in_ok-count.ensures.count)
+certified_at-requires-clause-number g c = omega (arith, c.min-end.ensures, c.in_ok-count.ensures.count)
 
 pub loop-number-init : goal.loop-number-init
-loop-number-init c = record {
+loop-number-init g c = record {
   surveyed = surveyed_none (asked_of c.args.roles) c.args.nodes c.min-start.result c.none-survey.result c.none-survey.ensures;
   shown = none_shown c.args.roles.component.now c.none-survey.result c.none-survey.ensures;
 }
 
 pub with-survey-requires : goal.with-survey-requires
-with-survey-requires c = has_room (asked_of c.args.roles) c.args.nodes c.min-start.result c.loop-number.number c.loop-number.survey (omega arith) c.loop-number.invariant.surveyed
+with-survey-requires g c = has_room (asked_of c.args.roles) c.args.nodes c.min-start.result c.loop-number.number c.loop-number.survey (omega arith) c.loop-number.invariant.surveyed
 
 pub loop-number-preserved : goal.loop-number-preserved
-loop-number-preserved c =
+loop-number-preserved g c =
     let asked = asked_of c.args.roles in
     let one = c.in_ok-one.one in
     record {
@@ -32,7 +32,7 @@ loop-number-preserved c =
     }
 
 pub returns-clause-answer : goal.returns-clause-answer
-returns-clause-answer c =
+returns-clause-answer g c =
     let asked = asked_of c.args.roles in
     let end : c.min-end.result ≡ min c.args.to (matrix_count asked) = c.min-end.ensures ∙ ap (min c.args.to) c.in_ok-count.ensures.count in (
       c.in_ok-count.ensures.within refl,
@@ -40,4 +40,4 @@ returns-clause-answer c =
     )
 
 pub returns-clause-of : goal.returns-clause-of
-returns-clause-of c = c.loop-number.invariant.shown
+returns-clause-of g c = c.loop-number.invariant.shown

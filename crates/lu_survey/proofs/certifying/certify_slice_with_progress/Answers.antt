@@ -4,16 +4,16 @@ use Rattle.lu_refine.specs.ByThread.{asked_of, matrix_count}
 use Rattle.lu_survey.specs.Certified.{IsCertified, IsCertifiedOther, SaysLinearizable}
 use Rattle.lu_survey.proofs.InSlices.{other_here, so_all, so_more}
 use Rattle.lu_survey.proofs.InSurveys.{matrix_there}
-use Rattle.lu_survey.proofs.certifying.certify_slice.Goals as goal
+use Rattle.lu_survey.proofs.certifying.certify_slice_with_progress.Goals as goal
 
 pub certified_at-requires-clause-limits : goal.certified_at-requires-clause-limits
-certified_at-requires-clause-limits c = c.in_ok-count.ensures.within refl
+certified_at-requires-clause-limits g c = c.in_ok-count.ensures.within refl
 
 pub certified_at-requires-clause-number : goal.certified_at-requires-clause-number
-certified_at-requires-clause-number c = omega (arith, c.min-end.ensures, c.in_ok-count.ensures.count)
+certified_at-requires-clause-number g c = omega (arith, c.min-end.ensures, c.in_ok-count.ensures.count)
 
 pub returns-then-not-says_linearizable-clause-answer : goal.returns-then-not-says_linearizable-clause-answer
-returns-then-not-says_linearizable-clause-answer c =
+returns-then-not-says_linearizable-clause-answer g c =
     let asked = asked_of c.args.roles in
     let one = c.in_ok-one.one in
     let end : c.min-end.result ≡ min c.args.to (matrix_count asked) = c.min-end.ensures ∙ ap (min c.args.to) c.in_ok-count.ensures.count in
@@ -24,10 +24,10 @@ returns-then-not-says_linearizable-clause-answer c =
     )
 
 pub returns-then-not-says_linearizable-clause-of : goal.returns-then-not-says_linearizable-clause-of
-returns-then-not-says_linearizable-clause-of c = c.in_ok-one.ensures.shown
+returns-then-not-says_linearizable-clause-of g c = c.in_ok-one.ensures.shown
 
 pub loop-number-preserved : goal.loop-number-preserved
-loop-number-preserved c =
+loop-number-preserved g c =
     let asked = asked_of c.args.roles in
     let one = c.in_ok-one.one in
     let says : SaysLinearizable one.certificate = search rules in
@@ -35,7 +35,7 @@ loop-number-preserved c =
     (matrix_there asked c.args.nodes c.loop-number.number one c.in_ok-one.ensures.certified) c.loop-number.invariant (one.certificate, c.in_ok-one.ensures.certified.certified, says)
 
 pub returns-clause-answer : goal.returns-clause-answer
-returns-clause-answer c =
+returns-clause-answer g c =
     let asked = asked_of c.args.roles in
     let end : c.min-end.result ≡ min c.args.to (matrix_count asked) = c.min-end.ensures ∙ ap (min c.args.to) c.in_ok-count.ensures.count in
     (c.in_ok-count.ensures.within refl, so_all asked (IsCertified asked c.args.nodes) c.args.from c.args.to c.min-start.result c.min-end.result c.loop-number.number end c.min-start.ensures (omega arith) c.loop-number.invariant)
