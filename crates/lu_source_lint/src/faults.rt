@@ -1,6 +1,6 @@
 //! Every fault of a source.
 
-ghost use Rattle.std.specs.Prelude.{◌≡◌, IfOk, OnOk, codes};
+ghost use Rattle.std.specs.Prelude.{◌≡◌, IfOk, OnOk};
 ghost use Rattle.lu_text.specs.Lines.{lines_of, texts};
 ghost use Rattle.lu_text.specs.Faults.{meaning_of};
 ghost use Rattle.lu_text.specs.Results.{HasItems};
@@ -8,7 +8,7 @@ ghost use Rattle.lu_source_text.specs.Grammar.{source_grammar};
 ghost use Rattle.lu_source_lint.specs.Faults as spec;
 ghost use Rattle.lu_source_lint.specs.Faults.{AgreeOn, bytes_of, faults_in, faults_of_lines};
 
-use crate::meaning::{meant_line, meant_outside, opens, word_is};
+use crate::meaning::{is_dashes, meant_line, meant_outside, opens, word_is};
 use crate::message::{SourceMessage, What};
 use lu_source_text::{SourceFaultKind, read_source_lines, source_words};
 use lu_text::{Fault, lines_of};
@@ -184,6 +184,7 @@ fn ends_all(kind: SourceFaultKind, words: &[&[u8]]) -> bool
 {
     match kind {
         SourceFaultKind::Limit => word_is(words, 0, b"}"),
+        SourceFaultKind::Form => is_dashes(words),
         SourceFaultKind::Missing => is_declaration(words),
         _ => false,
     }
@@ -202,8 +203,8 @@ fn is_formless_at(line: usize, fault: Option<LineFault>) -> bool
 /// Whether the line has no form of a source where an operation without arguments is put in its
 /// place.
 fn refuses_operation(alloc: Global, lines: &mut [Vec<u8>], line: usize) -> Result<bool, AllocError>
-    ensures { IfOk result (λ refuses. refuses ≡ spec.is_formless
-        (spec.with_line (bytes_of lines.old) line (codes "op unnamed() {")) line) }
+    ensures { IfOk result
+        (λ refuses. refuses ≡ spec.refuses_operation (bytes_of lines.old) line) }
 {
     let text = Vec::from_slice(alloc, b"op unnamed() {".as_slice())?;
     set_line(lines, line, text);
@@ -218,8 +219,7 @@ fn is_inner_operation(
     line: usize,
     words: &[&[u8]],
 ) -> Result<bool, AllocError>
-    ensures { IfOk result (λ inner. inner
-        ≡ spec.is_inner_operation (bytes_of lines.now) line (texts words.now)) }
+    ensures { IfOk result (λ inner. inner ≡ spec.inner_at lines.now line words.now) }
 {
     if !word_is(words, 0, b"op") {
         return Ok(false);
@@ -235,8 +235,7 @@ fn is_unreachable_block(
     fault: LineFault,
     words: &[&[u8]],
 ) -> Result<bool, AllocError>
-    ensures { IfOk result (λ is. is
-        ≡ spec.is_unreachable_block (bytes_of lines.now) fault (texts words.now)) }
+    ensures { IfOk result (λ is. is ≡ spec.unreachable_at lines.now fault words.now) }
 {
     if !matches!(fault.kind, SourceFaultKind::Flow) || !opens(words) {
         return Ok(false);

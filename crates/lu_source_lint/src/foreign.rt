@@ -18,14 +18,8 @@ const FOREIGN: [(&str, &str); 39] = [
     ),
     ("%", "there is no `%` operator; help: subtract in a loop"),
     ("/", "there is no `/` operator; help: subtract in a loop"),
-    (
-        "&",
-        "there is no `&` operator; help: write `&&` for a logical and",
-    ),
-    (
-        "|",
-        "there is no `|` operator; help: write `||` for a logical or",
-    ),
+    ("&", "there is no `&` operator"),
+    ("|", "there is no `|` operator"),
     (
         "^",
         "there is no `^` operator; help: write `!=` to compare two values",
