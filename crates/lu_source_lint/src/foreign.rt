@@ -130,13 +130,18 @@ const FOREIGN: [(&str, &str); 39] = [
 ];
 
 /// Two signs of other languages, side by side.
-const FOREIGN_PAIRS: [(&str, &str, &str); 11] = [
+const FOREIGN_PAIRS: [(&str, &str, &str); 12] = [
     ("/", "/", "unexpected `//`; help: a comment begins with `#`"),
     ("/", "*", "unexpected `/*`; help: a comment begins with `#`"),
     (
         "-",
         ">",
         "unexpected `->`; help: leave types out, since every value is a number from 0 to 4294967295",
+    ),
+    (
+        ":",
+        "=",
+        "there is no `:=` operator; help: write `NAME = EXPR`, or `let NAME = EXPR` for a new local",
     ),
     (
         "=",

@@ -279,8 +279,8 @@ fn after_declaration<'a>(
         return None;
     }
     match words {
-        [_, _, comma, ..] if *comma == b",".as_slice() => Some((
-            *comma,
+        [_, _, next, ..] if *next == b",".as_slice() || is_free_name(next) => Some((
+            *next,
             "declare each name on a line of its own",
         )),
         [_, _, sign, value, next, ..] if *sign == b"=".as_slice() && is_constant(scope, value) => {

@@ -62,7 +62,7 @@ fn has_jump(words: &[&[u8]]) -> bool
 }
 
 /// Whether a line is an `if` or a `while` with what it does, and without braces.
-fn is_inline(words: &[&[u8]]) -> bool
+pub(crate) fn is_inline(words: &[&[u8]]) -> bool
     ensures { result ≡ spec.is_inline (texts words.now) }
 {
     (word_is(words, 0, b"if") || word_is(words, 0, b"while")) && has_jump(words) && !opens(words)

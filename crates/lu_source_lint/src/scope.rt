@@ -1,6 +1,6 @@
 //! What the names of a source are, for its messages.
 
-use crate::meaning::{opens, word_is};
+use crate::meaning::{is_inline, opens, word_is};
 use crate::spelling::is_near;
 use indexmap::IndexMap;
 use lu_source_text::{is_free_name, source_words};
@@ -138,9 +138,10 @@ fn kind_of(words: &[&[u8]]) -> Option<Declared> {
 }
 
 /// Whether a line begins a block, also where its `{` is missing; a `{` alone belongs to the line
-/// above.
+/// above. An `if` that has no braces begins none.
 fn begins_block(words: &[&[u8]]) -> bool {
-    if word_is(words, 0, b"{") || words.last().is_some_and(|word| *word == b"}".as_slice()) {
+    let is_whole = words.last().is_some_and(|word| *word == b"}".as_slice());
+    if word_is(words, 0, b"{") || is_whole || is_inline(words) {
         return false;
     }
     opens(words)
