@@ -73,21 +73,26 @@ fn set_line(lines: &mut [Vec<u8>], line: usize, text: Vec<u8>)
     }
 }
 
-/// Puts this text in place of a line, where that is faulty.
+/// Puts this text in place of a line, where that has the first fault of the lines, which is given.
+/// Returns the first fault after that.
 fn set_if_faulty(
     alloc: Global,
     lines: &mut [Vec<u8>],
+    first: Option<LineFault>,
     line: usize,
     text: &[u8],
-) -> Result<(), AllocError>
-    ensures { OnOk result (bytes_of lines.new ≡ spec.or_line (bytes_of lines.old) line text.now) }
+) -> Result<Option<LineFault>, AllocError>
+    requires { first ≡ spec.first_fault (bytes_of lines.old) }
+    ensures lines { OnOk result
+        (bytes_of lines.new ≡ spec.or_line (bytes_of lines.old) line text.now) }
+    ensures first { IfOk result (λ first. first ≡ spec.first_fault (bytes_of lines.new)) }
 {
-    match first_fault(alloc, lines)? {
+    match first {
         Some(fault) if fault.line == line => {
             set_line(lines, line, Vec::from_slice(alloc, text)?);
-            Ok(())
+            first_fault(alloc, lines)
         }
-        _ => Ok(()),
+        _ => Ok(first),
     }
 }
 
@@ -128,36 +133,51 @@ fn left_at(alloc: Global, lines: &[Vec<u8>], fault: LineFault) -> Result<usize, 
     }
 }
 
-/// Makes the faulty line what it may have meant, or an empty one.
-fn mend_line(alloc: Global, lines: &mut [Vec<u8>], fault: LineFault) -> Result<(), AllocError>
-    ensures { OnOk result (bytes_of lines.new ≡ spec.mended_line (bytes_of lines.old) fault) }
+/// Makes the faulty line what it may have meant, or an empty one. Returns the first fault after that.
+fn mend_line(
+    alloc: Global,
+    lines: &mut [Vec<u8>],
+    fault: LineFault,
+) -> Result<Option<LineFault>, AllocError>
+    ensures lines { OnOk result
+        (bytes_of lines.new ≡ spec.mended_line (bytes_of lines.old) fault) }
+    ensures first { IfOk result (λ first. first ≡ spec.first_fault (bytes_of lines.new)) }
 {
     let line = line_at(lines, fault.line);
     let outside = meant_outside(alloc, line)?;
     let text = meant_line(alloc, fault.kind, line)?;
     set_line(lines, fault.line, text);
-    set_if_faulty(alloc, lines, fault.line, &outside)?;
-    set_if_faulty(alloc, lines, fault.line, &[])
+    let first = first_fault(alloc, lines)?;
+    let next = set_if_faulty(alloc, lines, first, fault.line, &outside)?;
+    set_if_faulty(alloc, lines, next, fault.line, &[])
 }
 
 /// Empties the line that leaves the block before the faulty one, and the faulty one where it still
-/// is.
+/// is. Returns the first fault after that.
 fn reach(
     alloc: Global,
     lines: &mut [Vec<u8>],
     leaving: usize,
     line: usize,
-) -> Result<(), AllocError>
-    ensures { OnOk result (bytes_of lines.new ≡ spec.reached (bytes_of lines.old) leaving line) }
+) -> Result<Option<LineFault>, AllocError>
+    ensures lines { OnOk result
+        (bytes_of lines.new ≡ spec.reached (bytes_of lines.old) leaving line) }
+    ensures first { IfOk result (λ first. first ≡ spec.first_fault (bytes_of lines.new)) }
 {
     set_line(lines, leaving, Vec::new(alloc));
-    set_if_faulty(alloc, lines, line, &[])
+    let first = first_fault(alloc, lines)?;
+    set_if_faulty(alloc, lines, first, line, &[])
 }
 
 /// Makes the lines what they may have meant: the faulty one, or the one that leaves the block
-/// before it.
-fn mend(alloc: Global, lines: &mut [Vec<u8>], fault: LineFault) -> Result<(), AllocError>
-    ensures { OnOk result (bytes_of lines.new ≡ spec.mended (bytes_of lines.old) fault) }
+/// before it. Returns the first fault after that.
+fn mend(
+    alloc: Global,
+    lines: &mut [Vec<u8>],
+    fault: LineFault,
+) -> Result<Option<LineFault>, AllocError>
+    ensures lines { OnOk result (bytes_of lines.new ≡ spec.mended (bytes_of lines.old) fault) }
+    ensures first { IfOk result (λ first. first ≡ spec.first_fault (bytes_of lines.new)) }
 {
     let leaving = left_at(alloc, lines, fault)?;
     if leaving == 0 {
@@ -264,8 +284,9 @@ fn faults_of_lines(alloc: Global, mut lines: Vec<Vec<u8>>) -> Result<Vec<SourceM
     ensures { HasItems result (faults_of_lines 20 (bytes_of lines.items)) }
 {
     let mut faults = Vec::new(alloc);
+    let mut first = first_fault(alloc, &lines)?;
     for _round in 0..MOST_FAULTS {
-        let Some(fault) = first_fault(alloc, &lines)? else {
+        let Some(fault) = first else {
             return Ok(faults);
         };
         faults.push(SourceMessage {
@@ -275,7 +296,7 @@ fn faults_of_lines(alloc: Global, mut lines: Vec<Vec<u8>>) -> Result<Vec<SourceM
         if is_last(alloc, &lines, fault)? {
             return Ok(faults);
         }
-        mend(alloc, &mut lines, fault)?;
+        first = mend(alloc, &mut lines, fault)?;
     }
     Ok(faults)
 }
