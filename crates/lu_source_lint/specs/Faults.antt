@@ -56,11 +56,15 @@ is_inline words =
 abbrev pub is_brace_alone : List Word → Bool
 is_brace_alone words = length words == 1 && word_is words 0 (codes "{")
 
--- whether a line is `---`, which separates parts where it is exactly that
+abbrev pub is_no_dash : Word → Bool
+is_no_dash word = not (is_word word (codes "-"))
+
+abbrev pub has_no_dash : List Word → Bool
+has_no_dash words = list_any is_no_dash words
+
+-- whether a line is nearly `---`, which separates parts: two dashes or more, and nothing else
 abbrev pub is_dashes : List Word → Bool
-is_dashes words =
-    length words == 3
-    && (word_is words 0 (codes "-") && (word_is words 1 (codes "-") && word_is words 2 (codes "-")))
+is_dashes words = nat_lt 1 (length words) && not (has_no_dash words)
 
 abbrev pub ends_arguments : Word → Bool
 ends_arguments word = is_word word (codes ")") || is_word word (codes "{")
@@ -143,6 +147,12 @@ abbrev pub named_by : List Word → List ℕ
 named_by words =
     where_some (slice_get words 1) [] (λ word. if has_name_form word then word else [])
 
+-- whether a line begins as one of a matrix does
+abbrev pub begins_matrix : List Word → Bool
+begins_matrix words =
+    (word_is words 0 (codes "thread") || word_is words 0 (codes "setup"))
+    && not (length (named_by words) == 0)
+
 -- the line of an operation without arguments, whose name ends so
 abbrev pub unnamed : Word → List ℕ
 unnamed name = codes "op unnamed_" ++ name ++ codes "() {"
@@ -203,10 +213,11 @@ is_declaration words =
     || word_is words 0 (codes "op"))))
 
 -- Whether nothing after a line with this fault can be read on: it closes an operation that passes
--- a limit, or declares something before the object is named, or is nearly what separates parts.
+-- a limit, or declares something before the object is named, or is nearly what separates parts, or
+-- is one of a matrix.
 abbrev pub ends_all : Kind → List Word → Bool
 ends_all Limit words = word_is words 0 (codes "}")
-ends_all Form words = is_dashes words
+ends_all Form words = is_dashes words || begins_matrix words
 ends_all Missing words = is_declaration words
 ends_all _ words = false
 

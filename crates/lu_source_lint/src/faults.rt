@@ -8,7 +8,7 @@ ghost use Rattle.lu_source_text.specs.Grammar.{source_grammar};
 ghost use Rattle.lu_source_lint.specs.Faults as spec;
 ghost use Rattle.lu_source_lint.specs.Faults.{AgreeOn, bytes_of, faults_in, faults_of_lines};
 
-use crate::meaning::{is_dashes, meant_line, meant_outside, opens, word_is};
+use crate::meaning::{begins_matrix, is_dashes, meant_line, meant_outside, opens, word_is};
 use crate::message::{SourceMessage, What};
 use lu_source_text::{SourceFaultKind, read_source_lines, source_words};
 use lu_text::{Fault, lines_of};
@@ -204,7 +204,7 @@ fn ends_all(kind: SourceFaultKind, words: &[&[u8]]) -> bool
 {
     match kind {
         SourceFaultKind::Limit => word_is(words, 0, b"}"),
-        SourceFaultKind::Form => is_dashes(words),
+        SourceFaultKind::Form => is_dashes(words) || begins_matrix(words),
         SourceFaultKind::Missing => is_declaration(words),
         _ => false,
     }

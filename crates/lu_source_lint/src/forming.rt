@@ -2,10 +2,11 @@
 
 use crate::foreign::foreign_words;
 use crate::keyword::{is_keyword, near_keyword};
-use crate::meaning::word_is;
+use crate::meaning::{begins_matrix, word_is};
 use crate::naming::{called_lock_words, declares, misused_among, shown};
 use crate::operand::{
-    after_operand, chains_comparisons, last_operator, no_operand, operand_count, unbalanced,
+    after_operand, chains_comparisons, has_outer_comma, last_operator, no_operand, operand_count,
+    unbalanced,
 };
 use crate::scope::{Declared, Scope};
 use lu_source_text::is_free_name;
@@ -318,6 +319,14 @@ fn expression_words(alloc: Global, words: &[&[u8]]) -> Result<Option<String>, Al
         let said = "comparisons do not chain; help: write `A < B && B < C`";
         return Ok(Some(String::from_str(alloc, said)?));
     }
+    if word_is(words, 0, b"let") && has_outer_comma(words) {
+        let said = "unexpected `,`; help: declare each local on a line of its own";
+        return Ok(Some(String::from_str(alloc, said)?));
+    }
+    if word_is(words, 0, b"return") && has_outer_comma(words) {
+        let said = "unexpected `,`; help: return one value";
+        return Ok(Some(String::from_str(alloc, said)?));
+    }
     if let Some(word) = last_operator(words) {
         let word = shown(word);
         return Ok(Some(format!(in alloc; "expected an expression after `{word}`")?));
@@ -525,6 +534,12 @@ pub(crate) fn form_words(
     scope: &Scope<'_>,
     words: &[&[u8]],
 ) -> Result<String, AllocError> {
+    if begins_matrix(words) {
+        let first = words.first().map_or("?", |word| shown(word));
+        return format!(in alloc;
+            "expected a line `---` before the matrix, found `{first}`; help: end the source with a line `---`"
+        );
+    }
     if let Some(said) = called_lock_words(alloc, words)? {
         return Ok(said);
     }
@@ -605,8 +620,13 @@ pub(crate) fn number_words(
                 "unexpected `-`: numbers are not negative; help: write 4294967295 for -1, since numbers are taken modulo 2^32";
             return String::from_str(alloc, said);
         }
-        let word = shown(word);
-        return format!(in alloc; "expected a number or a constant, found `{word}`");
+        let said = shown(word);
+        if let Some(line) = scope.line_below(word) {
+            return format!(in alloc;
+                "`{said}` is declared below, on line {line}; help: move that line above this one"
+            );
+        }
+        return format!(in alloc; "expected a number or a constant, found `{said}`");
     }
     match no_operand(words) {
         Some(word) if word == sign => String::from_str(

@@ -75,14 +75,32 @@ fn is_brace_alone(words: &[&[u8]]) -> bool
     words.len() == 1 && word_is(words, 0, b"{")
 }
 
-/// Whether a line is `---`, which separates parts where it is exactly that.
+/// Whether a word is another than `-`.
+fn is_no_dash(word: &[u8]) -> bool
+    ensures { result ≡ spec.is_no_dash word.now }
+{
+    word != b"-".as_slice()
+}
+
+/// Whether one of the words is another than `-`.
+fn has_no_dash(words: &[&[u8]]) -> bool
+    ensures { result ≡ spec.has_no_dash (texts words.now) }
+{
+    words.iter().any(|word| is_no_dash(word))
+}
+
+/// Whether a line is nearly `---`, which separates parts: two dashes or more, and nothing else.
 pub(crate) fn is_dashes(words: &[&[u8]]) -> bool
     ensures { result ≡ spec.is_dashes (texts words.now) }
 {
-    words.len() == 3
-        && word_is(words, 0, b"-")
-        && word_is(words, 1, b"-")
-        && word_is(words, 2, b"-")
+    words.len() > 1 && !has_no_dash(words)
+}
+
+/// Whether a line begins as one of a matrix does.
+pub(crate) fn begins_matrix(words: &[&[u8]]) -> bool
+    ensures { result ≡ spec.begins_matrix (texts words.now) }
+{
+    (word_is(words, 0, b"thread") || word_is(words, 0, b"setup")) && !named_by(words).is_empty()
 }
 
 /// A line that begins with `}`.

@@ -125,6 +125,21 @@ pub(crate) fn operand_count(words: &[&[u8]], name: &str) -> Option<usize> {
     None
 }
 
+/// Whether there is a comma among the words that is not in parentheses or brackets.
+pub(crate) fn has_outer_comma(words: &[&[u8]]) -> bool {
+    let mut depth = 0usize;
+    for word in words {
+        if is_one_of(word, &["(", "["]) {
+            depth = depth.saturating_add(1);
+        } else if is_one_of(word, &[")", "]"]) {
+            depth = depth.saturating_sub(1);
+        } else if depth == 0 && is_one_of(word, &[","]) {
+            return true;
+        }
+    }
+    false
+}
+
 /// How often a sign is among the words.
 fn count_of(words: &[&[u8]], sign: &str) -> usize {
     words

@@ -170,8 +170,13 @@ fn end_words(alloc: Global, scope: &Scope<'_>) -> Result<String, AllocError> {
     }
 }
 
-/// A line that is nearly what separates parts.
-fn separator_words(alloc: Global, line: &[u8]) -> Result<String, AllocError> {
+/// A line that is nearly what separates parts, with this many dashes.
+fn separator_words(alloc: Global, line: &[u8], dashes: usize) -> Result<String, AllocError> {
+    if dashes != 3 {
+        return format!(in alloc;
+            "unexpected line of {dashes} dashes; help: parts are separated by lines that are exactly `---`"
+        );
+    }
     let said = if line.contains(&b'\r') {
         "a carriage return after `---`; help: end each line with a newline alone (LF)"
     } else {
@@ -197,7 +202,7 @@ pub fn wording(
     };
     let words = source_words(alloc, line)?;
     if is_dashes(&words) {
-        return separator_words(alloc, line);
+        return separator_words(alloc, line, words.len());
     }
     let scope = Scope::between(alloc, above, below)?;
     match message.what {
