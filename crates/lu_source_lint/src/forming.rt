@@ -291,6 +291,28 @@ fn after_declaration<'a>(
     }
 }
 
+/// A `let` of a name without `=` after it.
+fn unassigned_words(alloc: Global, words: &[&[u8]]) -> Result<Option<String>, AllocError> {
+    let Some(name) = words.get(1) else {
+        return Ok(None);
+    };
+    if !word_is(words, 0, b"let") || !is_free_name(name) || word_is(words, 2, b"=") {
+        return Ok(None);
+    }
+    let name = shown(name);
+    match words.get(2) {
+        None => Ok(Some(format!(in alloc;
+            "expected `=` after `{name}`; help: write `let {name} = EXPR`"
+        )?)),
+        Some(next) => {
+            let next = shown(next);
+            Ok(Some(format!(in alloc;
+                "expected `=`, found `{next}`; help: write `let {name} = EXPR`"
+            )?))
+        }
+    }
+}
+
 /// A word after a whole declaration, or a keyword in the place of an argument.
 fn declaration_words(
     alloc: Global,
@@ -304,7 +326,7 @@ fn declaration_words(
         )?));
     }
     let Some((next, help)) = after_declaration(scope, words) else {
-        return Ok(None);
+        return unassigned_words(alloc, words);
     };
     let next = shown(next);
     Ok(Some(format!(in alloc; "unexpected `{next}`; help: {help}")?))

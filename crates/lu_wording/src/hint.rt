@@ -30,20 +30,24 @@ fn meaning_of_case(code: &str) -> Option<&'static str> {
 /// The meaning of a refusal of a report, a specification, a history or a run.
 fn meaning_of_finding(code: &str) -> Option<&'static str> {
     Some(match code {
-        "E1" => "not a line of a report",
+        "E1" => "not a line of a report; help: `lineup lint` says what is expected",
         "S1" =>
             "not a line of a specification, or out of order; `lineup spec` puts lines in order, and `--marks` allows `?`",
         "S2" => "the matrix has no such history; help: `lineup lint` says why",
         "S3" => "two histories conflict: no deterministic specification has both",
         "S4" => "too many serial histories to list; try fewer calls",
-        "H2" => "expected `call`, `return` or `stuck`",
-        "H4" => "the matrix has no such call",
-        "H5" | "R5" =>
+        "H2" =>
+            "expected `call T K`, `return T K ret N`, `return T K trap`, or `stuck` on the last line",
+        "H4" => "the matrix has no such call; threads and their calls are numbered from 0",
+        "H5" =>
             "this call or return is out of order; a thread makes its calls in order, and each returns once, before the next",
         "R1" => "invalid byte; only ASCII, tabs and newlines are allowed",
-        "R2" => "expected `call`, `return` or `stuck`; a run begins with the line `run`",
+        "R2" =>
+            "expected `call T NAME ARG..`, `return T ret N`, `return T trap` or a last line `stuck`; a run begins with the line `run`",
         "R3" => "not a number, or a number that is too large; threads are numbered from 0 to 7",
         "R4" => "the component has no such operation, or it takes a different number of arguments",
+        "R5" =>
+            "this call or return is out of order; a thread makes one call at a time, and nothing follows `stuck`",
         _ => return None,
     })
 }
