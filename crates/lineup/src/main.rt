@@ -8,7 +8,7 @@ mod mistake;
 
 use head::Head;
 use lu_cli::{Counted, Terminal, hint_on, run_with_progress};
-use mistake::mistake_in;
+use mistake::{mistake_in, parts_in};
 use std::io;
 use std::io::IsTerminal;
 use std::process::ExitCode;
@@ -33,6 +33,8 @@ fn show_hint(rt: &(impl AllocGlobal + Eprint), words: &[String], answer: &[u8]) 
         if let Ok(mistake) = mistake_in(rt.alloc(), words) {
             drop(eprint!(rt; "lineup: error: {mistake}\n"));
         }
+    } else if let Ok(Some(parts)) = parts_in(rt.alloc(), words, answer) {
+        drop(eprint!(rt; "lineup: error: {parts}\n"));
     } else if let Ok(Some(hint)) = hint_on(rt.alloc(), answer) {
         drop(eprint!(rt; "{hint}"));
     }

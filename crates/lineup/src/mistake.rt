@@ -48,6 +48,11 @@ fn range_of(kind: Kind) -> Option<(u64, u64)> {
 
 /// A first word that is not a command.
 fn unknown_command(alloc: Global, word: &str) -> Result<String, AllocError> {
+    if word.starts_with("-") {
+        return format!(in alloc;
+            "expected a command first, found `{word}`; help: write options after the command"
+        );
+    }
     match near_command(word) {
         Some(near) => format!(in alloc;
             "unknown command `{word}`; help: a command with a similar name exists: `{near}`"
@@ -197,6 +202,38 @@ fn option_fault(
         Some(row) => value_fault(alloc, row, None),
         None => Ok(None),
     }
+}
+
+/// Which parts the command of these words takes, where this answer refuses others. None for any other
+/// answer, and with `--spec`, where one more part is wanted.
+///
+/// # Errors
+///
+/// `AllocError` where there is no memory for it.
+pub fn parts_in(
+    alloc: Global,
+    words: &[String],
+    answer: &[u8],
+) -> Result<Option<String>, AllocError> {
+    let Some((first, rest)) = words.split_first() else {
+        return Ok(None);
+    };
+    if answer != b"refused B1\n".as_slice() || is_given(rest, "spec") {
+        return Ok(None);
+    }
+    let command = first.as_str();
+    let Some(row) = command_rows().iter().find(|row| row.name == command) else {
+        return Ok(None);
+    };
+    let parts = row.parts;
+    let runs = if command == "witness" {
+        "; recorded runs begin with a line `run`"
+    } else {
+        ""
+    };
+    Ok(Some(format!(in alloc;
+        "`{command}` takes {parts}; help: separate parts by lines that are exactly `---`{runs}"
+    )?))
 }
 
 /// What is wrong with the words of a command line that was refused, in words.

@@ -6,7 +6,8 @@ use Rattle.std.proofs.lemmas.Iterator.{YieldsList}
 use denote.Ref.{Bor}
 use Rattle.lu_text.specs.Lines.{texts}
 use Rattle.lu_text.specs.Words.{Word}
-use Rattle.lu_source_lint.specs.Warnings.{Line, depth_after, is_endless, lines_in, stops}
+use Rattle.lu_source_lint.specs.declared.warnings.Sought.{Sought}
+use Rattle.lu_source_lint.specs.Warnings.{Line, depth_after, ends_without, lines_in, stops}
 
 -- ---- lines in memory
 
@@ -29,17 +30,17 @@ lines_more lines i v here lt is same = rw (add-one i) (more lines i v lt is ∙ 
 
 -- ---- the lines of a loop
 
-pub endless_stops : (shared : List Word) (depth : ℕ) (words : Line) (rest : List Line) (total : Bool) → stops shared depth words ≡ true → is_endless shared depth (words ∷ rest) ≡ total → false ≡ total
-endless_stops shared depth words rest total is so =
-    sym (ap (λ t. not t && (depth_after depth words == 0 || is_endless shared (depth_after depth words) rest)) is) ∙ so
+pub ends_stops : (shared : List Word) (sought : Sought) (depth : ℕ) (words : Line) (rest : List Line) (total : Bool) → stops shared sought depth words ≡ true → ends_without shared sought depth (words ∷ rest) ≡ total → false ≡ total
+ends_stops shared sought depth words rest total is so =
+    sym (ap (λ t. not t && (depth_after depth words == 0 || ends_without shared sought (depth_after depth words) rest)) is) ∙ so
 
-pub endless_here : (shared : List Word) (depth after : ℕ) (words : Line) (rest : List Line) (total : Bool) → stops shared depth words ≡ false → after ≡ depth_after depth words → after ≡ 0 → is_endless shared depth (words ∷ rest) ≡ total → true ≡ total
-endless_here shared depth after words rest total is counted none so =
-    sym (ap (λ t. not t && (depth_after depth words == 0 || is_endless shared (depth_after depth words) rest)) is
-    ∙ ap (λ n. n == 0 || is_endless shared n rest) (sym counted ∙ none)) ∙ so
+pub ends_here : (shared : List Word) (sought : Sought) (depth after : ℕ) (words : Line) (rest : List Line) (total : Bool) → stops shared sought depth words ≡ false → after ≡ depth_after depth words → after ≡ 0 → ends_without shared sought depth (words ∷ rest) ≡ total → true ≡ total
+ends_here shared sought depth after words rest total is counted none so =
+    sym (ap (λ t. not t && (depth_after depth words == 0 || ends_without shared sought (depth_after depth words) rest)) is
+    ∙ ap (λ n. n == 0 || ends_without shared sought n rest) (sym counted ∙ none)) ∙ so
 
-pub endless_on : (shared : List Word) (depth after : ℕ) (words : Line) (rest : List Line) (total : Bool) → stops shared depth words ≡ false → after ≡ depth_after depth words → after ≢ 0 → is_endless shared depth (words ∷ rest) ≡ total → is_endless shared after rest ≡ total
-endless_on shared depth after words rest total is counted some so =
-    sym (ap (λ t. not t && (depth_after depth words == 0 || is_endless shared (depth_after depth words) rest)) is
-    ∙ ap (λ n. n == 0 || is_endless shared n rest) (sym counted)
-    ∙ ap (λ t. t || is_endless shared after rest) (ne_eqb after 0 some)) ∙ so
+pub ends_on : (shared : List Word) (sought : Sought) (depth after : ℕ) (words : Line) (rest : List Line) (total : Bool) → stops shared sought depth words ≡ false → after ≡ depth_after depth words → after ≢ 0 → ends_without shared sought depth (words ∷ rest) ≡ total → ends_without shared sought after rest ≡ total
+ends_on shared sought depth after words rest total is counted some so =
+    sym (ap (λ t. not t && (depth_after depth words == 0 || ends_without shared sought (depth_after depth words) rest)) is
+    ∙ ap (λ n. n == 0 || ends_without shared sought n rest) (sym counted)
+    ∙ ap (λ t. t || ends_without shared sought after rest) (ne_eqb after 0 some)) ∙ so

@@ -1,12 +1,13 @@
 -- Every fault of a source's text: the first one, and then those that are left where the faulty line
 -- is read as it may have been meant.
 use Rattle.std.specs.Prelude.{◌≡◌, ℕ, zero, suc, ◌-◌, ◌==◌, nat_lt, min, Bool, true, false, not, ◌&&◌, ◌||◌, List, [], ◌∷◌, ◌++◌, length, map, set, take, Option, Some, None, Result, Ok, Err, Vec, codes, if◌then◌else◌}
-use Rattle.std.specs.List.{position, slice_get}
+use Rattle.std.specs.List.{list_any, position, slice_get}
 use Rattle.std.specs.Option.{unwrap_or}
 use Rattle.lu_text.specs.declared.fault.Fault.{Fault}
 use Rattle.lu_text.specs.declared.fault.Fault.TheVariants.{At, Memory}
 use Rattle.lu_text.specs.Faults.{meaning_of_lines}
-use Rattle.lu_text.specs.Lines.{lines_of}
+use denote.Ref.{Bor}
+use Rattle.lu_text.specs.Lines.{lines_of, texts}
 use Rattle.lu_text.specs.Names.{has_name_form}
 use Rattle.lu_text.specs.Words.{Word}
 use Rattle.lu_source.specs.Trees.{Program}
@@ -36,9 +37,34 @@ abbrev pub is_whole_block : List Word → Bool
 is_whole_block words =
     not (word_is words 0 (codes "}")) && word_is words (length words - 1) (codes "}")
 
+-- what leaves a block
+abbrev pub jumps : Word → Bool
+jumps word =
+    is_word word (codes "return") || (is_word word (codes "break")
+    || is_word word (codes "continue"))
+
+abbrev pub has_jump : List Word → Bool
+has_jump words = list_any jumps words
+
+-- whether a line is an `if` or a `while` with what it does, and without braces
+abbrev pub is_inline : List Word → Bool
+is_inline words =
+    (word_is words 0 (codes "if") || word_is words 0 (codes "while"))
+    && (has_jump words && not (opens words))
+
 -- whether a line is a `{` that stands alone, and so belongs to the line above
 abbrev pub is_brace_alone : List Word → Bool
 is_brace_alone words = length words == 1 && word_is words 0 (codes "{")
+
+abbrev pub is_no_dash : Word → Bool
+is_no_dash word = not (is_word word (codes "-"))
+
+abbrev pub has_no_dash : List Word → Bool
+has_no_dash words = list_any is_no_dash words
+
+-- whether a line is nearly `---`, which separates parts: two dashes or more, and nothing else
+abbrev pub is_dashes : List Word → Bool
+is_dashes words = nat_lt 1 (length words) && not (has_no_dash words)
 
 abbrev pub ends_arguments : Word → Bool
 ends_arguments word = is_word word (codes ")") || is_word word (codes "{")
@@ -61,12 +87,13 @@ meant_op words =
 
 -- The same of any line, by its fault and its first word: a name that the line declares is declared,
 -- a block that it begins is open (also where its `{` is missing, or alone on the next line), one
--- that it also closes is left out, and one that should have named the object names it.
+-- that it also closes or that has no braces is left out, and one that should have named the object
+-- names it.
 abbrev pub meant : Kind → List Word → ℕ × List ℕ
 meant kind words =
     if is_missing kind || word_is words 0 (codes "object") then (0, codes "object a")
-    else (if is_whole_block words || is_brace_alone words then (0, [])
-    else (if word_is words 0 (codes "let") || word_is words 0 (codes "const") then (2, codes "= 0")
+    else (if is_whole_block words || (is_brace_alone words || is_inline words) then (0, [])
+    else (if word_is words 0 (codes "let") || word_is words 0 (codes "const") then (2, codes "= 1")
     else (if word_is words 0 (codes "word") && word_is words 2 (codes "[") then (2, codes "[1]")
     else (if word_is words 0 (codes "word") || word_is words 0 (codes "lock") then (2, [])
     else (if word_is words 0 (codes "op") then meant_op words
@@ -119,6 +146,12 @@ or_line lines n line = if is_faulty lines n then with_line lines n line else lin
 abbrev pub named_by : List Word → List ℕ
 named_by words =
     where_some (slice_get words 1) [] (λ word. if has_name_form word then word else [])
+
+-- whether a line begins as one of a matrix does
+abbrev pub begins_matrix : List Word → Bool
+begins_matrix words =
+    (word_is words 0 (codes "thread") || word_is words 0 (codes "setup"))
+    && not (length (named_by words) == 0)
 
 -- the line of an operation without arguments, whose name ends so
 abbrev pub unnamed : Word → List ℕ
@@ -180,9 +213,11 @@ is_declaration words =
     || word_is words 0 (codes "op"))))
 
 -- Whether nothing after a line with this fault can be read on: it closes an operation that passes
--- a limit, or declares something before the object is named.
+-- a limit, or declares something before the object is named, or is nearly what separates parts, or
+-- is one of a matrix.
 abbrev pub ends_all : Kind → List Word → Bool
 ends_all Limit words = word_is words 0 (codes "}")
+ends_all Form words = is_dashes words || begins_matrix words
 ends_all Missing words = is_declaration words
 ends_all _ words = false
 
@@ -198,12 +233,14 @@ formless_at n fault = where_some fault false (λ f. f.line == n && is_form f.kin
 abbrev pub is_formless : List (List ℕ) → ℕ → Bool
 is_formless lines n = formless_at n (first_fault lines)
 
+-- whether line n has no form of a source where an operation without arguments is put in its place
+abbrev pub refuses_operation : List (List ℕ) → ℕ → Bool
+refuses_operation lines n = is_formless (with_line lines n (codes "op unnamed() {")) n
+
 -- whether line n, which has these words, begins an operation in another one: no line of the form of
 -- one is allowed there
 abbrev pub is_inner_operation : List (List ℕ) → ℕ → List Word → Bool
-is_inner_operation lines n words =
-    word_is words 0 (codes "op")
-    && is_formless (with_line lines n (codes "op unnamed() {")) n
+is_inner_operation lines n words = word_is words 0 (codes "op") && refuses_operation lines n
 
 -- whether a fault is that of a block that cannot be reached, whatever is meant
 abbrev pub is_unreachable_block : List (List ℕ) → LineFault → List Word → Bool
@@ -243,3 +280,9 @@ AgreeOn (Err Memory) faults = faults ≡ []
 
 abbrev pub bytes_of : {Z : Type 0} → List (Vec ℕ Z) → List (List ℕ)
 bytes_of lines = map (λ line. line.items) lines
+
+abbrev pub inner_at : {Z : Type 0} → List (Vec ℕ Z) → ℕ → List (Bor Word) → Bool
+inner_at lines n words = is_inner_operation (bytes_of lines) n (texts words)
+
+abbrev pub unreachable_at : {Z : Type 0} → List (Vec ℕ Z) → LineFault → List (Bor Word) → Bool
+unreachable_at lines fault words = is_unreachable_block (bytes_of lines) fault (texts words)

@@ -1,16 +1,18 @@
 -- What is odd in a source without faults, by the words of its lines.
 use Rattle.std.specs.Prelude.{ℕ, ◌+◌, ◌-◌, ◌==◌, nat_lt, Bool, false, not, ◌&&◌, ◌||◌, List, [], ◌∷◌, ◌++◌, filter, length, map, drop, Option, Some, None, Vec, codes, if◌then◌else◌}
 use Rattle.std.specs.Int.{from_bool}
-use Rattle.std.specs.List.{list_any, slice_get, take_while}
+use Rattle.std.specs.List.{list_any, position, slice_get, take_while}
 use Rattle.std.specs.Option.{unwrap_or}
 use denote.Ref.{Bor}
 use Rattle.lu_text.specs.Lines.{lines_of, texts}
 use Rattle.lu_text.specs.Words.{Word}
-use Rattle.lu_source_text.specs.Grammar.{is_among, source_words}
+use Rattle.lu_source_text.specs.Grammar.{is_among, source_words, where_some}
 use Rattle.lu_source_lint.specs.declared.message.SourceMessage.{SourceMessage}
 use Rattle.lu_source_lint.specs.declared.message.Warning.{Warning}
-use Rattle.lu_source_lint.specs.declared.message.Warning.TheVariants.{UnusedLocal, UnusedWord, EndlessLoop}
+use Rattle.lu_source_lint.specs.declared.message.Warning.TheVariants.{UnusedLocal, UnusedWord, EndlessLoop, SpinningLoop, AwaitedCondition}
 use Rattle.lu_source_lint.specs.declared.message.What.TheVariants.{Warning as AWarning}
+use Rattle.lu_source_lint.specs.declared.warnings.Sought.{Sought}
+use Rattle.lu_source_lint.specs.declared.warnings.Sought.TheVariants.{Acts, Changes}
 use Rattle.lu_source_lint.specs.Faults.{opens, word_is}
 
 -- a line, by its words
@@ -58,29 +60,94 @@ abbrev pub depth_after : ℕ → Line → ℕ
 depth_after depth words =
     (depth - from_bool (word_is words 0 (codes "}"))) + from_bool (opens words)
 
--- whether a line acts, or stands in more blocks than there may be
-abbrev pub stops : List Word → ℕ → Line → Bool
-stops shared depth words = nat_lt 16 depth || acts shared words
+-- what changes the thread's own values or a shared word, or waits
+abbrev pub changing : List Word
+changing = codes "=" ∷ codes "lock" ∷ codes "unlock" ∷ codes "await" ∷ []
 
--- Whether a loop comes to its `}` with no line that acts. This many blocks are open, the loop with
--- them; there are 16 at most.
-abbrev pub is_endless : List Word → ℕ → List Line → Bool
-is_endless shared depth [] = false
-is_endless shared depth (words ∷ lines) =
-    not (stops shared depth words)
-    && (depth_after depth words == 0 || is_endless shared (depth_after depth words) lines)
+abbrev pub word_changes : Word → Bool
+word_changes word = is_among changing word
+
+abbrev pub changes : Line → Bool
+changes words = list_any word_changes words
+
+-- whether a line does what is sought
+abbrev pub does : List Word → Sought → Line → Bool
+does shared Acts words = acts shared words
+does shared Changes words = changes words
+
+-- whether a line does what is sought, or is in more blocks than there may be
+abbrev pub stops : List Word → Sought → ℕ → Line → Bool
+stops shared sought depth words = nat_lt 16 depth || does shared sought words
+
+-- Whether a loop comes to its `}` with no line that does what is sought. This many blocks are open,
+-- the loop with them; there are 16 at most.
+abbrev pub ends_without : List Word → Sought → ℕ → List Line → Bool
+ends_without shared sought depth [] = false
+ends_without shared sought depth (words ∷ lines) =
+    not (stops shared sought depth words)
+    && (depth_after depth words == 0
+    || ends_without shared sought (depth_after depth words) lines)
+
+-- whether one of the words is a shared word
+abbrev pub names_shared : List Word → Line → Bool
+names_shared shared words = list_any (is_among shared) words
+
+-- whether one of the words of the first of these lines is one
+abbrev pub first_names_shared : List Word → List Line → Bool
+first_names_shared shared lines = where_some (slice_get lines 0) false (names_shared shared)
+
+-- whether a loop tests a shared word: a `while` in its condition, a `loop` in its first line
+abbrev pub tests_shared : List Word → Line → List Line → Bool
+tests_shared shared words below =
+    (word_is words 0 (codes "while") && names_shared shared words)
+    || (word_is words 0 (codes "loop") && first_names_shared shared below)
+
+-- Whether a line begins a loop that can only end when another thread changes a shared word: it tests
+-- one, and none of its lines assigns, locks or waits.
+abbrev pub spins : List Word → Line → List Line → Bool
+spins shared words below =
+    tests_shared shared words below && ends_without shared Changes 1 below
+
+-- ---- what is awaited
+
+abbrev pub compares : Word → Bool
+compares word = is_among (codes "==" ∷ codes "!=" ∷ []) word
+
+abbrev pub joins : Word → Bool
+joins word = is_among (codes "&&" ∷ codes "||" ∷ []) word
+
+abbrev pub has_joint : Line → Bool
+has_joint words = list_any joins words
+
+-- where the first `==` or `!=` is
+abbrev pub comparison : Line → ℕ
+comparison words = unwrap_or (position compares words) (length words)
+
+-- the words from there on
+abbrev pub from_comparison : Line → Line
+from_comparison words = drop (comparison words) words
+
+-- whether a line waits for the value of a condition that has no parentheses around it
+abbrev pub awaits_condition : Line → Bool
+awaits_condition words =
+    word_is words 0 (codes "await")
+    && (not (word_is (from_comparison words) 1 (codes "("))
+    && has_joint (from_comparison words))
 
 -- ---- warnings
 
 -- what is odd about a line, between those above it and those below it
-abbrev pub warning_of : List Word → List Line → Line → List Line → Option Warning
+unfoldable pub warning_of : List Word → List Line → Line → List Line → Option Warning
 warning_of shared above words below =
     if word_is words 0 (codes "let") && not (is_read (name_of words) below)
     then Some UnusedLocal
     else (if word_is words 0 (codes "word") && is_unused (name_of words) above below
     then Some UnusedWord
-    else (if word_is words 0 (codes "loop") && is_endless shared 1 below then Some EndlessLoop
-    else None))
+    else (if word_is words 0 (codes "loop") && ends_without shared Acts 1 below
+    then Some EndlessLoop
+    else (if spins shared words below then Some SpinningLoop
+    else (if awaits_condition words then Some AwaitedCondition
+    else None))))
 
 -- what is said of line n
 abbrev pub said_of : ℕ → Option Warning → List SourceMessage

@@ -1,6 +1,6 @@
 //! Every fault of a source.
 
-ghost use Rattle.std.specs.Prelude.{◌≡◌, IfOk, OnOk, codes};
+ghost use Rattle.std.specs.Prelude.{◌≡◌, IfOk, OnOk};
 ghost use Rattle.lu_text.specs.Lines.{lines_of, texts};
 ghost use Rattle.lu_text.specs.Faults.{meaning_of};
 ghost use Rattle.lu_text.specs.Results.{HasItems};
@@ -8,7 +8,7 @@ ghost use Rattle.lu_source_text.specs.Grammar.{source_grammar};
 ghost use Rattle.lu_source_lint.specs.Faults as spec;
 ghost use Rattle.lu_source_lint.specs.Faults.{AgreeOn, bytes_of, faults_in, faults_of_lines};
 
-use crate::meaning::{meant_line, meant_outside, opens, word_is};
+use crate::meaning::{begins_matrix, is_dashes, meant_line, meant_outside, opens, word_is};
 use crate::message::{SourceMessage, What};
 use lu_source_text::{SourceFaultKind, read_source_lines, source_words};
 use lu_text::{Fault, lines_of};
@@ -73,21 +73,26 @@ fn set_line(lines: &mut [Vec<u8>], line: usize, text: Vec<u8>)
     }
 }
 
-/// Puts this text in place of a line, where that is faulty.
+/// Puts this text in place of a line, where that has the first fault of the lines, which is given.
+/// Returns the first fault after that.
 fn set_if_faulty(
     alloc: Global,
     lines: &mut [Vec<u8>],
+    first: Option<LineFault>,
     line: usize,
     text: &[u8],
-) -> Result<(), AllocError>
-    ensures { OnOk result (bytes_of lines.new ≡ spec.or_line (bytes_of lines.old) line text.now) }
+) -> Result<Option<LineFault>, AllocError>
+    requires { first ≡ spec.first_fault (bytes_of lines.old) }
+    ensures lines { OnOk result
+        (bytes_of lines.new ≡ spec.or_line (bytes_of lines.old) line text.now) }
+    ensures first { IfOk result (λ first. first ≡ spec.first_fault (bytes_of lines.new)) }
 {
-    match first_fault(alloc, lines)? {
+    match first {
         Some(fault) if fault.line == line => {
             set_line(lines, line, Vec::from_slice(alloc, text)?);
-            Ok(())
+            first_fault(alloc, lines)
         }
-        _ => Ok(()),
+        _ => Ok(first),
     }
 }
 
@@ -128,36 +133,51 @@ fn left_at(alloc: Global, lines: &[Vec<u8>], fault: LineFault) -> Result<usize, 
     }
 }
 
-/// Makes the faulty line what it may have meant, or an empty one.
-fn mend_line(alloc: Global, lines: &mut [Vec<u8>], fault: LineFault) -> Result<(), AllocError>
-    ensures { OnOk result (bytes_of lines.new ≡ spec.mended_line (bytes_of lines.old) fault) }
+/// Makes the faulty line what it may have meant, or an empty one. Returns the first fault after that.
+fn mend_line(
+    alloc: Global,
+    lines: &mut [Vec<u8>],
+    fault: LineFault,
+) -> Result<Option<LineFault>, AllocError>
+    ensures lines { OnOk result
+        (bytes_of lines.new ≡ spec.mended_line (bytes_of lines.old) fault) }
+    ensures first { IfOk result (λ first. first ≡ spec.first_fault (bytes_of lines.new)) }
 {
     let line = line_at(lines, fault.line);
     let outside = meant_outside(alloc, line)?;
     let text = meant_line(alloc, fault.kind, line)?;
     set_line(lines, fault.line, text);
-    set_if_faulty(alloc, lines, fault.line, &outside)?;
-    set_if_faulty(alloc, lines, fault.line, &[])
+    let first = first_fault(alloc, lines)?;
+    let next = set_if_faulty(alloc, lines, first, fault.line, &outside)?;
+    set_if_faulty(alloc, lines, next, fault.line, &[])
 }
 
 /// Empties the line that leaves the block before the faulty one, and the faulty one where it still
-/// is.
+/// is. Returns the first fault after that.
 fn reach(
     alloc: Global,
     lines: &mut [Vec<u8>],
     leaving: usize,
     line: usize,
-) -> Result<(), AllocError>
-    ensures { OnOk result (bytes_of lines.new ≡ spec.reached (bytes_of lines.old) leaving line) }
+) -> Result<Option<LineFault>, AllocError>
+    ensures lines { OnOk result
+        (bytes_of lines.new ≡ spec.reached (bytes_of lines.old) leaving line) }
+    ensures first { IfOk result (λ first. first ≡ spec.first_fault (bytes_of lines.new)) }
 {
     set_line(lines, leaving, Vec::new(alloc));
-    set_if_faulty(alloc, lines, line, &[])
+    let first = first_fault(alloc, lines)?;
+    set_if_faulty(alloc, lines, first, line, &[])
 }
 
 /// Makes the lines what they may have meant: the faulty one, or the one that leaves the block
-/// before it.
-fn mend(alloc: Global, lines: &mut [Vec<u8>], fault: LineFault) -> Result<(), AllocError>
-    ensures { OnOk result (bytes_of lines.new ≡ spec.mended (bytes_of lines.old) fault) }
+/// before it. Returns the first fault after that.
+fn mend(
+    alloc: Global,
+    lines: &mut [Vec<u8>],
+    fault: LineFault,
+) -> Result<Option<LineFault>, AllocError>
+    ensures lines { OnOk result (bytes_of lines.new ≡ spec.mended (bytes_of lines.old) fault) }
+    ensures first { IfOk result (λ first. first ≡ spec.first_fault (bytes_of lines.new)) }
 {
     let leaving = left_at(alloc, lines, fault)?;
     if leaving == 0 {
@@ -184,6 +204,7 @@ fn ends_all(kind: SourceFaultKind, words: &[&[u8]]) -> bool
 {
     match kind {
         SourceFaultKind::Limit => word_is(words, 0, b"}"),
+        SourceFaultKind::Form => is_dashes(words) || begins_matrix(words),
         SourceFaultKind::Missing => is_declaration(words),
         _ => false,
     }
@@ -202,8 +223,8 @@ fn is_formless_at(line: usize, fault: Option<LineFault>) -> bool
 /// Whether the line has no form of a source where an operation without arguments is put in its
 /// place.
 fn refuses_operation(alloc: Global, lines: &mut [Vec<u8>], line: usize) -> Result<bool, AllocError>
-    ensures { IfOk result (λ refuses. refuses ≡ spec.is_formless
-        (spec.with_line (bytes_of lines.old) line (codes "op unnamed() {")) line) }
+    ensures { IfOk result
+        (λ refuses. refuses ≡ spec.refuses_operation (bytes_of lines.old) line) }
 {
     let text = Vec::from_slice(alloc, b"op unnamed() {".as_slice())?;
     set_line(lines, line, text);
@@ -218,8 +239,7 @@ fn is_inner_operation(
     line: usize,
     words: &[&[u8]],
 ) -> Result<bool, AllocError>
-    ensures { IfOk result (λ inner. inner
-        ≡ spec.is_inner_operation (bytes_of lines.now) line (texts words.now)) }
+    ensures { IfOk result (λ inner. inner ≡ spec.inner_at lines.now line words.now) }
 {
     if !word_is(words, 0, b"op") {
         return Ok(false);
@@ -235,8 +255,7 @@ fn is_unreachable_block(
     fault: LineFault,
     words: &[&[u8]],
 ) -> Result<bool, AllocError>
-    ensures { IfOk result (λ is. is
-        ≡ spec.is_unreachable_block (bytes_of lines.now) fault (texts words.now)) }
+    ensures { IfOk result (λ is. is ≡ spec.unreachable_at lines.now fault words.now) }
 {
     if !matches!(fault.kind, SourceFaultKind::Flow) || !opens(words) {
         return Ok(false);
@@ -265,8 +284,9 @@ fn faults_of_lines(alloc: Global, mut lines: Vec<Vec<u8>>) -> Result<Vec<SourceM
     ensures { HasItems result (faults_of_lines 20 (bytes_of lines.items)) }
 {
     let mut faults = Vec::new(alloc);
+    let mut first = first_fault(alloc, &lines)?;
     for _round in 0..MOST_FAULTS {
-        let Some(fault) = first_fault(alloc, &lines)? else {
+        let Some(fault) = first else {
             return Ok(faults);
         };
         faults.push(SourceMessage {
@@ -276,7 +296,7 @@ fn faults_of_lines(alloc: Global, mut lines: Vec<Vec<u8>>) -> Result<Vec<SourceM
         if is_last(alloc, &lines, fault)? {
             return Ok(faults);
         }
-        mend(alloc, &mut lines, fault)?;
+        first = mend(alloc, &mut lines, fault)?;
     }
     Ok(faults)
 }

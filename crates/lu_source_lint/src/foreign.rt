@@ -3,7 +3,7 @@
 use crate::meaning::word_is;
 
 /// Words of other languages.
-const FOREIGN: [(&str, &str); 39] = [
+const FOREIGN: [(&str, &str); 44] = [
     (
         ";",
         "unexpected `;`; help: remove it, since a statement ends with its line",
@@ -18,14 +18,8 @@ const FOREIGN: [(&str, &str); 39] = [
     ),
     ("%", "there is no `%` operator; help: subtract in a loop"),
     ("/", "there is no `/` operator; help: subtract in a loop"),
-    (
-        "&",
-        "there is no `&` operator; help: write `&&` for a logical and",
-    ),
-    (
-        "|",
-        "there is no `|` operator; help: write `||` for a logical or",
-    ),
+    ("&", "there is no `&` operator"),
+    ("|", "there is no `|` operator"),
     (
         "^",
         "there is no `^` operator; help: write `!=` to compare two values",
@@ -40,6 +34,26 @@ const FOREIGN: [(&str, &str); 39] = [
     (
         "fn",
         "expected an operation, found `fn`; help: write `op NAME(A, B) {`",
+    ),
+    (
+        "function",
+        "expected an operation, found `function`; help: write `op NAME(A, B) {`",
+    ),
+    (
+        "func",
+        "expected an operation, found `func`; help: write `op NAME(A, B) {`",
+    ),
+    (
+        "def",
+        "expected an operation, found `def`; help: write `op NAME(A, B) {`",
+    ),
+    (
+        "void",
+        "expected an operation, found `void`; help: write `op NAME(A, B) {`",
+    ),
+    (
+        "print",
+        "there is no `print`; help: return the value, and see it in a trace",
     ),
     ("mutex", "there is no `mutex`; help: declare `lock NAME`"),
     ("atomic", "there is no `atomic`; help: declare `word NAME`"),
@@ -136,13 +150,18 @@ const FOREIGN: [(&str, &str); 39] = [
 ];
 
 /// Two signs of other languages, side by side.
-const FOREIGN_PAIRS: [(&str, &str, &str); 11] = [
+const FOREIGN_PAIRS: [(&str, &str, &str); 12] = [
     ("/", "/", "unexpected `//`; help: a comment begins with `#`"),
     ("/", "*", "unexpected `/*`; help: a comment begins with `#`"),
     (
         "-",
         ">",
         "unexpected `->`; help: leave types out, since every value is a number from 0 to 4294967295",
+    ),
+    (
+        ":",
+        "=",
+        "there is no `:=` operator; help: write `NAME = EXPR`, or `let NAME = EXPR` for a new local",
     ),
     (
         "=",
@@ -200,9 +219,24 @@ pub(crate) fn foreign_word(word: &[u8]) -> Option<&'static str> {
     None
 }
 
+/// What to write in place of the type of an argument.
+const NO_TYPES: &str =
+    "unexpected type; help: leave types out, since every value is a number from 0 to 4294967295";
+
+/// Whether the arguments of an operation have types before them.
+fn has_types(words: &[&[u8]]) -> bool {
+    word_is(words, 0, b"op")
+        && words.iter().skip(2).any(|word| {
+            *word == b"int".as_slice() || *word == b"u32".as_slice() || *word == b"bool".as_slice()
+        })
+}
+
 /// What to write in place of the first pair of signs, or else of the first word, of another
 /// language; or else of a `.`.
 pub(crate) fn foreign_words(words: &[&[u8]]) -> Option<&'static str> {
+    if has_types(words) {
+        return Some(NO_TYPES);
+    }
     for (first, second, help) in &FOREIGN_PAIRS {
         if words.windows(2).any(|pair| word_is(pair, 0, first.as_bytes())
             && word_is(pair, 1, second.as_bytes()))

@@ -2,9 +2,12 @@
 
 use crate::foreign::foreign_words;
 use crate::keyword::{is_keyword, near_keyword};
-use crate::meaning::word_is;
-use crate::naming::{declares, misused_among, shown};
-use crate::operand::{after_operand, chains_comparisons, last_operator, no_operand, unbalanced};
+use crate::meaning::{begins_matrix, word_is};
+use crate::naming::{called_lock_words, declares, misused_among, shown};
+use crate::operand::{
+    after_operand, chains_comparisons, has_outer_comma, last_operator, no_operand, operand_count,
+    unbalanced,
+};
 use crate::scope::{Declared, Scope};
 use lu_source_text::is_free_name;
 use lu_text::value_in;
@@ -103,7 +106,10 @@ fn lacks_brace(scope: &Scope<'_>, words: &[&[u8]]) -> bool {
 }
 
 /// What a line lacks that should end with `{`: that alone, or also a line for what follows it.
-fn brace_words(words: &[&[u8]]) -> &'static str {
+fn brace_words(scope: &Scope<'_>, words: &[&[u8]]) -> &'static str {
+    if scope.has_brace_below() {
+        return "expected `{` at the end of the line; help: move it here from the next line";
+    }
     let is_followed = if tests(words) {
         after_operand(words).is_some()
     } else {
@@ -114,6 +120,32 @@ fn brace_words(words: &[&[u8]]) -> &'static str {
     } else {
         "expected `{` at the end of the line; help: add a `{`"
     }
+}
+
+/// `} else` after a block that is not that of an `if`.
+fn else_words(
+    alloc: Global,
+    scope: &Scope<'_>,
+    words: &[&[u8]],
+) -> Result<Option<String>, AllocError> {
+    if !word_is(words, 0, b"}") || !word_is(words, 1, b"else") {
+        return Ok(None);
+    }
+    let said = match scope.innermost() {
+        Some(("if" | "else if", _)) => return Ok(None),
+        Some(("else", _)) => String::from_str(
+            alloc,
+            "`else` without an `if` block above; help: an `if` has one `else`, as its last block",
+        )?,
+        Some((word, line)) if word != "op" => format!(in alloc;
+            "`else` without an `if` block above; help: close the `{word}` on line {line} with a `}}` alone"
+        )?,
+        _ => String::from_str(
+            alloc,
+            "`else` without an `if` block above; help: `} else {` itself closes the block of the `if`",
+        )?,
+    };
+    Ok(Some(said))
 }
 
 /// A word in the place of what is expected, where there is one, and what to do.
@@ -150,6 +182,9 @@ fn block_words(
             )?));
         }
     }
+    if let Some(said) = else_words(alloc, scope, words)? {
+        return Ok(Some(said));
+    }
     let said = if word_is(words, 0, b"else") {
         "expected `}` before `else`; help: write `} else {` on one line"
     } else if tests(words) && assigns_in_condition(words) {
@@ -159,7 +194,7 @@ fn block_words(
     } else if words.len() == 1 && word_is(words, 0, b"}") {
         "unexpected `}`, since no block is open; help: remove it, or add the line that opens its block"
     } else if lacks_brace(scope, words) {
-        brace_words(words)
+        brace_words(scope, words)
     } else {
         return found_words(
             alloc,
@@ -191,16 +226,110 @@ fn no_name_words(alloc: Global, words: &[&[u8]]) -> Result<Option<String>, Alloc
     )?))
 }
 
-/// A word after the name of the object or of a lock, with which the line should end.
-fn after_name<'a>(words: &[&'a [u8]]) -> Option<&'a [u8]> {
-    let ends_with_name = word_is(words, 0, b"object")
-        || word_is(words, 0, b"lock")
-        || word_is(words, 0, b"unlock");
-    if ends_with_name && is_free_name(words.get(1)?) {
-        words.get(2).copied()
+/// The name with which a line should end that declares the object, or that declares, locks or unlocks
+/// a lock; and the word after it.
+fn after_name<'a>(words: &[&'a [u8]]) -> Option<(&'a [u8], &'a [u8])> {
+    match words {
+        [first, name, next, ..]
+            if is_free_name(name)
+                && (word_is(words, 0, b"object")
+                    || word_is(words, 0, b"lock")
+                    || word_is(words, 0, b"unlock")) => Some((*name, *next)),
+        _ => None,
+    }
+}
+
+/// A word after the name with which a line should end.
+fn after_name_words(
+    alloc: Global,
+    words: &[&[u8]],
+    name: &[u8],
+    next: &[u8],
+) -> Result<String, AllocError> {
+    let (name, said) = (shown(name), shown(next));
+    let is_lock = !word_is(words, 0, b"object");
+    match (said, words.get(3)) {
+        ("[", _) if is_lock => format!(in alloc;
+            "a lock has no index; help: declare `word {name}[LEN]`, and lock with `cas({name}[EXPR], 0, 1)`"
+        ),
+        ("=", _) if is_lock => format!(in alloc; "a lock has no value; help: write `lock {name}`"),
+        ("-", Some(rest)) if is_free_name(rest) => {
+            let rest = shown(rest);
+            format!(in alloc; "unexpected `-` in a name; help: write `{name}_{rest}`")
+        }
+        _ => format!(in alloc; "expected the end of the line after the name, found `{said}`"),
+    }
+}
+
+/// A keyword in the place of an argument of an operation.
+fn keyword_argument<'a>(words: &[&'a [u8]]) -> Option<&'a [u8]> {
+    if word_is(words, 0, b"op") {
+        words.iter().skip(2).find(|word| is_keyword(word)).copied()
     } else {
         None
     }
+}
+
+/// A word after the whole declaration of a shared word or a constant, and what to do.
+fn after_declaration<'a>(
+    scope: &Scope<'_>,
+    words: &[&'a [u8]],
+) -> Option<(&'a [u8], &'static str)> {
+    let is_word = word_is(words, 0, b"word");
+    if !is_word && !word_is(words, 0, b"const") || !is_free_name(words.get(1)?) {
+        return None;
+    }
+    match words {
+        [_, _, next, ..] if *next == b",".as_slice() || is_free_name(next) => Some((
+            *next,
+            "declare each name on a line of its own",
+        )),
+        [_, _, sign, value, next, ..] if *sign == b"=".as_slice() && is_constant(scope, value) => {
+            Some((*next, "a declaration takes one number or constant"))
+        }
+        _ => None,
+    }
+}
+
+/// A `let` of a name without `=` after it.
+fn unassigned_words(alloc: Global, words: &[&[u8]]) -> Result<Option<String>, AllocError> {
+    let Some(name) = words.get(1) else {
+        return Ok(None);
+    };
+    if !word_is(words, 0, b"let") || !is_free_name(name) || word_is(words, 2, b"=") {
+        return Ok(None);
+    }
+    let name = shown(name);
+    match words.get(2) {
+        None => Ok(Some(format!(in alloc;
+            "expected `=` after `{name}`; help: write `let {name} = EXPR`"
+        )?)),
+        Some(next) => {
+            let next = shown(next);
+            Ok(Some(format!(in alloc;
+                "expected `=`, found `{next}`; help: write `let {name} = EXPR`"
+            )?))
+        }
+    }
+}
+
+/// A word after a whole declaration, or a keyword in the place of an argument.
+fn declaration_words(
+    alloc: Global,
+    scope: &Scope<'_>,
+    words: &[&[u8]],
+) -> Result<Option<String>, AllocError> {
+    if let Some(keyword) = keyword_argument(words) {
+        let keyword = shown(keyword);
+        return Ok(Some(format!(in alloc;
+            "expected a name, found keyword `{keyword}`; help: choose another name"
+        )?));
+    }
+    let Some((next, help)) = after_declaration(scope, words) else {
+        return unassigned_words(alloc, words);
+    };
+    let next = shown(next);
+    Ok(Some(format!(in alloc; "unexpected `{next}`; help: {help}")?))
 }
 
 /// What is wrong with the expression of a line.
@@ -210,6 +339,14 @@ fn expression_words(alloc: Global, words: &[&[u8]]) -> Result<Option<String>, Al
     }
     if chains_comparisons(words) {
         let said = "comparisons do not chain; help: write `A < B && B < C`";
+        return Ok(Some(String::from_str(alloc, said)?));
+    }
+    if word_is(words, 0, b"let") && has_outer_comma(words) {
+        let said = "unexpected `,`; help: declare each local on a line of its own";
+        return Ok(Some(String::from_str(alloc, said)?));
+    }
+    if word_is(words, 0, b"return") && has_outer_comma(words) {
+        let said = "unexpected `,`; help: return one value";
         return Ok(Some(String::from_str(alloc, said)?));
     }
     if let Some(word) = last_operator(words) {
@@ -246,6 +383,9 @@ fn no_form_words(
             "expected `word`, `lock`, `const`, `local` or `op`, found `{said}`; help: statements belong in an operation"
         );
     }
+    if word_is(words, 1, b"=") && !is_free_name(first) {
+        return format!(in alloc; "cannot assign to `{said}`");
+    }
     if word_is(words, 1, b"==") {
         return format!(in alloc;
             "expected a statement, found a comparison of `{said}`; help: write `=` to assign"
@@ -263,6 +403,25 @@ fn call_words(words: &[&[u8]]) -> Option<&'static str> {
     } else {
         None
     }
+}
+
+/// A call of `cas` or `pick` with too few or too many operands.
+fn count_words(alloc: Global, words: &[&[u8]]) -> Result<Option<String>, AllocError> {
+    if let Some(count) = operand_count(words, "cas") {
+        if count != 3 {
+            return Ok(Some(format!(in alloc;
+                "`cas` takes 3 operands, found {count}; help: write `cas(CELL, OLD, NEW)`"
+            )?));
+        }
+    }
+    if let Some(count) = operand_count(words, "pick") {
+        if count != 1 {
+            return Ok(Some(format!(in alloc;
+                "`pick` takes 1 operand, found {count}; help: write `pick(K)`"
+            )?));
+        }
+    }
+    Ok(None)
 }
 
 /// The row of the word that begins a line.
@@ -357,19 +516,20 @@ fn keyword_words(
     scope: &Scope<'_>,
     words: &[&[u8]],
 ) -> Result<Option<String>, AllocError> {
-    if let Some(said) = late_words(scope, words).or(operation_words(words)) {
+    if let Some(said) = late_words(scope, words) {
+        return Ok(Some(String::from_str(alloc, said)?));
+    }
+    if let Some(said) = declaration_words(alloc, scope, words)? {
+        return Ok(Some(said));
+    }
+    if let Some(said) = operation_words(words) {
         return Ok(Some(String::from_str(alloc, said)?));
     }
     if let Some(word) = slip_for_else(words) {
         return Ok(Some(slip_words(alloc, word, "else")?));
     }
     match after_name(words) {
-        Some(word) => found_words(
-            alloc,
-            "the end of the line after the name",
-            Some(word),
-            NAME_HELP,
-        ),
+        Some((name, next)) => Ok(Some(after_name_words(alloc, words, name, next)?)),
         None => no_name_words(alloc, words),
     }
 }
@@ -381,9 +541,12 @@ fn inner_words(
     words: &[&[u8]],
 ) -> Result<Option<String>, AllocError> {
     let from = if declares(words) { 2 } else { 0 };
-    match misused_among(alloc, scope, words, from)? {
+    if let Some(said) = misused_among(alloc, scope, words, from)? {
+        return Ok(Some(said));
+    }
+    match expression_words(alloc, words)? {
         Some(said) => Ok(Some(said)),
-        None => expression_words(alloc, words),
+        None => count_words(alloc, words),
     }
 }
 
@@ -393,6 +556,15 @@ pub(crate) fn form_words(
     scope: &Scope<'_>,
     words: &[&[u8]],
 ) -> Result<String, AllocError> {
+    if begins_matrix(words) {
+        let first = words.first().map_or("?", |word| shown(word));
+        return format!(in alloc;
+            "expected a line `---` before the matrix, found `{first}`; help: end the source with a line `---`"
+        );
+    }
+    if let Some(said) = called_lock_words(alloc, words)? {
+        return Ok(said);
+    }
     if let Some(foreign) = foreign_words(words) {
         return String::from_str(alloc, foreign);
     }
@@ -470,8 +642,13 @@ pub(crate) fn number_words(
                 "unexpected `-`: numbers are not negative; help: write 4294967295 for -1, since numbers are taken modulo 2^32";
             return String::from_str(alloc, said);
         }
-        let word = shown(word);
-        return format!(in alloc; "expected a number or a constant, found `{word}`");
+        let said = shown(word);
+        if let Some(line) = scope.line_below(word) {
+            return format!(in alloc;
+                "`{said}` is declared below, on line {line}; help: move that line above this one"
+            );
+        }
+        return format!(in alloc; "expected a number or a constant, found `{said}`");
     }
     match no_operand(words) {
         Some(word) if word == sign => String::from_str(

@@ -15,9 +15,10 @@ pub(crate) fn is_keyword(word: &[u8]) -> bool {
     has_name_form(word) && !is_free_name(word)
 }
 
-/// A keyword for which the word may be a slip. A word of one or two bytes is near to too many.
+/// A keyword for which the word, which is none, may be a slip. A word of one or two bytes is near to
+/// too many.
 pub(crate) fn near_keyword(word: &[u8]) -> Option<&'static str> {
-    if word.len() < 3 {
+    if word.len() < 3 || is_keyword(word) {
         return None;
     }
     KEYWORDS

@@ -60,7 +60,11 @@ fn length_out_of_range(scope: &Scope<'_>, words: &[&[u8]]) -> Option<u32> {
 /// The limit that another line passes, by its first word.
 fn other_words(scope: &Scope<'_>, words: &[&[u8]]) -> &'static str {
     if word_is(words, 0, b"word") {
-        "too many shared words; a source has at most 16"
+        if scope.shared_count() < 16 {
+            "array length is out of range (1 to 64)"
+        } else {
+            "too many shared words; a source has at most 16"
+        }
     } else if word_is(words, 0, b"lock") && !scope.is_in_operation() {
         "too many locks; a source has at most 8"
     } else if word_is(words, 0, b"local") {

@@ -47,11 +47,60 @@ fn is_whole_block(words: &[&[u8]]) -> bool
     !word_is(words, 0, b"}") && words.last().is_some_and(|word| *word == b"}".as_slice())
 }
 
+/// Whether a word leaves a block.
+fn jumps(word: &[u8]) -> bool
+    ensures { result ≡ spec.jumps word.now }
+{
+    word == b"return".as_slice() || word == b"break".as_slice() || word == b"continue".as_slice()
+}
+
+/// Whether one of the words leaves a block.
+fn has_jump(words: &[&[u8]]) -> bool
+    ensures { result ≡ spec.has_jump (texts words.now) }
+{
+    words.iter().any(|word| jumps(word))
+}
+
+/// Whether a line is an `if` or a `while` with what it does, and without braces.
+pub(crate) fn is_inline(words: &[&[u8]]) -> bool
+    ensures { result ≡ spec.is_inline (texts words.now) }
+{
+    (word_is(words, 0, b"if") || word_is(words, 0, b"while")) && has_jump(words) && !opens(words)
+}
+
 /// Whether a line is only a `{`, which belongs at the end of the line above.
 fn is_brace_alone(words: &[&[u8]]) -> bool
     ensures { result ≡ spec.is_brace_alone (texts words.now) }
 {
     words.len() == 1 && word_is(words, 0, b"{")
+}
+
+/// Whether a word is another than `-`.
+fn is_no_dash(word: &[u8]) -> bool
+    ensures { result ≡ spec.is_no_dash word.now }
+{
+    word != b"-".as_slice()
+}
+
+/// Whether one of the words is another than `-`.
+fn has_no_dash(words: &[&[u8]]) -> bool
+    ensures { result ≡ spec.has_no_dash (texts words.now) }
+{
+    words.iter().any(|word| is_no_dash(word))
+}
+
+/// Whether a line is nearly `---`, which separates parts: two dashes or more, and nothing else.
+pub(crate) fn is_dashes(words: &[&[u8]]) -> bool
+    ensures { result ≡ spec.is_dashes (texts words.now) }
+{
+    words.len() > 1 && !has_no_dash(words)
+}
+
+/// Whether a line begins as one of a matrix does.
+pub(crate) fn begins_matrix(words: &[&[u8]]) -> bool
+    ensures { result ≡ spec.begins_matrix (texts words.now) }
+{
+    (word_is(words, 0, b"thread") || word_is(words, 0, b"setup")) && !named_by(words).is_empty()
 }
 
 /// A line that begins with `}`.
@@ -95,10 +144,10 @@ fn meant(kind: SourceFaultKind, words: &[&[u8]]) -> Mending
 {
     if matches!(kind, SourceFaultKind::Missing) || word_is(words, 0, b"object") {
         keep(0, b"object a")
-    } else if is_whole_block(words) || is_brace_alone(words) {
+    } else if is_whole_block(words) || is_brace_alone(words) || is_inline(words) {
         keep(0, b"")
     } else if word_is(words, 0, b"let") || word_is(words, 0, b"const") {
-        keep(2, b"= 0")
+        keep(2, b"= 1")
     } else if word_is(words, 0, b"word") && word_is(words, 2, b"[") {
         keep(2, b"[1]")
     } else if word_is(words, 0, b"word") || word_is(words, 0, b"lock") {

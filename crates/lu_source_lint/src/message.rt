@@ -13,6 +13,12 @@ pub enum Warning {
 
     /// A loop that never ends, and that others see nothing of.
     EndlessLoop,
+
+    /// A loop that reads shared words over and over until another thread changes one.
+    SpinningLoop,
+
+    /// An `await` that compares with a condition that has no parentheses around it.
+    AwaitedCondition,
 }
 
 /// What is said of a line.

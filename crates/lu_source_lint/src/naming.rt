@@ -1,7 +1,7 @@
 //! What is said of a name that is not declared, is declared twice, or is not used as what it is.
 
 use crate::foreign::{foreign_field, foreign_word};
-use crate::keyword::near_keyword;
+use crate::keyword::{is_keyword, near_keyword};
 use crate::meaning::word_is;
 use crate::scope::{Declared, Scope};
 use lu_source_text::is_free_name;
@@ -54,6 +54,32 @@ fn is_called(words: &[&[u8]], name: &[u8]) -> bool {
     place.is_some_and(|place| word_is(words, place.saturating_add(1), b"("))
 }
 
+/// Whether the line locks or unlocks.
+fn locks(words: &[&[u8]]) -> bool {
+    word_is(words, 0, b"lock") || word_is(words, 0, b"unlock")
+}
+
+/// A name that is declared below, or nowhere and is that of a lock.
+fn outer_words(
+    alloc: Global,
+    scope: &Scope<'_>,
+    words: &[&[u8]],
+    name: &[u8],
+) -> Result<Option<String>, AllocError> {
+    let said = shown(name);
+    if let Some(line) = scope.line_below(name) {
+        return Ok(Some(format!(in alloc;
+            "`{said}` is declared below, on line {line}; help: move that line above the operation"
+        )?));
+    }
+    if !locks(words) || scope.near(name).is_some() {
+        return Ok(None);
+    }
+    Ok(Some(format!(in alloc;
+        "cannot find lock `{said}`; help: declare it with `lock {said}` outside of the operations"
+    )?))
+}
+
 /// A name that is not declared, in a line with these words.
 fn unknown_words(
     alloc: Global,
@@ -62,6 +88,9 @@ fn unknown_words(
     name: &[u8],
 ) -> Result<String, AllocError> {
     let said = shown(name);
+    if let Some(said) = outer_words(alloc, scope, words, name)? {
+        return Ok(said);
+    }
     if let Some(keyword) = meant_keyword(scope, words, name) {
         return format!(in alloc;
             "cannot find `{said}` in this scope; help: a similar keyword exists: `{keyword}`"
@@ -101,7 +130,11 @@ fn misuse_words(
         Declared::Operation if next == b"(".as_slice() => format!(in alloc;
             "cannot call `{name}`: an operation cannot call another one"
         )?,
+        Declared::Operation if is_assigned => format!(in alloc;
+            "cannot assign to operation `{name}`"
+        )?,
         Declared::Operation => format!(in alloc; "`{name}` is an operation and has no value")?,
+        Declared::Object if is_assigned => format!(in alloc; "cannot assign to object `{name}`")?,
         Declared::Object => format!(in alloc; "`{name}` is the object and has no value")?,
         Declared::Array if !is_indexed => format!(in alloc;
             "`{name}` is an array; help: write `{name}[EXPR]`"
@@ -144,26 +177,27 @@ pub(crate) fn misused_among(
     Ok(None)
 }
 
-/// A name after `lock` or `unlock` in an operation that is not a lock.
+/// A word after `lock` or `unlock` in an operation that is not a lock.
 fn no_lock<'a>(scope: &Scope<'_>, words: &[&'a [u8]]) -> Option<&'a [u8]> {
-    let locks = word_is(words, 0, b"lock") || word_is(words, 0, b"unlock");
     let name = *words.get(1)?;
-    if locks && scope.is_in_operation() && scope.declared(name) != Some(Declared::Lock) {
+    if locks(words) && scope.is_in_operation() && scope.declared(name) != Some(Declared::Lock) {
         Some(name)
     } else {
         None
     }
 }
 
-/// A name after `await` or `cas(` that is a value of the thread's own, or a constant.
+/// A word after `await` or `cas(` that is no name, or that of a value of the thread's own or of a
+/// constant.
 fn no_cell<'a>(scope: &Scope<'_>, words: &[&'a [u8]]) -> Option<&'a [u8]> {
     let name = match words.iter().position(|word| *word == b"cas".as_slice()) {
         Some(cas) => *words.get(cas.saturating_add(2))?,
         None if word_is(words, 0, b"await") => *words.get(1)?,
         None => return None,
     };
-    match scope.value_declared(name)? {
-        Declared::Constant | Declared::Argument | Declared::Local => Some(name),
+    match scope.value_declared(name) {
+        Some(Declared::Constant | Declared::Argument | Declared::Local) => Some(name),
+        None if !is_free_name(name) => Some(name),
         _ => None,
     }
 }
@@ -179,11 +213,68 @@ fn other_kind_words(
         (None, Some(name)) => (name, "a shared word"),
         (None, None) => return Ok(None),
     };
+    let said = shown(name);
+    if is_keyword(name) {
+        return Ok(Some(format!(in alloc; "expected {expected}, found keyword `{said}`")?));
+    }
+    if !is_free_name(name) {
+        return Ok(Some(format!(in alloc; "expected {expected}, found `{said}`")?));
+    }
     let Some(declared) = scope.declared(name) else {
         return Ok(None);
     };
-    let (name, kind) = (shown(name), declared.words());
-    Ok(Some(format!(in alloc; "expected {expected}, found `{name}`, which is {kind}")?))
+    let kind = declared.words();
+    Ok(Some(format!(in alloc; "expected {expected}, found `{said}`, which is {kind}")?))
+}
+
+/// A lock that is called as in other languages, `m.lock()` or `lock(m)`: the sign, and the words that
+/// lock it.
+fn called_lock<'a>(words: &[&'a [u8]]) -> Option<(&'a [u8], &'a [u8], &'a [u8])> {
+    for three in words.windows(3) {
+        if let [first, sign, last] = three {
+            if *sign == b".".as_slice() && locks(&[*last]) && is_free_name(first) {
+                return Some((*sign, *last, *first));
+            }
+            if *sign == b"(".as_slice() && locks(&[*first]) && is_free_name(last) {
+                return Some((*sign, *first, *last));
+            }
+        }
+    }
+    None
+}
+
+/// A line in which a lock is called as in other languages.
+pub(crate) fn called_lock_words(
+    alloc: Global,
+    words: &[&[u8]],
+) -> Result<Option<String>, AllocError> {
+    let Some((sign, verb, name)) = called_lock(words) else {
+        return Ok(None);
+    };
+    let (sign, verb, name) = (shown(sign), shown(verb), shown(name));
+    Ok(Some(format!(in alloc; "unexpected `{sign}`; help: write `{verb} {name}`")?))
+}
+
+/// The first name among these words for which there is no room, or else the first argument.
+fn lost_among<'a>(scope: &Scope<'_>, words: &[&'a [u8]]) -> Option<&'a [u8]> {
+    let lost = words.iter().find(|word| scope.is_beyond_limit(word));
+    lost.or(words.iter().find(|word| scope.is_argument(word)))
+        .copied()
+}
+
+/// A line in which each name is declared above as what it is used for, but where one may have been
+/// declared in error.
+fn last_words(alloc: Global, scope: &Scope<'_>, words: &[&[u8]]) -> Result<String, AllocError> {
+    if let Some(name) = lost_among(scope, words) {
+        let name = shown(name);
+        return format!(in alloc;
+            "cannot use `{name}`, since the line that declares it has an error"
+        );
+    }
+    String::from_str(
+        alloc,
+        "a name on this line is not declared, perhaps because of an error above, or cannot be used here",
+    )
 }
 
 /// A name that is declared above as this, and declared again.
@@ -240,6 +331,9 @@ pub(crate) fn name_words(
     if word_is(words, 0, b"op") {
         return operation_words(alloc, scope, words);
     }
+    if let Some(said) = called_lock_words(alloc, words)? {
+        return Ok(said);
+    }
     let declares = declares(words) && !(scope.is_in_operation() && word_is(words, 0, b"lock"));
     if declares {
         if let Some(said) = again_words(alloc, scope, words)? {
@@ -264,8 +358,5 @@ pub(crate) fn name_words(
     if let Some(said) = misused_among(alloc, scope, words, from)? {
         return Ok(said);
     }
-    String::from_str(
-        alloc,
-        "a name on this line is not declared, perhaps because of an error above, or cannot be used here",
-    )
+    last_words(alloc, scope, read)
 }

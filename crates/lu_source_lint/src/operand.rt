@@ -102,6 +102,44 @@ pub(crate) fn chains_comparisons(words: &[&[u8]]) -> bool {
     false
 }
 
+/// How many operands a call of this name has, where the words have one.
+pub(crate) fn operand_count(words: &[&[u8]], name: &str) -> Option<usize> {
+    let place = words.iter().position(|word| *word == name.as_bytes())?;
+    if !word_is(words, place.saturating_add(1), b"(") {
+        return None;
+    }
+    let (mut depth, mut count) = (0usize, 0usize);
+    for word in words.iter().skip(place.saturating_add(2)) {
+        if is_one_of(word, &[")", "]"]) {
+            if depth == 0 {
+                return Some(count);
+            }
+            depth = depth.saturating_sub(1);
+        } else if is_one_of(word, &["(", "["]) {
+            depth = depth.saturating_add(1);
+        }
+        if count == 0 || (depth == 0 && is_one_of(word, &[","])) {
+            count = count.saturating_add(1);
+        }
+    }
+    None
+}
+
+/// Whether there is a comma among the words that is not in parentheses or brackets.
+pub(crate) fn has_outer_comma(words: &[&[u8]]) -> bool {
+    let mut depth = 0usize;
+    for word in words {
+        if is_one_of(word, &["(", "["]) {
+            depth = depth.saturating_add(1);
+        } else if is_one_of(word, &[")", "]"]) {
+            depth = depth.saturating_sub(1);
+        } else if depth == 0 && is_one_of(word, &[","]) {
+            return true;
+        }
+    }
+    false
+}
+
 /// How often a sign is among the words.
 fn count_of(words: &[&[u8]], sign: &str) -> usize {
     words

@@ -2,7 +2,7 @@
 
 use crate::forming::{form_words, number_words};
 use crate::limit::limit_words;
-use crate::meaning::word_is;
+use crate::meaning::{is_dashes, word_is};
 use crate::message::{SourceMessage, Warning, What};
 use crate::naming::{name_words, shown};
 use crate::scope::{Leaving, Scope};
@@ -12,7 +12,7 @@ use std::alloc::{AllocError, Global};
 /// Whether a `return`, `break` or `continue` leaves the block before the line.
 fn is_left(scope: &Scope<'_>) -> bool {
     match scope.leaving() {
-        Some(leaving) => leaving.word != "loop" && leaving.word != "else",
+        Some(Leaving { word, .. }) => word != "loop" && word != "else",
         None => false,
     }
 }
@@ -20,7 +20,10 @@ fn is_left(scope: &Scope<'_>) -> bool {
 /// A statement that is not reached.
 fn unreachable_words(alloc: Global, scope: &Scope<'_>) -> Result<String, AllocError> {
     let Some(Leaving { word, line }) = scope.leaving() else {
-        return String::from_str(alloc, "unreachable statement");
+        return String::from_str(
+            alloc,
+            "unreachable statement, perhaps because of an error above",
+        );
     };
     match word {
         "loop" => format!(in alloc;
@@ -70,8 +73,73 @@ fn fault_words(
     String::from_str(alloc, text)
 }
 
-/// What is odd about a line with these words.
-fn warning_words(alloc: Global, warning: Warning, words: &[&[u8]]) -> Result<String, AllocError> {
+/// The shared word that a loop compares with something else, what it compares it with, and the sign
+/// with which an `await` ends where the loop does.
+fn awaited<'a>(
+    scope: &Scope<'_>,
+    words: &[&'a [u8]],
+) -> Option<(&'a [u8], &'static str, &'a [u8])> {
+    let [_, left, sign, right, _] = words else {
+        return None;
+    };
+    let until = match shown(sign) {
+        "==" => "!=",
+        "!=" => "==",
+        _ => return None,
+    };
+    match (scope.is_shared(left), scope.is_shared(right)) {
+        (true, false) => Some((*left, until, *right)),
+        (false, true) => Some((*right, until, *left)),
+        _ => None,
+    }
+}
+
+/// The cell that a loop tries to change with `cas`, and the value from which it does.
+fn tried<'a>(words: &[&'a [u8]]) -> Option<(&'a [u8], &'a [u8])> {
+    match words {
+        [_, not, cas, _, cell, comma, old, ..]
+            if *not == b"!".as_slice() && *cas == b"cas".as_slice() && *comma == b",".as_slice() =>
+            Some((*cell, *old)),
+        _ => None,
+    }
+}
+
+/// A loop that spins.
+fn spinning_words(alloc: Global, scope: &Scope<'_>, words: &[&[u8]]) -> Result<String, AllocError> {
+    if let Some((cell, sign, value)) = awaited(scope, words) {
+        let (cell, value) = (shown(cell), shown(value));
+        return format!(in alloc;
+            "this loop waits for another thread; help: write `await {cell} {sign} {value}`"
+        );
+    }
+    if let Some((cell, old)) = tried(words) {
+        let (cell, old) = (shown(cell), shown(old));
+        return format!(in alloc;
+            "this loop waits for another thread; help: write `await {cell} == {old}` in it"
+        );
+    }
+    String::from_str(
+        alloc,
+        "this loop waits for another thread; help: write `await` where it waits",
+    )
+}
+
+/// An `await` that compares with a condition.
+fn awaited_words(alloc: Global, words: &[&[u8]]) -> Result<String, AllocError> {
+    let sign = words.iter().find(|word| **word == b"==".as_slice() || **word == b"!=".as_slice());
+    let sign = sign.map_or("==", |sign| shown(sign));
+    format!(in alloc;
+        "everything after `{sign}` is one expression; help: put it in parentheses, or wait for less and test the rest in an `if`"
+    )
+}
+
+/// What is odd about a line with these words, in this scope.
+fn warning_words(
+    alloc: Global,
+    warning: Warning,
+    scope: &Scope<'_>,
+    words: &[&[u8]],
+) -> Result<String, AllocError> {
     let name = words.get(1).map_or("?", |name| shown(name));
     match warning {
         Warning::UnusedLocal => { format!(in alloc; "local `{name}` is never read") }
@@ -80,6 +148,8 @@ fn warning_words(alloc: Global, warning: Warning, words: &[&[u8]]) -> Result<Str
             alloc,
             "this loop never ends, and no other thread can see what it does: it has no `break`, `return`, lock or shared word",
         ),
+        Warning::SpinningLoop => spinning_words(alloc, scope, words),
+        Warning::AwaitedCondition => awaited_words(alloc, words),
     }
 }
 
@@ -100,6 +170,21 @@ fn end_words(alloc: Global, scope: &Scope<'_>) -> Result<String, AllocError> {
     }
 }
 
+/// A line that is nearly what separates parts, with this many dashes.
+fn separator_words(alloc: Global, line: &[u8], dashes: usize) -> Result<String, AllocError> {
+    if dashes != 3 {
+        return format!(in alloc;
+            "unexpected line of {dashes} dashes; help: parts are separated by lines that are exactly `---`"
+        );
+    }
+    let said = if line.contains(&b'\r') {
+        "a carriage return after `---`; help: end each line with a newline alone (LF)"
+    } else {
+        "whitespace next to `---`; help: parts are separated by lines that are exactly `---`"
+    };
+    String::from_str(alloc, said)
+}
+
 /// What a message says of the lines of its source, in one line, with what to do.
 ///
 /// # Errors
@@ -116,11 +201,12 @@ pub fn wording(
         return end_words(alloc, &Scope::after(alloc, above)?);
     };
     let words = source_words(alloc, line)?;
+    if is_dashes(&words) {
+        return separator_words(alloc, line, words.len());
+    }
+    let scope = Scope::between(alloc, above, below)?;
     match message.what {
-        What::Fault(kind) => {
-            let scope = Scope::between(alloc, above, below)?;
-            fault_words(alloc, kind, &scope, &words)
-        }
-        What::Warning(warning) => warning_words(alloc, warning, &words),
+        What::Fault(kind) => fault_words(alloc, kind, &scope, &words),
+        What::Warning(warning) => warning_words(alloc, warning, &scope, &words),
     }
 }

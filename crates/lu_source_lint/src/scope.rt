@@ -1,7 +1,8 @@
 //! What the names of a source are, for its messages.
 
-use crate::meaning::{opens, word_is};
+use crate::meaning::{is_inline, opens, word_is};
 use crate::spelling::is_near;
+use indexmap::IndexMap;
 use lu_source_text::{is_free_name, source_words};
 use lu_text::value_in;
 use std::alloc::{AllocError, Global};
@@ -48,9 +49,6 @@ struct Declaration<'a> {
 
     /// How many blocks there are around it.
     depth: usize,
-
-    /// The number that a constant stands for, where its line says one.
-    value: Option<u32>,
 }
 
 /// A block that is open.
@@ -62,8 +60,17 @@ struct Block {
     /// How far that line is indented.
     indent: usize,
 
-    /// The word that began it: `op`, `if`, `else`, `while`, `loop`, or none of them.
+    /// The word that began it: `op`, `if`, `else if`, `else`, `while` or `loop`.
     word: &'static str,
+}
+
+/// A shared word, a lock or a constant that is declared below.
+#[derive(Clone, Copy, Drop)]
+struct Later<'a> {
+    name: &'a [u8],
+
+    /// Its line, counted from 1.
+    line: usize,
 }
 
 /// What leaves a block, so that no line after it in the block is reached.
@@ -80,8 +87,11 @@ pub(crate) struct Leaving {
 /// What the lines above a line declare, and what is open there.
 #[derive(Drop)]
 pub(crate) struct Scope<'a> {
-    /// What is declared in the blocks that are open.
+    /// What is declared in the blocks that are open, that of the innermost last.
     names: Vec<Declaration<'a>>,
+
+    /// The numbers that constants stand for, where their lines say one.
+    constants: IndexMap<Vec<u8>, u32>,
 
     /// The blocks in which the line is, the innermost last.
     open: Vec<Block>,
@@ -97,6 +107,12 @@ pub(crate) struct Scope<'a> {
 
     /// Whether a line sets `local`.
     has_local: bool,
+
+    /// What is declared below.
+    later: Vec<Later<'a>>,
+
+    /// Whether the next line is only a `{`.
+    brace_below: bool,
 }
 
 /// How many blanks a line begins with.
@@ -122,9 +138,10 @@ fn kind_of(words: &[&[u8]]) -> Option<Declared> {
 }
 
 /// Whether a line begins a block, also where its `{` is missing; a `{` alone belongs to the line
-/// above.
+/// above. An `if` that has no braces begins none.
 fn begins_block(words: &[&[u8]]) -> bool {
-    if word_is(words, 0, b"{") || words.last().is_some_and(|word| *word == b"}".as_slice()) {
+    let is_whole = words.last().is_some_and(|word| *word == b"}".as_slice());
+    if word_is(words, 0, b"{") || is_whole || is_inline(words) {
         return false;
     }
     opens(words)
@@ -132,8 +149,12 @@ fn begins_block(words: &[&[u8]]) -> bool {
         || word_is(words, 0, b"if")
         || word_is(words, 0, b"while")
         || word_is(words, 0, b"loop")
-        || word_is(words, 0, b"else")
-        || word_is(words, 1, b"else")
+        || begins_else(words)
+}
+
+/// Whether a line begins the last block of an `if`, whose test is false.
+fn begins_else(words: &[&[u8]]) -> bool {
+    word_is(words, 0, b"else") || word_is(words, 1, b"else")
 }
 
 /// The word that begins the block of a line.
@@ -144,11 +165,18 @@ fn block_word(words: &[&[u8]]) -> &'static str {
         "while"
     } else if word_is(words, 0, b"loop") {
         "loop"
-    } else if word_is(words, 0, b"else") || word_is(words, 1, b"else") {
+    } else if word_is(words, 1, b"else") && word_is(words, 2, b"if") {
+        "else if"
+    } else if begins_else(words) {
         "else"
     } else {
         "if"
     }
+}
+
+/// Whether a line that begins with this word declares a shared word, a lock or a constant.
+fn is_outer(first: &[u8]) -> bool {
+    first == b"word".as_slice() || first == b"lock".as_slice() || first == b"const".as_slice()
 }
 
 /// The word of a line that leaves its block.
@@ -169,28 +197,44 @@ impl<'a> Scope<'a> {
         below: &[&'a [u8]],
     ) -> Result<Scope<'a>, AllocError> {
         let mut scope = Scope::after(alloc, above)?;
-        for line in below {
+        let first = above.len().saturating_add(2);
+        for (index, line) in below.iter().enumerate() {
             let words = source_words(alloc, line)?;
-            if word_is(&words, 0, b"op") {
-                scope.declare_named(&words, Declared::Operation, 0)?;
-            }
+            scope.brace_below |= index == 0 && words.len() == 1 && word_is(&words, 0, b"{");
+            scope.declare_below(first.saturating_add(index), &words)?;
         }
         Ok(scope)
+    }
+
+    /// Adds what a line below with these words declares.
+    fn declare_below(&mut self, line: usize, words: &[&'a [u8]]) -> Result<(), AllocError> {
+        if word_is(words, 0, b"op") {
+            return self.declare_named(words, Declared::Operation, 0);
+        }
+        if let [first, name, ..] = words {
+            if is_outer(first) {
+                self.later.push(Later { name, line })?;
+            }
+        }
+        Ok(())
     }
 
     /// The scope of the line after these.
     pub(crate) fn after(alloc: Global, lines: &[&'a [u8]]) -> Result<Scope<'a>, AllocError> {
         let mut scope = Scope {
             names: Vec::new(alloc),
+            constants: IndexMap::new(alloc),
             open: Vec::new(alloc),
             unclosed: None,
             leaving: None,
             lines: 0,
             has_local: false,
+            later: Vec::new(alloc),
+            brace_below: false,
         };
         for (index, line) in lines.iter().enumerate() {
             let words = source_words(alloc, line)?;
-            scope.declare(&words)?;
+            scope.declare(alloc, &words)?;
             scope.count(&words);
             scope.nest(index.saturating_add(1), indent_of(line), &words)?;
         }
@@ -198,19 +242,8 @@ impl<'a> Scope<'a> {
     }
 
     /// Adds a name that is declared so, with this many blocks around it.
-    fn add(
-        &mut self,
-        name: &'a [u8],
-        kind: Declared,
-        depth: usize,
-        value: Option<u32>,
-    ) -> Result<(), AllocError> {
-        self.names.push(Declaration {
-            name,
-            kind,
-            depth,
-            value,
-        })?;
+    fn add(&mut self, name: &'a [u8], kind: Declared, depth: usize) -> Result<(), AllocError> {
+        self.names.push(Declaration { name, kind, depth })?;
         Ok(())
     }
 
@@ -221,18 +254,38 @@ impl<'a> Scope<'a> {
         kind: Declared,
         depth: usize,
     ) -> Result<(), AllocError> {
-        let value = match (kind, words.get(3)) {
-            (Declared::Constant, Some(word)) => self.number(word),
-            _ => None,
-        };
         match words.get(1) {
-            Some(name) if is_free_name(name) => self.add(name, kind, depth, value),
+            Some(name) if is_free_name(name) => self.add(name, kind, depth),
             _ => Ok(()),
         }
     }
 
+    /// Notes the number that a constant stands for, which is declared by these words.
+    fn note_constant(&mut self, alloc: Global, words: &[&'a [u8]]) -> Result<(), AllocError> {
+        let (Some(name), Some(word)) = (words.get(1), words.get(3)) else {
+            return Ok(());
+        };
+        let Some(value) = self.number(word) else {
+            return Ok(());
+        };
+        if !self.constants.contains_key(*name) {
+            self.constants.insert(Vec::from_slice(alloc, name)?, value)?;
+        }
+        Ok(())
+    }
+
+    /// Adds the arguments of an operation that is declared by these words.
+    fn declare_arguments(&mut self, words: &[&'a [u8]], depth: usize) -> Result<(), AllocError> {
+        for word in words.iter().skip(2) {
+            if is_free_name(word) {
+                self.add(word, Declared::Argument, depth)?;
+            }
+        }
+        Ok(())
+    }
+
     /// Adds what a line with these words declares. In an operation, `lock NAME` declares nothing.
-    fn declare(&mut self, words: &[&'a [u8]]) -> Result<(), AllocError> {
+    fn declare(&mut self, alloc: Global, words: &[&'a [u8]]) -> Result<(), AllocError> {
         let depth = self.open.len();
         let Some(kind) = kind_of(words) else {
             return Ok(());
@@ -240,14 +293,12 @@ impl<'a> Scope<'a> {
         if kind == Declared::Lock && depth > 0 {
             return Ok(());
         }
-        if kind == Declared::Operation {
-            for word in words.iter().skip(2) {
-                if is_free_name(word) {
-                    self.add(word, Declared::Argument, depth.saturating_add(1), None)?;
-                }
-            }
+        self.declare_named(words, kind, depth)?;
+        match kind {
+            Declared::Constant => self.note_constant(alloc, words),
+            Declared::Operation => self.declare_arguments(words, depth.saturating_add(1)),
+            _ => Ok(()),
         }
-        self.declare_named(words, kind, depth)
     }
 
     /// Counts a line with these words, where it is in an operation, and notes a `local`.
@@ -272,8 +323,20 @@ impl<'a> Scope<'a> {
                 self.leaving = Some(Leaving { word, line });
             }
         }
+        self.forget_inner();
+    }
+
+    /// Forgets what was declared in blocks that are no longer open.
+    fn forget_inner(&mut self) {
         let depth = self.open.len();
-        self.names.retain(|declaration| declaration.depth <= depth);
+        let forgotten = self
+            .names
+            .iter()
+            .rev()
+            .take_while(|declaration| declaration.depth > depth)
+            .count();
+        self.names
+            .truncate(self.names.len().saturating_sub(forgotten));
     }
 
     /// Closes the block that a line closes, and opens the one that it opens.
@@ -298,6 +361,16 @@ impl<'a> Scope<'a> {
     /// Whether the line is in an operation.
     pub(crate) fn is_in_operation(&self) -> bool {
         !self.open.is_empty()
+    }
+
+    /// The word that began the innermost block that is open, and its line.
+    pub(crate) fn innermost(&self) -> Option<(&'static str, usize)> {
+        self.open.last().map(|block| (block.word, block.line))
+    }
+
+    /// Whether the next line is only a `{`.
+    pub(crate) fn has_brace_below(&self) -> bool {
+        self.brace_below
     }
 
     /// Whether the line is in a loop.
@@ -325,15 +398,21 @@ impl<'a> Scope<'a> {
             .count()
     }
 
+    /// Whether a name is that of an argument.
+    pub(crate) fn is_argument(&self, name: &[u8]) -> bool {
+        self.value_declared(name) == Some(Declared::Argument)
+    }
+
+    /// Whether a name is that of a shared word.
+    pub(crate) fn is_shared(&self, name: &[u8]) -> bool {
+        self.value_declared(name) == Some(Declared::Word)
+    }
+
     /// The number that a word is, or that it stands for as a constant.
     pub(crate) fn number(&self, word: &[u8]) -> Option<u32> {
         match value_in(word) {
             Some(number) => Some(number),
-            None => self
-                .names
-                .iter()
-                .find(|declaration| declaration.name == word)
-                .and_then(|declaration| declaration.value),
+            None => self.constants.get(word).copied(),
         }
     }
 
@@ -376,6 +455,38 @@ impl<'a> Scope<'a> {
                 .find(|declaration| declaration.name == name)
                 .map(|declaration| declaration.kind),
         )
+    }
+
+    /// The line below that declares the name.
+    pub(crate) fn line_below(&self, name: &[u8]) -> Option<usize> {
+        self.later
+            .iter()
+            .find(|later| later.name == name)
+            .map(|later| later.line)
+    }
+
+    /// How many names of these kinds are declared before the name.
+    fn count_before(&self, name: &[u8], kinds: &[Declared]) -> usize {
+        self.names
+            .iter()
+            .take_while(|declaration| declaration.name != name)
+            .filter(|declaration| kinds.contains(&declaration.kind))
+            .count()
+    }
+
+    /// Whether there is no room for the name, since as many are declared before it as there may be.
+    pub(crate) fn is_beyond_limit(&self, name: &[u8]) -> bool {
+        match self.value_declared(name) {
+            Some(Declared::Word | Declared::Array) => {
+                self.count_before(name, &[Declared::Word, Declared::Array]) >= 16
+            }
+            Some(Declared::Lock) => self.count_before(name, &[Declared::Lock]) >= 8,
+            Some(Declared::Argument) => self.count_before(name, &[Declared::Argument]) >= 4,
+            Some(Declared::Local) => {
+                self.count_before(name, &[Declared::Argument, Declared::Local]) >= 8
+            }
+            _ => false,
+        }
     }
 
     /// A declared name for which this one may be a slip.

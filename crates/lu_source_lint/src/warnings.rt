@@ -17,6 +17,16 @@ use std::alloc::{AllocError, Global};
 /// The most blocks that are open at a time.
 const MOST_BLOCKS: usize = 16;
 
+/// What a loop may do in none of its lines.
+#[derive(Clone, Copy, Drop)]
+enum Sought {
+    /// Anything that leaves the loop, or that others see.
+    Acts,
+
+    /// Anything that changes the thread's own values or a shared word, or that waits.
+    Changes,
+}
+
 /// Whether one of the words is this one.
 fn is_among(words: &[&[u8]], word: &[u8]) -> bool
     ensures { result ≡ is_among (texts words.now) word.now }
@@ -86,6 +96,33 @@ fn acts(shared: &[&[u8]], words: &[&[u8]]) -> bool
     words.iter().any(|word| word_acts(shared, word))
 }
 
+/// Whether a word assigns, locks or waits.
+fn word_changes(word: &[u8]) -> bool
+    ensures { result ≡ spec.word_changes word.now }
+{
+    word == b"=".as_slice()
+        || word == b"lock".as_slice()
+        || word == b"unlock".as_slice()
+        || word == b"await".as_slice()
+}
+
+/// Whether one of the words assigns, locks or waits.
+fn changes(words: &[&[u8]]) -> bool
+    ensures { result ≡ spec.changes (texts words.now) }
+{
+    words.iter().any(|word| word_changes(word))
+}
+
+/// Whether a line does what is sought.
+fn does(shared: &[&[u8]], sought: Sought, words: &[&[u8]]) -> bool
+    ensures { result ≡ spec.does (texts shared.now) sought (texts words.now) }
+{
+    match sought {
+        Sought::Acts => acts(shared, words),
+        Sought::Changes => changes(words),
+    }
+}
+
 /// How many blocks are open after a line, where this many are before it.
 fn depth_after(depth: usize, words: &[&[u8]]) -> usize
     requires { depth ≤ MOST_BLOCKS }
@@ -96,22 +133,22 @@ fn depth_after(depth: usize, words: &[&[u8]]) -> usize
     depth.saturating_sub(closed) + opened
 }
 
-/// Whether a line acts, or stands in more blocks than there may be.
-fn stops(shared: &[&[u8]], depth: usize, words: &[&[u8]]) -> bool
-    ensures stops { result ≡ spec.stops (texts shared.now) depth (texts words.now) }
+/// Whether a line does what is sought, or is in more blocks than there may be.
+fn stops(shared: &[&[u8]], sought: Sought, depth: usize, words: &[&[u8]]) -> bool
+    ensures stops { result ≡ spec.stops (texts shared.now) sought depth (texts words.now) }
     ensures few { result ≡ false → depth ≤ MOST_BLOCKS }
 {
-    depth > MOST_BLOCKS || acts(shared, words)
+    depth > MOST_BLOCKS || does(shared, sought, words)
 }
 
-/// Whether a loop comes to its end, and no line before that acts.
-fn is_endless(shared: &[&[u8]], lines: &[Vec<&[u8]>]) -> bool
-    ensures { result ≡ spec.is_endless (texts shared.now) 1 (lines_in lines.now) }
+/// Whether a loop comes to its end, and no line before that does what is sought.
+fn ends_without(shared: &[&[u8]], sought: Sought, lines: &[Vec<&[u8]>]) -> bool
+    ensures { result ≡ spec.ends_without (texts shared.now) sought 1 (lines_in lines.now) }
 {
     let mut depth = 1;
     for line in lines {
         let words = line.as_slice();
-        if stops(shared, depth, words) {
+        if stops(shared, sought, depth, words) {
             return false;
         }
         depth = depth_after(depth, words);
@@ -122,7 +159,87 @@ fn is_endless(shared: &[&[u8]], lines: &[Vec<&[u8]>]) -> bool
     false
 }
 
+/// Whether one of the words is a shared word.
+fn names_shared(shared: &[&[u8]], words: &[&[u8]]) -> bool
+    ensures { result ≡ spec.names_shared (texts shared.now) (texts words.now) }
+{
+    words.iter().any(|word| is_among(shared, word))
+}
+
+/// Whether one of the words of the first of these lines is a shared word.
+fn first_names_shared(shared: &[&[u8]], lines: &[Vec<&[u8]>]) -> bool
+    ensures { result ≡ spec.first_names_shared (texts shared.now) (lines_in lines.now) }
+{
+    lines
+        .get(0)
+        .is_some_and(|words| names_shared(shared, words))
+}
+
+/// Whether a loop tests a shared word: a `while` in its condition, a `loop` in its first line.
+fn tests_shared(shared: &[&[u8]], words: &[&[u8]], below: &[Vec<&[u8]>]) -> bool
+    ensures { result
+        ≡ spec.tests_shared (texts shared.now) (texts words.now) (lines_in below.now) }
+{
+    (word_is(words, 0, b"while") && names_shared(shared, words))
+        || (word_is(words, 0, b"loop") && first_names_shared(shared, below))
+}
+
+/// Whether a line begins a loop that can only end when another thread changes a shared word.
+fn spins(shared: &[&[u8]], words: &[&[u8]], below: &[Vec<&[u8]>]) -> bool
+    ensures { result ≡ spec.spins (texts shared.now) (texts words.now) (lines_in below.now) }
+{
+    tests_shared(shared, words, below) && ends_without(shared, Sought::Changes, below)
+}
+
+/// Whether a word is `==` or `!=`.
+fn compares(word: &[u8]) -> bool
+    ensures { result ≡ spec.compares word.now }
+{
+    word == b"==".as_slice() || word == b"!=".as_slice()
+}
+
+/// Whether a word is `&&` or `||`.
+fn joins(word: &[u8]) -> bool
+    ensures { result ≡ spec.joins word.now }
+{
+    word == b"&&".as_slice() || word == b"||".as_slice()
+}
+
+/// Whether one of the words is `&&` or `||`.
+fn has_joint(words: &[&[u8]]) -> bool
+    ensures { result ≡ spec.has_joint (texts words.now) }
+{
+    words.iter().any(|word| joins(word))
+}
+
+/// Where the first `==` or `!=` is, or the number of words where there is none.
+fn comparison(words: &[&[u8]]) -> usize
+    ensures { result ≡ spec.comparison (texts words.now) }
+{
+    words
+        .iter()
+        .position(|word| compares(word))
+        .unwrap_or(words.len())
+}
+
+/// The words from the first `==` or `!=` on.
+fn from_comparison<'a, 'b>(words: &'b [&'a [u8]]) -> &'b [&'a [u8]]
+    ensures { texts result.now ≡ spec.from_comparison (texts words.now) }
+{
+    let (_, rest) = words.split_at(comparison(words).min(words.len()));
+    rest
+}
+
+/// Whether a line waits for the value of a condition that has no parentheses around it.
+fn awaits_condition(words: &[&[u8]]) -> bool
+    ensures { result ≡ spec.awaits_condition (texts words.now) }
+{
+    let awaited = from_comparison(words);
+    word_is(words, 0, b"await") && !word_is(awaited, 1, b"(") && has_joint(awaited)
+}
+
 /// What is odd about a line, between those above it and those below it.
+#[tactic(auto, unfolding(crate::specs::Warnings::warning_of))]
 fn warning_of(
     shared: &[&[u8]],
     above: &[Vec<&[u8]>],
@@ -135,8 +252,12 @@ fn warning_of(
         Some(Warning::UnusedLocal)
     } else if word_is(words, 0, b"word") && is_unused(name_of(words), above, below) {
         Some(Warning::UnusedWord)
-    } else if word_is(words, 0, b"loop") && is_endless(shared, below) {
+    } else if word_is(words, 0, b"loop") && ends_without(shared, Sought::Acts, below) {
         Some(Warning::EndlessLoop)
+    } else if spins(shared, words, below) {
+        Some(Warning::SpinningLoop)
+    } else if awaits_condition(words) {
+        Some(Warning::AwaitedCondition)
     } else {
         None
     }

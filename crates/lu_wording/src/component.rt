@@ -478,7 +478,18 @@ fn near_first(word: &[u8]) -> Option<&'static str> {
     }
 }
 
+/// Whether a word begins a comment in other languages.
+fn begins_comment(word: &[u8]) -> bool {
+    word.starts_with(b"//") || word.starts_with(b"/*") || word.starts_with(b"--")
+}
+
 fn missing(alloc: Global, word: &[u8]) -> Result<String, AllocError> {
+    if begins_comment(word) {
+        let word = shown(word);
+        return format!(in alloc;
+            "expected `component NAME` or `object NAME` first, found `{word}`; help: a comment begins with `#`"
+        );
+    }
     let slip = Slip {
         name: near_first(word),
     };

@@ -41,6 +41,29 @@ fn number_wording(alloc: Global, line: &[u8]) -> Result<String, AllocError> {
     }
 }
 
+/// The words for a step of a run that is out of order.
+fn order_wording(alloc: Global, line: &[u8]) -> Result<String, AllocError> {
+    let words = words_of(alloc, line.strip_suffix(b"\n").unwrap_or(line))?;
+    match words.as_slice() {
+        [first, thread, call, ..] if *first == b"return".as_slice() => {
+            let (thread, call) = (shown(thread), shown(call));
+            format!(in alloc;
+                "`return {thread} {call}` without an open `call {thread} {call}`; a call returns once, after it is made"
+            )
+        }
+        [first, thread, call, ..] if *first == b"call".as_slice() => {
+            let (thread, call) = (shown(thread), shown(call));
+            format!(in alloc;
+                "`call {thread} {call}` is out of order; a thread makes its calls in order, and each call returns before the next one"
+            )
+        }
+        _ => String::from_str(
+            alloc,
+            "out of order; a thread makes its calls in order, and each call returns before the next one",
+        ),
+    }
+}
+
 /// The words for a fault of a recorded history of this matrix, on this line.
 pub(crate) fn recorded_wording(
     alloc: Global,
@@ -62,9 +85,6 @@ pub(crate) fn recorded_wording(
                 "the matrix has no such call; it has {threads} {many}, and threads and their calls are numbered from 0"
             )
         }
-        RecordedFaultKind::Order => String::from_str(
-            alloc,
-            "out of order; a thread makes its calls in order, and each call returns before the next one",
-        ),
+        RecordedFaultKind::Order => order_wording(alloc, line.unwrap_or(b"")),
     }
 }

@@ -135,12 +135,36 @@ fn other_operations(
     format!(in alloc; "cannot find operation `{said}`; help: the component has {names}")
 }
 
+/// A word in the place of an operation that is one in another place, as the number of a thread, or
+/// one with a comma after it.
+fn misplaced(
+    alloc: Global,
+    signatures: &[Signature<'_>],
+    name: &[u8],
+) -> Result<Option<String>, AllocError> {
+    let said = shown(name);
+    if value_in(name).is_some() {
+        return Ok(Some(format!(in alloc;
+            "cannot find operation `{said}`; help: leave the number out, since threads are numbered by their lines"
+        )?));
+    }
+    match name.strip_suffix(b",") {
+        Some(before) if signature(signatures, before).is_some() => Ok(Some(format!(in alloc;
+            "cannot find operation `{said}`; help: separate calls with `;`"
+        )?)),
+        _ => Ok(None),
+    }
+}
+
 fn no_operation(
     alloc: Global,
     signatures: &[Signature<'_>],
     name: &[u8],
 ) -> Result<String, AllocError> {
     let said = shown(name);
+    if let Some(said) = misplaced(alloc, signatures, name)? {
+        return Ok(said);
+    }
     if let Some((name, arguments)) = called(signatures, name) {
         return called_wording(alloc, said, name, arguments);
     }
@@ -152,14 +176,41 @@ fn no_operation(
     }
 }
 
-fn arguments(alloc: Global, name: &Name, takes: u8, given: usize) -> Result<String, AllocError> {
-    let name = name.as_str();
+/// Whether one of the words in the place of arguments begins another call.
+fn has_call(signatures: &[Signature<'_>], words: &[&[u8]]) -> bool {
+    words
+        .iter()
+        .any(|word| signature(signatures, word).is_some())
+}
+
+/// A call of an operation that takes another number of arguments than these.
+fn arguments(
+    alloc: Global,
+    signatures: &[Signature<'_>],
+    name: &Name,
+    takes: u8,
+    given: &[&[u8]],
+) -> Result<String, AllocError> {
+    let (name, count) = (name.as_str(), given.len());
     let many = counted(usize::from(takes), "argument", "arguments");
-    format!(in alloc; "`{name}` takes {takes} {many}, found {given}")
+    let help = if has_call(signatures, given) {
+        "; help: separate calls with `;`"
+    } else {
+        ""
+    };
+    format!(in alloc; "`{name}` takes {takes} {many}, found {count}{help}")
 }
 
 fn no_number(alloc: Global, word: &[u8]) -> Result<String, AllocError> {
     let said = shown(word);
+    if word
+        .strip_suffix(b",")
+        .is_some_and(|before| value_in(before).is_some())
+    {
+        return format!(in alloc;
+            "invalid number `{said}`; help: separate arguments with spaces, and calls with `;`"
+        );
+    }
     if is_register(word) || has_name_form(word) {
         return format!(in alloc; "expected a number (0 to 4294967295), found `{said}`");
     }
@@ -197,7 +248,7 @@ fn of_call(
         },
         MatrixFaultKind::Arguments => match arity(signatures, name) {
             Some((name, takes)) if usize::from(takes) != rest.len() => {
-                Ok(Some(arguments(alloc, name, takes, rest.len())?))
+                Ok(Some(arguments(alloc, signatures, name, takes, rest)?))
             }
             _ => Ok(None),
         },

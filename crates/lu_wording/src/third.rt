@@ -92,6 +92,11 @@ pub(crate) fn schedule_form_wording(alloc: Global, text: &[u8]) -> Result<String
         let found = FoundLine {
             line: first_line(text),
         };
+        if text.starts_with(b"history ") {
+            return format!(in alloc;
+                "expected `lineup spec 1` first, found {found}; help: a specification begins with `lineup spec 1`"
+            );
+        }
         return format!(in alloc;
             "expected a schedule (`schedule ..`), a report (`lineup report ..`), a specification (`lineup spec 1`) or recorded histories (`call ..`), found {found}"
         );
@@ -337,7 +342,7 @@ fn free_wording(
 ) -> Result<String, AllocError> {
     match kind {
         SpecFaultKind::Form => marked_history_wording(alloc, line),
-        SpecFaultKind::Foreign => foreign_wording(alloc, matrix),
+        SpecFaultKind::Foreign => foreign_wording(alloc, matrix, line),
         SpecFaultKind::Nondeterministic => String::from_str(
             alloc,
             "conflict with an earlier history: after the same entries, the same call has a different outcome, and neither has the mark `?`",
@@ -345,12 +350,58 @@ fn free_wording(
     }
 }
 
-/// The words for a history that the matrix does not have.
-fn foreign_wording(alloc: Global, matrix: &Matrix) -> Result<String, AllocError> {
-    let threads = matrix.threads();
-    let many = counted(usize::from(threads), "thread", "threads");
+/// The number of an entry's thread.
+fn thread_of(entry: &[u8]) -> Option<u8> {
+    match entry {
+        [digit @ b'0'..=b'7', b'=', ..] => Some(digit.saturating_sub(b'0')),
+        _ => None,
+    }
+}
+
+/// How many of the entries are of this thread.
+fn count_of(entries: &[&[u8]], thread: u8) -> usize {
+    entries
+        .iter()
+        .filter(|entry| thread_of(entry) == Some(thread))
+        .count()
+}
+
+/// How many calls a thread of the matrix makes, where it is there.
+fn calls_of(matrix: &Matrix, thread: u8) -> Option<usize> {
+    let calls = matrix.as_slice().get(usize::from(thread))?;
+    Some(calls.as_slice().len())
+}
+
+/// The thread of the first entry of a thread that is not there, or that has more entries than calls.
+fn foreign_thread(matrix: &Matrix, entries: &[&[u8]]) -> Option<u8> {
+    for entry in entries {
+        if let Some(thread) = thread_of(entry) {
+            let calls = calls_of(matrix, thread).unwrap_or(0);
+            if count_of(entries, thread) > calls {
+                return Some(thread);
+            }
+        }
+    }
+    None
+}
+
+/// The words for a history, on this line, that the matrix does not have.
+fn foreign_wording(alloc: Global, matrix: &Matrix, line: &[u8]) -> Result<String, AllocError> {
+    let entries = words_of(alloc, line.strip_suffix(b"\n").unwrap_or(line))?;
+    let Some(thread) = foreign_thread(matrix, &entries) else {
+        return String::from_str(alloc, "the matrix has no such history");
+    };
+    let Some(calls) = calls_of(matrix, thread) else {
+        let threads = matrix.threads();
+        let many = counted(usize::from(threads), "thread", "threads");
+        return format!(in alloc;
+            "the matrix has no thread {thread}; it has {threads} {many}, numbered from 0"
+        );
+    };
+    let many = counted(calls, "call", "calls");
+    let count = count_of(&entries, thread);
     format!(in alloc;
-        "the history has an entry of a thread that the matrix does not have, or more entries of a thread than it has calls; the matrix has {threads} {many}, numbered from 0"
+        "thread {thread} makes {calls} {many}, and the history has {count} entries of it"
     )
 }
 
@@ -376,7 +427,7 @@ pub(crate) fn specification_wording(
                 Some(line) => history_wording(alloc, line),
             }
         }
-        SpecFaultKind::Foreign => foreign_wording(alloc, matrix),
+        SpecFaultKind::Foreign => foreign_wording(alloc, matrix, line.unwrap_or(b"")),
         SpecFaultKind::Nondeterministic => String::from_str(
             alloc,
             "conflict with an earlier history: after the same entries, the same call has a different outcome",

@@ -1,8 +1,0 @@
-use Rattle.std.proofs.Common.{◌≡◌, drop}
-use Rattle.lu_text.specs.Lines.{texts}
-use Rattle.lu_source_lint.specs.Warnings as spec
-use Rattle.lu_source_lint.specs.Warnings.{lines_in}
-use Rattle.lu_source_lint.proofs.warnings.is_endless.Given as goal
-
-abbrev pub invariant-loop-line : goal.invariant-loop-line
-invariant-loop-line l = spec.is_endless (texts l.shared) l.depth (drop l.line-index (lines_in l.lines)) ≡ spec.is_endless (texts l.shared) 1 (lines_in l.lines)
