@@ -1,5 +1,5 @@
 -- No two texts meet.
-use Rattle.std.proofs.Common.{◌≡◌, ℕ, ◌+◌, ◌<◌, ◌≤◌, ◌==◌, Bool, true, false, List, [], ◌∷◌, ◌++◌, length, Option, Some, if◌then◌else◌, refl, ap, eqb-true, arith}
+use Rattle.std.proofs.Common.{◌≡◌, ℕ, ◌+◌, ◌<◌, ◌≤◌, ◌==◌, Bool, true, false, List, [], ◌∷◌, ◌++◌, length, Option, Some, None, is_some, if◌then◌else◌, refl, ap, eqb-true, arith}
 use Rattle.std.specs.Option.{option_map_or}
 use Rattle.std.proofs.lemmas.Fmt.{length-decimal-le}
 use Rattle.lu_component.specs.Component.{Component}
@@ -9,12 +9,13 @@ use Rattle.lu_machine.specs.States.{State}
 use Rattle.lu_machine.specs.Steps.{is_at_local}
 use Rattle.lu_history.specs.Text.{serial_outcome_text as ended_words}
 use Rattle.lu_witness.specs.Witnesses.{entries}
+use Rattle.lu_explain.specs.declared.explanation.Reason.{Reason}
 use Rattle.lu_explain.specs.Explanations.{Explanation, reason_of}
 use Rattle.lu_explain.specs.Lines.{why_not}
 use Rattle.lu_trace.specs.declared.wording.Wording.{Wording}
 use Rattle.lu_picture.specs.declared.mark.End.{End}
 use Rattle.lu_picture.specs.Reasons.{outcome_of, why_words}
-use Rattle.lu_picture.specs.Shapes.{height_by, row_height}
+use Rattle.lu_picture.specs.Shapes.{has_reason, height_by, row_height}
 use Rattle.lu_picture.specs.Pictures.{Drawing, Draws}
 use Rattle.lu_picture.specs.Laws.{RowTextsPart}
 
@@ -47,12 +48,16 @@ row_texts_part = record {
   next = λ t. omega arith;
 }
 
-pub one_line : (c : Component) (matrix : Matrix) (e : Explanation) (t k : ℕ) (end : Option End) → 0 < length (why_words c matrix (Some e) t k end) → k ≡ length (entries t e.order)
+pub one_line : (c : Component) (matrix : Matrix) (e : Explanation) (t k : ℕ) (end : Option End) → 0 < length (why_words c matrix (Some e) t k end) → (k ≡ length (entries t e.order)) × (has_reason (Some e) t ≡ true)
 one_line c matrix e t k end some = by_test (k == length (entries t e.order)) refl some
   where
-    said : List ℕ
-    said = option_map_or (λ reason. ended_words (outcome_of end) ++ why_not c matrix e.order reason) (reason_of e t) []
+    words : Reason → List ℕ
+    words reason = ended_words (outcome_of end) ++ why_not c matrix e.order reason
 
-    by_test : (test : Bool) → (k == length (entries t e.order)) ≡ test → 0 < length (if test then said else []) → k ≡ length (entries t e.order)
-    by_test true is some = eqb-true k (length (entries t e.order)) is
+    by_reason : (o : Option Reason) → 0 < length (option_map_or words o []) → is_some o ≡ true
+    by_reason None some = absurd (omega (arith, some))
+    by_reason (Some reason) some = refl
+
+    by_test : (test : Bool) → (k == length (entries t e.order)) ≡ test → 0 < length (if test then option_map_or words (reason_of e t) [] else []) → (k ≡ length (entries t e.order)) × (is_some (reason_of e t) ≡ true)
+    by_test true is some = (eqb-true k (length (entries t e.order)) is, by_reason (reason_of e t) some)
     by_test false is some = absurd (omega (arith, some))

@@ -27,11 +27,11 @@ shown (Source lines origins) words = escaped words
 
 -- what ends a label of words with this many letters: an ellipsis where some are left out
 abbrev pub ellipsis : ℕ → List ℕ
-ellipsis many = if nat_lt 44 many then 8230 ∷ [] else []
+ellipsis many = if nat_lt 48 many then 8230 ∷ [] else []
 
--- the first 44 letters, and an ellipsis where there are more
+-- the first 48 letters, and an ellipsis where there are more
 abbrev pub cut : List ℕ → List ℕ
-cut letters = take 44 letters ++ ellipsis (length letters)
+cut letters = take 48 letters ++ ellipsis (length letters)
 
 -- the label of these words, between tags
 abbrev pub label : List ℕ → List ℕ
@@ -39,7 +39,7 @@ label words = flat_map letter_shown (cut (chars words))
 
 -- these are its letters up to an ellipsis, and that
 abbrev pub first_letters : List ℕ → List ℕ
-first_letters words = flat_map letter_shown (take 44 (chars words))
+first_letters words = flat_map letter_shown (take 48 (chars words))
 
 abbrev pub ending : ℕ → List ℕ
 ending many = flat_map letter_shown (ellipsis many)

@@ -40,11 +40,11 @@ abbrev pub WritesWhyOf : {T E Z : Type 0} → Result T E → String Z → String
 WritesWhyOf result old new s marks why t k =
     Writes result old new (why_of s marks (option_copied why) t k)
 
--- the line in the foot of call k of thread t, which is left for this reason
+-- the line in the foot of call k of thread t, which is left for this reason, with this many above it
 abbrev pub WritesFootLine : {T E Z : Type 0} → Result T E → String Z → String Z → State → ℕ → ℕ → ℕ
-    → List ℕ → Type 0
-WritesFootLine result old new s edge t k why =
-    Writes result old new (foot_line edge t (reason_line s t k why))
+    → ℕ → List ℕ → Type 0
+WritesFootLine result old new s edge above t k why =
+    Writes result old new (foot_line edge above (reason_line s t k why))
 
 -- the first line of the foot
 abbrev pub WritesFootHead : {T E Z : Type 0} → Result T E → String Z → String Z → ℕ

@@ -45,7 +45,7 @@ pub(crate) fn write_shown(
 }
 
 /// The number of letters in a label.
-const MOST_LETTERS: usize = 44;
+const MOST_LETTERS: usize = 48;
 
 /// The number of letters of these words.
 fn letters(words: &str) -> usize

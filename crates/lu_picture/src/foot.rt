@@ -1,6 +1,6 @@
 //! The foot of a picture: why operations are left.
 
-ghost use Rattle.std.specs.Prelude.{◌≡◌, ◌+◌, ◌*◌, ◌<◌, ◌^◌, IfOk, length};
+ghost use Rattle.std.specs.Prelude.{◌≡◌, ◌+◌, ◌*◌, ◌<◌, ◌≤◌, ◌^◌, IfOk, length};
 ghost use Rattle.std.specs.Option.{option_copied};
 ghost use Rattle.lu_test.specs.declared.matrix.TheConstants.{MOST_THREADS};
 ghost use Rattle.lu_text.specs.Writing.{Writes};
@@ -19,12 +19,37 @@ use lu_explain::Explanation;
 use lu_machine::{Event, Machine};
 use std::alloc::{AllocError, Global};
 
-/// Where the line of a thread is.
-pub(crate) fn foot(edge: u128, t: u8) -> u128
-    requires { edge < 2 ^ 80 }
-    ensures { result ≡ spec.foot edge t }
+/// Whether an explanation says why the next operation of the thread is left.
+fn has_reason(explanation: Option<&Explanation>, t: u8) -> bool
+    requires { t < MOST_THREADS }
+    ensures { result ≡ spec.has_reason (option_copied explanation.entry) t }
 {
-    edge + 66 + 18 * (t as u128)
+    match explanation {
+        None => false,
+        Some(explanation) => explanation.reason(t).is_some(),
+    }
+}
+
+/// How many of the first `t` threads have such a line.
+pub(crate) fn lines_before(explanation: Option<&Explanation>, t: u8) -> u8
+    requires { t ≤ MOST_THREADS }
+    ensures { result ≡ spec.lines_before (option_copied explanation.entry) t }
+{
+    let mut lines = 0u8;
+    for u in 0..t {
+        if has_reason(explanation, u) {
+            lines += 1;
+        }
+    }
+    lines
+}
+
+/// Where the line of a thread is, with this many above it.
+pub(crate) fn foot(edge: u128, above: u8) -> u128
+    requires { edge < 2 ^ 80 }
+    ensures { result ≡ spec.foot edge above }
+{
+    edge + 66 + 18 * (above as u128)
 }
 
 /// Adds what an explanation says of call `k` of thread `t`.
@@ -76,22 +101,23 @@ fn write_foot_text(
     }
 }
 
-/// Adds the line of a call that is left for this reason, if that is said.
+/// Adds the line of a call that is left for this reason, if that is said, with this many above it.
 pub(crate) fn write_foot_line(
     alloc: Global,
     text: &mut String,
     machine: &Machine<'_>,
     edge: u128,
+    above: u8,
     t: u8,
     k: u8,
     why: &str,
 ) -> Result<(), AllocError>
     requires { edge < 2 ^ 80 }
-    ensures { WritesFootLine result text.old text.new machine.now edge t k why.now }
+    ensures { WritesFootLine result text.old text.new machine.now edge above t k why.now }
 {
     let mut words = String::new(alloc);
     write_reason_line(&mut words, machine, t, k, why)?;
-    write_foot_text(text, "r", foot(edge, t), words.as_str())
+    write_foot_text(text, "r", foot(edge, above), words.as_str())
 }
 
 /// The line above those.
