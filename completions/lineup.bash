@@ -29,7 +29,7 @@ _lineup() {
                 lint) options='--serial --marks' ;;
                 explain) options='--serial --spec --marks' ;;
                 draw) options='--serial --explain' ;;
-                trace) options='--setup' ;;
+                trace) options='--setup --brief' ;;
                 campaign) options='--bound --serial --threads --calls --by-thread --from --upto --count --certify --all --spec' ;;
                 *) return ;;
             esac

@@ -39,6 +39,7 @@ complete -c lineup -n '__lineup_says lint check witness explain' -l marks -d 'en
 complete -c lineup -n '__lineup_says conform' -l show -d 'print a schedule for each history'
 complete -c lineup -n '__lineup_says draw' -l explain -d 'number the calls that a serial history explains'
 complete -c lineup -n '__lineup_says trace' -l setup -d 'begin the trace with the setup'
+complete -c lineup -n '__lineup_says trace' -l brief -d 'show calls, returns, and steps on shared words and locks'
 complete -c lineup -n '__lineup_says campaign' -l threads -x -a '(seq 8)' -d 'number of threads in each matrix'
 complete -c lineup -n '__lineup_says campaign' -l calls -x -a '(seq 8)' -d 'number of calls of each thread'
 complete -c lineup -n '__lineup_says campaign' -l by-thread -d 'each thread chooses from its own line of calls'

@@ -122,7 +122,7 @@ use Rattle.lu_cli.specs.Shrink.{ShowsShrunk}
 use Rattle.lu_cli.specs.Sources.{IsAnswerWithSource, bundle_meant}
 use Rattle.lu_cli.specs.Spec.{IsCollected, IsAnswerToSpec}
 use Rattle.lu_cli.specs.Trace.{IsTraced}
-use Rattle.lu_cli.specs.declared.request.TraceStart.{TraceStart}
+use Rattle.lu_cli.specs.declared.request.Tracing.{Tracing}
 
 -- an answer that was made and said
 pub said : (IsAnswer : Answer → Type 0) (answer : Answer) (text : List ℕ) (old new : Option (List ℕ)) (status : ℕ) → IsAnswer answer → text ≡ answer.text → Appends old new text × (status ≡ answer.status) → Answers IsAnswer old new status
@@ -196,7 +196,7 @@ replayed_else : (c : Component) (m : Matrix) (u : List Move) (answer : Answer) �
 replayed_else c m u answer (inl is) = status_else answer 0 (ap (λ (a : Answer). a.status) is.3) (λ e. omega arith)
 replayed_else c m u answer (inr is) = status_else answer 1 (ap (λ (a : Answer). a.status) is.2) (λ e. omega arith)
 
-traced_else : (start : TraceStart) (how : Wording) (c : Component) (m : Matrix) (u : List Move) (answer : Answer) → IsTraced start how c m u answer → IsElse answer
+traced_else : (start : Tracing) (how : Wording) (c : Component) (m : Matrix) (u : List Move) (answer : Answer) → IsTraced start how c m u answer → IsElse answer
 traced_else start how c m u answer (inl is) = status_else answer 0 (ap (λ (a : Answer). a.status) is.2) (λ e. omega arith)
 traced_else start how c m u answer (inr is) = status_else answer 1 (ap (λ (a : Answer). a.status) is.2) (λ e. omega arith)
 

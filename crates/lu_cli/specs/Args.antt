@@ -24,7 +24,10 @@ use Rattle.lu_cli.specs.declared.request.Repetition.{Repetition}
 use Rattle.lu_cli.specs.declared.request.Repetition.TheVariants.{Forever, UpTo}
 use Rattle.lu_cli.specs.declared.request.Request.{Request}
 use Rattle.lu_cli.specs.declared.request.Showing.TheVariants as showing
+use Rattle.lu_cli.specs.declared.request.TraceStart.{TraceStart}
 use Rattle.lu_cli.specs.declared.request.TraceStart.TheVariants.{FirstMove, Setup}
+use Rattle.lu_trace.specs.declared.detail.Detail.{Detail}
+use Rattle.lu_trace.specs.declared.detail.Detail.TheVariants.{EachStep, SharedSteps}
 use Rattle.lu_cli.specs.declared.request.Request.TheVariants.{Commands, Lint, Bundle, BundleWithSource}
 use Rattle.lu_cli.specs.declared.request.BundleCommand.{BundleCommand}
 use Rattle.lu_cli.specs.declared.request.BundleCommand.TheVariants.{Replay, Trace, Draw, DrawExplained, Explain, ExplainAgainst, Serial, Witness, WitnessAgainst, Conform, Spec, Check, CheckAgainst, Certify, CertifyUnrolled, Refute, Shrink, Campaign, CampaignAgainst, Compile}
@@ -234,9 +237,17 @@ abbrev pub conform_in : List Row → BundleCommand
 conform_in rows =
     if flag_in (codes "show") rows then Conform showing.Schedules else Conform showing.Count
 
--- a trace, or one from the setup on
+-- where a trace begins
+abbrev pub start_in : List Row → TraceStart
+start_in rows = if flag_in (codes "setup") rows then Setup else FirstMove
+
+-- which steps it shows
+abbrev pub detail_in : List Row → Detail
+detail_in rows = if flag_in (codes "brief") rows then SharedSteps else EachStep
+
+-- a trace
 abbrev pub trace_in : List Row → BundleCommand
-trace_in rows = if flag_in (codes "setup") rows then Trace Setup else Trace FirstMove
+trace_in rows = Trace (record { start = start_in rows; detail = detail_in rows })
 
 -- a picture, or one with an explanation
 abbrev pub draw_in : List Row → Option BundleCommand

@@ -24,7 +24,7 @@ use Rattle.lu_cli.specs.declared.request.BundleCommand.TheVariants.{Replay, Trac
 -- the answer to a command and the parts of the bundle
 abbrev pub IsAnswerToCommand : BundleCommand → List (List ℕ) → Answer → Type 0
 IsAnswerToCommand Replay parts = IsAnswerToReplay parts
-IsAnswerToCommand (Trace start) parts = IsAnswerToTraceOrDraw (run.Trace start) parts
+IsAnswerToCommand (Trace tracing) parts = IsAnswerToTraceOrDraw (run.Trace tracing) parts
 IsAnswerToCommand Draw parts = IsAnswerToTraceOrDraw run.Picture parts
 IsAnswerToCommand (DrawExplained limits) parts = IsAnswerToExplain Picture limits parts
 IsAnswerToCommand (Explain limits) parts = IsAnswerToExplain Words limits parts

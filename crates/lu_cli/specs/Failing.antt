@@ -25,8 +25,7 @@ use Rattle.lu_cli.specs.Outcomes.{Answer}
 use Rattle.lu_cli.specs.Pictures.{IsDrawn}
 use Rattle.lu_cli.specs.Explanation.{BySerialRuns, IsExplainedSchedule, ToFinding}
 use Rattle.lu_cli.specs.Reading.{ToWorded}
-use Rattle.lu_cli.specs.Trace.{IsTraced}
-use Rattle.lu_cli.specs.declared.request.TraceStart.TheVariants.{FirstMove}
+use Rattle.lu_cli.specs.Trace.{IsTraced, each_step}
 use Rattle.lu_cli.specs.declared.explanation.Presentation.{Presentation}
 use Rattle.lu_cli.specs.declared.explanation.Presentation.TheVariants.{Words, Picture as Marked}
 use Rattle.lu_cli.specs.declared.explanation.Presenting.{Presenting}
@@ -55,17 +54,17 @@ in_words by how = record { by = by; how = how }
 
 -- how what fails is shown, where a run is shown so
 abbrev pub view_of_failure : RunView → View
-view_of_failure (run.Trace start) = Trace start
+view_of_failure (run.Trace tracing) = Trace tracing
 view_of_failure run.Picture = Picture
 
 -- The cut and what shows that it fails, `text`, with what each move of the schedule does below; or
 -- the picture of the schedule alone.
 abbrev pub ShowsRun : View → Wording → Component → Matrix → List Move → List ℕ → Answer → Type 0
 ShowsRun Explanation how c cut u text answer =
-    (steps : Answer) × IsTraced FirstMove how c cut u steps
+    (steps : Answer) × IsTraced each_step how c cut u steps
     × (answer ≡ failure (below text steps))
-ShowsRun (Trace start) how c cut u text answer =
-    (steps : Answer) × IsTraced start how c cut u steps × (answer ≡ failure (below text steps))
+ShowsRun (Trace tracing) how c cut u text answer =
+    (steps : Answer) × IsTraced tracing how c cut u steps × (answer ≡ failure (below text steps))
 ShowsRun Picture how c cut u text answer =
     (picture : Answer) × IsDrawn how c cut u picture × (answer ≡ failure picture.text)
 ShowsRun ExplainedPicture how c cut u text answer =
@@ -87,8 +86,8 @@ ShowsFailing Explanation how c cut r u answer =
 ShowsFailing ExplainedPicture how c cut r u answer =
     (picture : Answer) × IsFindingExplained (in_words Marked how) c cut r.finding picture
     × (answer ≡ failure picture.text)
-ShowsFailing (Trace start) how c cut r u answer =
-    ShowsRun (Trace start) how c cut u (two_texts c cut r) answer
+ShowsFailing (Trace tracing) how c cut r u answer =
+    ShowsRun (Trace tracing) how c cut u (two_texts c cut r) answer
 ShowsFailing Picture how c cut r u answer = ShowsRun Picture how c cut u (two_texts c cut r) answer
 
 -- so it is of the result, where there is one

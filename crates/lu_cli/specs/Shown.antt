@@ -92,7 +92,7 @@ IsShownRefusal text refused =
 
 -- the run of the schedule, shown so
 abbrev pub IsRunShown : RunView → Wording → Component → Matrix → List Move → Answer → Type 0
-IsRunShown (run.Trace start) = IsTraced start
+IsRunShown (run.Trace tracing) = IsTraced tracing
 IsRunShown run.Picture = IsDrawn
 
 abbrev pub IsTextShown : RunView → Wording → Component → Matrix → List ℕ → Answer → Type 0

@@ -132,6 +132,8 @@ options =
     (codes "draw" ∷ [])
     ∷ flag (codes "setup") (codes "begin the trace with the setup")
     (codes "trace" ∷ [])
+    ∷ flag (codes "brief") (codes "show calls, returns, and steps on shared words and locks")
+    (codes "trace" ∷ [])
     ∷ number (codes "threads") (codes "T") (Number 1 8) None
     (codes "number of threads in each matrix; by default 2")
     (codes "campaign" ∷ [])

@@ -9,7 +9,7 @@ ghost use Rattle.lu_cli.specs.Table.{option_said};
 
 use crate::request::{
     ArgsFault, BundleCommand, CampaignOptions, CampaignPart, CampaignThreads, CampaignTrial,
-    CertifyOptions, LintRequest, Repetition, Request, Showing, TraceStart,
+    CertifyOptions, LintRequest, Repetition, Request, Showing, TraceStart, Tracing,
 };
 use crate::table::{CommandRow, Kind, OptionRow, commands, options};
 use clap::builder::ValueParser;
@@ -18,6 +18,7 @@ use clap::{Arg, ArgAction, ArgMatches, Command};
 use lu_parallel::Options;
 use lu_report::{Bounds, MOST_MOVES};
 use lu_spec::Marks;
+use lu_trace::Detail;
 use std::alloc::{AllocError, Global};
 use std::convert::AsStr;
 
@@ -358,15 +359,36 @@ fn conform_in(given: &ArgMatches<'_>) -> BundleCommand
     }
 }
 
-/// A trace from the first move on, or from the setup on.
+/// Where a trace begins.
+fn start_in(given: &ArgMatches<'_>) -> TraceStart
+    ensures { result ≡ spec.start_in (rows_of (found_of given.now)) }
+{
+    if flag_in(given, "setup") {
+        TraceStart::Setup
+    } else {
+        TraceStart::FirstMove
+    }
+}
+
+/// Which steps it shows.
+fn detail_in(given: &ArgMatches<'_>) -> Detail
+    ensures { result ≡ spec.detail_in (rows_of (found_of given.now)) }
+{
+    if flag_in(given, "brief") {
+        Detail::SharedSteps
+    } else {
+        Detail::EachStep
+    }
+}
+
+/// A trace.
 fn trace_in(given: &ArgMatches<'_>) -> BundleCommand
     ensures { result ≡ spec.trace_in (rows_of (found_of given.now)) }
 {
-    if flag_in(given, "setup") {
-        BundleCommand::Trace(TraceStart::Setup)
-    } else {
-        BundleCommand::Trace(TraceStart::FirstMove)
-    }
+    BundleCommand::Trace(Tracing {
+        start: start_in(given),
+        detail: detail_in(given),
+    })
 }
 
 /// A picture, or one with an explanation.

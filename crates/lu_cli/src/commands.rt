@@ -42,7 +42,7 @@ pub(crate) fn carry_out_alone(
 {
     match command {
         BundleCommand::Replay => answer_replay(alloc, parts),
-        BundleCommand::Trace(start) => answer_shown(alloc, parts, RunView::Trace(start)),
+        BundleCommand::Trace(tracing) => answer_shown(alloc, parts, RunView::Trace(tracing)),
         BundleCommand::Draw => answer_shown(alloc, parts, RunView::Picture),
         BundleCommand::DrawExplained(bounds) => {
             answer_explain(alloc, bounds, parts, Presentation::Picture)

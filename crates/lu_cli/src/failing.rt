@@ -13,7 +13,7 @@ use crate::answer::{Answer, show_certificate, show_schedule, write_both};
 use crate::explanation::{Presentation, Presenting, explain_finding_serially};
 use crate::pictures::draw;
 use crate::refusal::Refusal;
-use crate::request::TraceStart;
+use crate::request::{TraceStart, Tracing};
 use crate::trace::trace;
 use crate::worded::read_worded;
 use lu_certify::{Certificate, DEFAULT_NODES, Limits, certify};
@@ -21,8 +21,14 @@ use lu_component::Component;
 use lu_machine::Test;
 use lu_report::{Finding, MOST_MOVES, Report};
 use lu_test::Schedule;
-use lu_trace::Wording;
+use lu_trace::{Detail, Wording};
 use std::alloc::{AllocError, Global};
+
+/// Each step of a schedule.
+const EACH_STEP: Tracing = Tracing {
+    start: TraceStart::FirstMove,
+    detail: Detail::EachStep,
+};
 
 /// How what fails is shown.
 #[derive(Clone, Copy)]
@@ -30,8 +36,8 @@ pub(crate) enum View {
     /// By its explanation, with what each move does.
     Explanation,
 
-    /// By what each move does, from there on.
-    Trace(TraceStart),
+    /// By what each move does, from there on and in that detail.
+    Trace(Tracing),
 
     /// By a picture.
     Picture,
@@ -43,8 +49,8 @@ pub(crate) enum View {
 /// How the run of a schedule is shown.
 #[derive(Clone, Copy)]
 pub(crate) enum RunView {
-    /// By what each move does, from there on.
-    Trace(TraceStart),
+    /// By what each move does, from there on and in that detail.
+    Trace(Tracing),
 
     /// By a picture.
     Picture,
@@ -56,7 +62,7 @@ impl RunView {
         ensures { result ≡ spec.view_of_failure self }
     {
         match self {
-            RunView::Trace(start) => View::Trace(start),
+            RunView::Trace(tracing) => View::Trace(tracing),
             RunView::Picture => View::Picture,
         }
     }
@@ -91,11 +97,11 @@ fn show_run(
 {
     match view {
         View::Explanation => {
-            let steps = trace(alloc, TraceStart::FirstMove, how, test, schedule)?;
+            let steps = trace(alloc, EACH_STEP, how, test, schedule)?;
             Ok(failure(below(text, &steps)?))
         }
-        View::Trace(start) => {
-            let steps = trace(alloc, start, how, test, schedule)?;
+        View::Trace(tracing) => {
+            let steps = trace(alloc, tracing, how, test, schedule)?;
             Ok(failure(below(text, &steps)?))
         }
         View::Picture | View::ExplainedPicture => {

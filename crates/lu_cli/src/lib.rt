@@ -50,7 +50,7 @@ pub use lu_wording::hint_on;
 pub use program::{answer_alone, answer_request, run, run_with_progress};
 pub use request::{
     ArgsFault, BundleCommand, CampaignOptions, CampaignPart, CampaignThreads, CertifyOptions,
-    LintRequest, Repetition, Request, Showing, TraceStart,
+    LintRequest, Repetition, Request, Showing, TraceStart, Tracing,
 };
 pub use table::{CommandRow, Kind, OptionRow, commands as command_rows, options as option_rows};
 pub use terminal::Terminal;

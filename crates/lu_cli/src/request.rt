@@ -3,6 +3,7 @@
 use lu_parallel::Options;
 use lu_report::Bounds;
 use lu_spec::Marks;
+use lu_trace::Detail;
 
 /// Which threads the matrices of a campaign have, and what each takes its calls from.
 #[derive(Clone, Copy, Debug, PartialEq, Eq)]
@@ -88,6 +89,13 @@ pub enum TraceStart {
     Setup,
 }
 
+/// Where a trace begins, and which steps it shows.
+#[derive(Clone, Copy, Debug, PartialEq, Eq)]
+pub struct Tracing {
+    pub start: TraceStart,
+    pub detail: Detail,
+}
+
 /// What is printed of recorded histories that a component shows.
 #[derive(Clone, Copy, Debug, PartialEq, Eq)]
 pub enum Showing {
@@ -133,8 +141,8 @@ pub enum BundleCommand {
     Replay,
 
     /// `lineup trace`: show what each move of a schedule does; with `--setup`, before it what the
-    /// matrix's setup does and leaves.
-    Trace(TraceStart),
+    /// matrix's setup does and leaves; with `--brief`, only what other threads may see.
+    Trace(Tracing),
 
     /// `lineup draw`: show a schedule as a picture.
     Draw,

@@ -81,7 +81,7 @@ fn show_run(
     ensures { ShowsRunOf view how.entry test.entry schedule.now result }
 {
     match view {
-        RunView::Trace(start) => trace(alloc, start, how, test, schedule),
+        RunView::Trace(tracing) => trace(alloc, tracing, how, test, schedule),
         RunView::Picture => draw(alloc, how, test, schedule, None),
     }
 }

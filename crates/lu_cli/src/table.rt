@@ -131,7 +131,7 @@ static COMMANDS: [CommandRow; 16] = [
     },
 ];
 
-static OPTIONS: [OptionRow; 29] = [
+static OPTIONS: [OptionRow; 30] = [
     OptionRow {
         name: "bound",
         letter: "N",
@@ -300,6 +300,14 @@ static OPTIONS: [OptionRow; 29] = [
         kind: Kind::Flag,
         default: None,
         words: "begin the trace with the setup",
+        commands: &["trace"],
+    },
+    OptionRow {
+        name: "brief",
+        letter: "",
+        kind: Kind::Flag,
+        default: None,
+        words: "show calls, returns, and steps on shared words and locks",
         commands: &["trace"],
     },
     OptionRow {

@@ -357,7 +357,6 @@ says_plain s limits = record {
   heading = λ n status. heading_plain s.component n status limits;
   replay = replay_plain;
   calls = λ t k. calls_plain s.component s.matrix t k limits;
-  outcomes = outcome_plain;
   steps = λ m. steps_plain s m limits;
   waits = λ how t. waits_plain how s t limits;
   why = λ why t k end. why_plain s.component s.matrix why t k end limits;

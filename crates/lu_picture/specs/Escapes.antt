@@ -4,10 +4,8 @@ use Rattle.std.specs.List.{list_all}
 use Rattle.lu_component.specs.Component.{IsComponent}
 use Rattle.lu_test.specs.declared.schedule.Move.{Move}
 use Rattle.lu_machine.specs.declared.event.Event.{Event}
-use Rattle.lu_machine.specs.declared.event.Outcome.{Outcome}
 use Rattle.lu_machine.specs.declared.event.Status.{Status}
 use Rattle.lu_machine.specs.States.{State}
-use Rattle.lu_history.specs.Text.{outcome_text}
 use Rattle.lu_explain.specs.Explanations.{Explanation}
 use Rattle.lu_replay.specs.Text.{replay_text}
 use Rattle.lu_trace.specs.declared.wording.Wording.{Wording}
@@ -30,7 +28,6 @@ pub record SaysPlain (s : State) : Type 0 where
   pub heading : (n : ℕ) (status : Status) → IsPlain (heading s.component n status)
   pub replay : (history : List Event) (status : Status) → IsPlain (replay_text history status)
   pub calls : (t k : ℕ) → IsPlain (call_words s.component s.matrix t k)
-  pub outcomes : (outcome : Outcome) → IsPlain (outcome_text outcome)
   pub steps : (m : Move) → IsPlain (step_words Component s m)
   pub waits : (how : Wording) (t : ℕ) → IsPlain (wait_words how s t)
   pub why : (why : Option Explanation) (t k : ℕ) (end : Option End)

@@ -1,5 +1,5 @@
 -- What words are between tags.
-use Rattle.std.specs.Prelude.{ℕ, ◌==◌, if◌then◌else◌, List, codes}
+use Rattle.std.specs.Prelude.{ℕ, ◌==◌, ◌++◌, nat_lt, if◌then◌else◌, List, [], ◌∷◌, codes, length, take}
 use Rattle.std.specs.List.{flat_map}
 use Rattle.std.specs.Char.{encode_utf8}
 use Rattle.std.specs.Str.{chars}
@@ -22,3 +22,24 @@ abbrev pub shown : Wording → List ℕ → List ℕ
 shown Component words = words
 shown (Labelled labels) words = escaped words
 shown (Source lines origins) words = escaped words
+
+-- ---- labels
+
+-- what ends a label of words with this many letters: an ellipsis where some are left out
+abbrev pub ellipsis : ℕ → List ℕ
+ellipsis many = if nat_lt 48 many then 8230 ∷ [] else []
+
+-- the first 48 letters, and an ellipsis where there are more
+abbrev pub cut : List ℕ → List ℕ
+cut letters = take 48 letters ++ ellipsis (length letters)
+
+-- the label of these words, between tags
+abbrev pub label : List ℕ → List ℕ
+label words = flat_map letter_shown (cut (chars words))
+
+-- these are its letters up to an ellipsis, and that
+abbrev pub first_letters : List ℕ → List ℕ
+first_letters words = flat_map letter_shown (take 48 (chars words))
+
+abbrev pub ending : ℕ → List ℕ
+ending many = flat_map letter_shown (ellipsis many)

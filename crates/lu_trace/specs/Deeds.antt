@@ -16,7 +16,7 @@ use Rattle.lu_trace.specs.declared.effects.Cell.{Cell}
 use Rattle.lu_trace.specs.declared.effects.Read.{Read}
 use Rattle.lu_trace.specs.declared.effects.Swap.{Swap}
 use Rattle.lu_trace.specs.declared.wording.Wording.{Wording}
-use Rattle.lu_trace.specs.Wordings.{goes_on_at, is_indexed, register_becomes, register_name}
+use Rattle.lu_trace.specs.Wordings.{goes_on_at, is_indexed, register_becomes, register_name, tested}
 
 -- ---- words
 
@@ -97,10 +97,10 @@ looked how s f w i = or_trap (cell_is how s.component (named_cell f w i)) (seen 
 abbrev pub unlock_deed : State → ℕ → ℕ → List ℕ
 unlock_deed s t l = if owns s t l then lock_word s.component l ++ codes " is free" else trap
 
--- the jump is taken where the value is 0
+-- the jump is taken where the value is 0; a source has no register for that value, so it is shown
 abbrev pub jump_deed : Wording → Frame → ℕ → ℕ → List ℕ
 jump_deed how f target n =
-    if n == 0 then goes_on_at how f target else codes "continues"
+    tested how n ++ (if n == 0 then goes_on_at how f target else codes "continues")
 
 -- By the move m the instruction of the operation f does this, in the state s before it.
 abbrev pub deed : Wording → State → Move → Frame → Instr → List ℕ

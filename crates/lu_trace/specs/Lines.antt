@@ -1,10 +1,10 @@
 -- The lines of a trace.
-use Rattle.std.specs.Prelude.{ℕ, zero, suc, ◌++◌, nat_lt, if◌then◌else◌, List, [], ◌∷◌, length, codes, Option, Some, None, slice_get}
+use Rattle.std.specs.Prelude.{ℕ, zero, suc, ◌+◌, ◌++◌, ◌==◌, ◌&&◌, nat_lt, if◌then◌else◌, Bool, true, false, List, [], ◌∷◌, length, codes, Option, Some, None, slice_get}
 use Rattle.std.specs.Option.{option_map_or}
 use Rattle.std.specs.List.{repeat, join_with_byte, list_any}
 use Rattle.std.specs.Fmt.{decimal}
 use Rattle.lu_component.specs.declared.instr.Instr.{Instr}
-use Rattle.lu_component.specs.declared.instr.Instr.TheVariants.{Jump, JumpIfZero}
+use Rattle.lu_component.specs.declared.instr.Instr.TheVariants.{Compute, Jump, JumpIfZero}
 use Rattle.lu_component.specs.Operands.{operand_word}
 use Rattle.lu_component.specs.Component.{Component as AComponent}
 use Rattle.lu_lang.specs.declared.keyword.Keyword.TheVariants as keyword
@@ -20,10 +20,12 @@ use Rattle.lu_machine.specs.declared.thread.Activity.{Activity}
 use Rattle.lu_machine.specs.declared.thread.Activity.TheVariants.{Idle, Open}
 use Rattle.lu_machine.specs.declared.thread.Frame.{Frame}
 use Rattle.lu_machine.specs.States.{State, instr_at}
-use Rattle.lu_machine.specs.Steps.{is_blocked}
+use Rattle.lu_machine.specs.Steps.{is_at_local, is_blocked, is_local, more_local}
+use Rattle.lu_trace.specs.declared.detail.Detail.{Detail}
+use Rattle.lu_trace.specs.declared.detail.Detail.TheVariants.{EachStep, SharedSteps}
 use Rattle.lu_trace.specs.declared.wording.Wording.{Wording}
 use Rattle.lu_trace.specs.declared.wording.Wording.TheVariants.{Component, Labelled, Source}
-use Rattle.lu_trace.specs.Wordings.{place_word, source_line}
+use Rattle.lu_trace.specs.Wordings.{is_within_line, place_word, source_line}
 use Rattle.lu_trace.specs.Deeds.{deed, awaited}
 
 -- the first line
@@ -133,6 +135,47 @@ step_words how s m =
 -- the line of that, with the number or none
 abbrev pub step_line : Wording → Option ℕ → State → Move → List ℕ
 step_line how number s m = line number m.thread (step_words how s m)
+
+-- ---- which lines are shown
+
+-- whether the instruction after this place in the code of operation `op` is local
+abbrev pub is_local_after : AComponent → ℕ → ℕ → Bool
+is_local_after c op place =
+    option_map_or is_local (slice_get (code_of_operation c op) (place + 1)) false
+
+-- Arithmetic in a test is shown by the last of its steps: a value without a name is left out where
+-- the next instruction, which is local, comes from the same line of a source.
+abbrev pub is_partial : Wording → AComponent → Frame → Instr → Bool
+is_partial how c f (Compute by to a b) =
+    is_within_line how f to && is_local_after c f.op f.place
+is_partial how c f i = false
+
+abbrev pub activity_is_partial : Wording → State → Activity → Bool
+activity_is_partial how s Idle = false
+activity_is_partial how s (Open f) =
+    option_map_or (is_partial how s.component f) (instr_at s.component f.op f.place) false
+
+-- whether thread t computes such a value next
+abbrev pub is_at_partial : Wording → State → ℕ → Bool
+is_at_partial how s t =
+    option_map_or (λ thread. activity_is_partial how s thread.activity) (slice_get s.threads t)
+    false
+
+-- whether the step of the move m can go without a line: it has no number, or no step without one
+-- comes after it
+abbrev pub is_dispensable : Option ℕ → State → Move → Bool
+is_dispensable None s m = true
+is_dispensable (Some number) s m = more_local s m.thread == 0
+
+-- whether the next step of a move has a line
+abbrev pub is_left_out : Detail → Wording → Option ℕ → State → Move → Bool
+is_left_out EachStep how number s m = is_dispensable number s m && is_at_partial how s m.thread
+is_left_out SharedSteps how number s m = is_at_local s m.thread
+
+-- its line where it has one
+abbrev pub shown_line : Detail → Wording → Option ℕ → State → Move → List ℕ
+shown_line detail how number s m =
+    if is_left_out detail how number s m then [] else step_line how number s m
 
 -- ---- waits
 

@@ -1,5 +1,5 @@
 -- Traces from the setup: what its calls do, what the threads find, and then the trace.
-use Rattle.std.specs.Prelude.{◌≡◌, ℕ, zero, suc, ◌<◌, ◌++◌, List, [], ◌∷◌, length, codes, Option, Some, None, slice_get, Result, String, string_bytes}
+use Rattle.std.specs.Prelude.{◌≡◌, ℕ, zero, suc, ◌<◌, ◌++◌, if◌then◌else◌, List, [], ◌∷◌, length, codes, Option, Some, None, slice_get, Result, String, string_bytes}
 use Rattle.std.specs.Option.{option_map_or}
 use Rattle.std.specs.Fmt.{decimal}
 use Rattle.lu_component.specs.Component.{Component as AComponent}
@@ -12,10 +12,12 @@ use Rattle.lu_machine.specs.declared.event.Event.{Event}
 use Rattle.lu_machine.specs.States.{State, cell_of, value_at, owner_of}
 use Rattle.lu_machine.specs.Steps.{OneStep, IsFeasible}
 use Rattle.lu_machine.specs.Starts.{IsStart, MakesAll, empty_state, first_move}
+use Rattle.lu_trace.specs.declared.detail.Detail.{Detail}
+use Rattle.lu_trace.specs.declared.detail.Detail.TheVariants.{EachStep}
 use Rattle.lu_trace.specs.declared.wording.Wording.{Wording}
 use Rattle.lu_trace.specs.declared.wording.Wording.TheVariants.{Component}
-use Rattle.lu_trace.specs.Lines.{step_words}
-use Rattle.lu_trace.specs.Traces.{IsWordedTrace, WritesLines}
+use Rattle.lu_trace.specs.Lines.{is_left_out, step_words}
+use Rattle.lu_trace.specs.Traces.{IsDetailedTrace, WritesLines}
 
 -- the blanks before the words of a line without a number and a thread
 abbrev pub indent : List ℕ
@@ -23,26 +25,28 @@ indent = codes "     "
 
 -- ---- the calls
 
--- the line of what thread 0 does next, in the state s
-abbrev pub setup_line : Wording → State → List ℕ
-setup_line how s = indent ++ step_words how s first_move ++ codes "\n"
+-- the line of what thread 0 does next, in the state s, where it is shown in this detail
+abbrev pub setup_line : Detail → Wording → State → List ℕ
+setup_line detail how s =
+    if is_left_out detail how None s first_move then []
+    else indent ++ step_words how s first_move ++ codes "\n"
 
 -- Thread 0 leads from the state s to the state `end` by this many calls and instructions, each pick
--- 0, and these are their lines.
-abbrev pub SetupLines : Wording → ℕ → State → State → List ℕ → Type 0
-SetupLines how zero s end lines = (end ≡ s) × (lines ≡ [])
-SetupLines how (suc n) s end lines =
+-- 0, and these are their lines in this detail.
+abbrev pub SetupLines : Detail → Wording → ℕ → State → State → List ℕ → Type 0
+SetupLines detail how zero s end lines = (end ≡ s) × (lines ≡ [])
+SetupLines detail how (suc n) s end lines =
     (next : State) × (event : Option Event) × (rest : List ℕ)
-    × OneStep s first_move next event × SetupLines how n next end rest
-    × (lines ≡ setup_line how s ++ rest)
+    × OneStep s first_move next event × SetupLines detail how n next end rest
+    × (lines ≡ setup_line detail how s ++ rest)
 
 -- These calls, which one thread makes alone as a setup does, have these lines.
-pub record AreSetupLines (how : Wording) (c : AComponent) (calls : List Call) (lines : List ℕ)
-    : Type 0 where
+pub record AreSetupLines (detail : Detail) (how : Wording) (c : AComponent) (calls : List Call)
+    (lines : List ℕ) : Type 0 where
   pub end : State
   pub made : MakesAll c calls (length calls) end
   pub steps : ℕ
-  pub lines_are : SetupLines how steps (empty_state c (alone calls)) end lines
+  pub lines_are : SetupLines detail how steps (empty_state c (alone calls)) end lines
 
 -- what stands before these lines: nothing where there are no calls
 abbrev pub setup_heading : List Call → List ℕ
@@ -51,9 +55,9 @@ setup_heading (call ∷ calls) = codes "setup\n"
 
 -- the lines from the state s to the state `end`, of this many steps or of all that thread 0 can
 -- make
-abbrev pub LinesUpTo : Wording → ℕ → State → State → List ℕ → Type 0
-LinesUpTo how most s end lines =
-    (steps : ℕ) × SetupLines how steps s end lines
+abbrev pub LinesUpTo : Detail → Wording → ℕ → State → State → List ℕ → Type 0
+LinesUpTo detail how most s end lines =
+    (steps : ℕ) × SetupLines detail how steps s end lines
     × (steps < most → IsFeasible end first_move → ⊥)
 
 -- ---- what the threads find
@@ -111,33 +115,36 @@ found_lines s = all_array_lines s ++ all_lock_lines s
 
 -- ---- the whole
 
--- The trace of the schedule from the setup on, in these words: the lines of the setup's calls, the
--- cells and locks at the start, and the trace.
-abbrev pub IsWordedTraceFromSetup : Wording → AComponent → Matrix → List Move → List ℕ → Type 0
-IsWordedTraceFromSetup how c matrix u text =
+-- The trace of the schedule from the setup on, in this detail and in these words: the lines of the
+-- setup's calls, the cells and locks at the start, and the trace.
+abbrev pub IsDetailedTraceFromSetup : Detail → Wording → AComponent → Matrix → List Move → List ℕ
+    → Type 0
+IsDetailedTraceFromSetup detail how c matrix u text =
     (lines : List ℕ) × (start : State) × (trace : List ℕ)
-    × AreSetupLines how c matrix.setup lines × IsStart c matrix start
-    × IsWordedTrace how c matrix u trace
+    × AreSetupLines detail how c matrix.setup lines × IsStart c matrix start
+    × IsDetailedTrace detail how c matrix u trace
     × (text ≡ setup_heading matrix.setup ++ lines ++ codes "start\n" ++ found_lines start ++ trace)
 
--- that trace in the words of the component's text
+-- that trace of each step, in the words of the component's text
 abbrev pub IsTraceFromSetup : AComponent → Matrix → List Move → List ℕ → Type 0
-IsTraceFromSetup c matrix u text = IsWordedTraceFromSetup Component c matrix u text
+IsTraceFromSetup c matrix u text = IsDetailedTraceFromSetup EachStep Component c matrix u text
 
-abbrev pub IsWordedFromSetup : {Z : Type 0} → Wording → AComponent → Matrix → List Move
+abbrev pub IsDetailedFromSetup : {Z : Type 0} → Detail → Wording → AComponent → Matrix → List Move
     → String Z → Type 0
-IsWordedFromSetup how c matrix u text = IsWordedTraceFromSetup how c matrix u (string_bytes text)
+IsDetailedFromSetup detail how c matrix u text =
+    IsDetailedTraceFromSetup detail how c matrix u (string_bytes text)
 
 abbrev pub IsTextFromSetup : {Z : Type 0} → AComponent → Matrix → List Move → String Z → Type 0
 IsTextFromSetup c matrix u text = IsTraceFromSetup c matrix u (string_bytes text)
 
 -- where it succeeds the text grows by the lines from one state to another
-abbrev pub WritesUpTo : {T E Z : Type 0} → Result T E → String Z → String Z → Wording → ℕ → State
-    → State → Type 0
-WritesUpTo result old new how most s end = WritesLines result old new (LinesUpTo how most s end)
+abbrev pub WritesUpTo : {T E Z : Type 0} → Result T E → String Z → String Z → Detail → Wording
+    → ℕ → State → State → Type 0
+WritesUpTo result old new detail how most s end =
+    WritesLines result old new (LinesUpTo detail how most s end)
 
 -- and by those of the test's setup
-abbrev pub WritesSetup : {T E Z : Type 0} → Result T E → String Z → String Z → Wording → Test
-    → Type 0
-WritesSetup result old new how test =
-    WritesLines result old new (AreSetupLines how test.component.now test.matrix.now.setup)
+abbrev pub WritesSetup : {T E Z : Type 0} → Result T E → String Z → String Z → Detail → Wording
+    → Test → Type 0
+WritesSetup result old new detail how test =
+    WritesLines result old new (AreSetupLines detail how test.component.now test.matrix.now.setup)

@@ -12,53 +12,59 @@ pub use Rattle.lu_machine.specs.Plays.{Plays, IsInfeasibleAt}
 use Rattle.lu_machine.specs.Ends.{HasStatus}
 use Rattle.lu_trace.specs.declared.fault.TraceFault.{TraceFault}
 use Rattle.lu_trace.specs.declared.fault.TraceFault.TheVariants.{Infeasible, Memory}
+use Rattle.lu_trace.specs.declared.detail.Detail.{Detail}
+use Rattle.lu_trace.specs.declared.detail.Detail.TheVariants.{EachStep}
 use Rattle.lu_trace.specs.declared.wording.Wording.{Wording}
 use Rattle.lu_trace.specs.declared.wording.Wording.TheVariants.{Component}
-use Rattle.lu_trace.specs.Lines.{all_waits, status_line, step_line}
+use Rattle.lu_trace.specs.Lines.{all_waits, shown_line, status_line}
 
 -- Thread t runs on from the state s to the state `end` by at most n local instructions, and each
--- has its line, without a number.
-abbrev pub LocalLines : Wording → ℕ → State → ℕ → State → List ℕ → Type 0
-LocalLines how zero s t end lines = (end ≡ s) × (lines ≡ [])
-LocalLines how (suc n) s t end lines =
+-- has its line, without a number, where it is shown in this detail.
+abbrev pub LocalLines : Detail → Wording → ℕ → State → ℕ → State → List ℕ → Type 0
+LocalLines detail how zero s t end lines = (end ≡ s) × (lines ≡ [])
+LocalLines detail how (suc n) s t end lines =
     MatchBool (is_at_local s t)
     ((next : State) × (rest : List ℕ)
-    × OneStep s (record { thread = t; pick = 0 }) next None × LocalLines how n next t end rest
-    × (lines ≡ step_line how None s (record { thread = t; pick = 0 }) ++ rest))
+    × OneStep s (record { thread = t; pick = 0 }) next None × LocalLines detail how n next t end rest
+    × (lines ≡ shown_line detail how None s (record { thread = t; pick = 0 }) ++ rest))
     ((end ≡ s) × (lines ≡ []))
 
 -- The move m leads from the state s to the state `new`: its first step has the line of its number,
 -- and the local instructions after it have theirs.
-abbrev pub MoveLines : Wording → ℕ → State → Move → State → List ℕ → Type 0
-MoveLines how number s m new lines =
+abbrev pub MoveLines : Detail → Wording → ℕ → State → Move → State → List ℕ → Type 0
+MoveLines detail how number s m new lines =
     (mid : State) × (event : Option Event) × (rest : List ℕ)
-    × OneStep s m mid event × LocalLines how (more_local s m.thread) mid m.thread new rest
-    × (lines ≡ step_line how (Some number) s m ++ rest)
+    × OneStep s m mid event × LocalLines detail how (more_local s m.thread) mid m.thread new rest
+    × (lines ≡ shown_line detail how (Some number) s m ++ rest)
 
 -- The schedule leads from the state s to the state `end`, and these are the lines of its moves,
 -- which are numbered from `number` on.
-abbrev pub TraceLines : Wording → ℕ → State → List Move → State → List ℕ → Type 0
-TraceLines how number s [] end lines = (end ≡ s) × (lines ≡ [])
-TraceLines how number s (m ∷ u) end lines =
+abbrev pub TraceLines : Detail → Wording → ℕ → State → List Move → State → List ℕ → Type 0
+TraceLines detail how number s [] end lines = (end ≡ s) × (lines ≡ [])
+TraceLines detail how number s (m ∷ u) end lines =
     (next : State) × (first : List ℕ) × (rest : List ℕ)
-    × MoveLines how number s m next first × TraceLines how (number + 1) next u end rest
+    × MoveLines detail how number s m next first × TraceLines detail how (number + 1) next u end rest
     × (lines ≡ first ++ rest)
 
--- The trace of the schedule in these words: how the state stands that it leads to, the lines of its
--- moves from 0 on, and what each blocked thread waits for in the end.
-abbrev pub IsWordedTrace : Wording → AComponent → Matrix → List Move → List ℕ → Type 0
-IsWordedTrace how c matrix u text =
+-- The trace of the schedule in this detail and in these words: how the state stands that it leads
+-- to, the lines of its moves from 0 on, and what each blocked thread waits for in the end.
+abbrev pub IsDetailedTrace : Detail → Wording → AComponent → Matrix → List Move → List ℕ → Type 0
+IsDetailedTrace detail how c matrix u text =
     (start : State) × (end : State) × (status : Status) × (lines : List ℕ)
-    × IsStart c matrix start × TraceLines how 0 start u end lines × HasStatus end status
+    × IsStart c matrix start × TraceLines detail how 0 start u end lines × HasStatus end status
     × (text ≡ status_line status ++ lines ++ all_waits how end)
+
+-- the trace of each step
+abbrev pub IsWordedTrace : Wording → AComponent → Matrix → List Move → List ℕ → Type 0
+IsWordedTrace how c matrix u text = IsDetailedTrace EachStep how c matrix u text
 
 -- the trace in the words of the component's text
 abbrev pub IsTrace : AComponent → Matrix → List Move → List ℕ → Type 0
 IsTrace c matrix u text = IsWordedTrace Component c matrix u text
 
-abbrev pub IsWordedText : {Z : Type 0} → Wording → AComponent → Matrix → List Move → String Z
-    → Type 0
-IsWordedText how c matrix u text = IsWordedTrace how c matrix u (string_bytes text)
+abbrev pub IsDetailedText : {Z : Type 0} → Detail → Wording → AComponent → Matrix → List Move
+    → String Z → Type 0
+IsDetailedText detail how c matrix u text = IsDetailedTrace detail how c matrix u (string_bytes text)
 
 abbrev pub IsTraceText : {Z : Type 0} → AComponent → Matrix → List Move → String Z → Type 0
 IsTraceText c matrix u text = IsTrace c matrix u (string_bytes text)
@@ -83,13 +89,13 @@ abbrev pub WritesLines : {T E Z : Type 0} → Result T E → String Z → String
 WritesLines result old new Are = OnOk result (AddsText Are old new)
 
 -- where it succeeds the text grows by the lines of a move
-abbrev pub WritesMove : {T E Z : Type 0} → Result T E → String Z → String Z → Wording → ℕ → State
-    → Move → State → Type 0
-WritesMove result old new how number s m end =
-    WritesLines result old new (MoveLines how number s m end)
+abbrev pub WritesMove : {T E Z : Type 0} → Result T E → String Z → String Z → Detail → Wording
+    → ℕ → State → Move → State → Type 0
+WritesMove result old new detail how number s m end =
+    WritesLines result old new (MoveLines detail how number s m end)
 
 -- and by those of the local instructions of thread t
-abbrev pub WritesLocals : {T E Z : Type 0} → Result T E → String Z → String Z → Wording → ℕ
-    → State → ℕ → State → Type 0
-WritesLocals result old new how most s t end =
-    WritesLines result old new (LocalLines how most s t end)
+abbrev pub WritesLocals : {T E Z : Type 0} → Result T E → String Z → String Z → Detail → Wording
+    → ℕ → State → ℕ → State → Type 0
+WritesLocals result old new detail how most s t end =
+    WritesLines result old new (LocalLines detail how most s t end)

@@ -1,6 +1,6 @@
 -- How instructions are shown: as the component's text has them, with its labels or without, or as
 -- the source has them that the component was compiled from.
-use Rattle.std.specs.Prelude.{ℕ, ◌-◌, ◌++◌, if◌then◌else◌, Bool, true, List, [], codes, Option, Some, None, slice_get}
+use Rattle.std.specs.Prelude.{ℕ, ◌+◌, ◌-◌, ◌++◌, ◌==◌, ◌&&◌, is_none, if◌then◌else◌, Bool, true, false, List, [], codes, Option, Some, None, slice_get}
 use Rattle.std.specs.Option.{option_and_then, option_map, option_map_or, unwrap_or}
 use Rattle.std.specs.Fmt.{decimal}
 use Rattle.std.specs.Str.{is_utf8, trim}
@@ -64,11 +64,38 @@ goes_on_to (Some target) = codes "jumps to " ++ target
 abbrev pub goes_on_at : Wording → Frame → ℕ → List ℕ
 goes_on_at how f place = goes_on_to (target_name how f place)
 
+-- `= 1, `: the value that a jump tests, where a source is shown
+abbrev pub tested : Wording → ℕ → List ℕ
+tested Component n = []
+tested (Labelled labels) n = []
+tested (Source lines origins) n = codes "= " ++ decimal n ++ codes ", "
+
 -- whether the cells of array w are shown with their index
 abbrev pub is_indexed : Wording → ℕ → Bool
 is_indexed Component w = true
 is_indexed (Labelled labels) w = true
 is_indexed (Source lines origins) w = unwrap_or (slice_get origins.now.indexed.items w) true
+
+-- ---- values that the next step has
+
+-- whether two instructions come from one line
+abbrev pub same_line : Option Origin → Option Origin → Bool
+same_line None other = false
+same_line (Some here) other = option_map_or (λ next. here.line == next.line) other false
+
+-- whether the next instruction of the operation f, in its code, comes from the same line of the
+-- source
+abbrev pub stays_in_line : Origins → Frame → Bool
+stays_in_line origins f =
+    same_line (origin_in origins f.op f.place) (origin_in origins f.op (f.place + 1))
+
+-- whether the value that comes into register r has no name, and belongs to the same line as the
+-- next instruction
+abbrev pub is_within_line : Wording → Frame → ℕ → Bool
+is_within_line Component f r = false
+is_within_line (Labelled labels) f r = false
+is_within_line (Source lines origins) f r =
+    is_none (local_in origins.now f r) && stays_in_line origins.now f
 
 -- ---- lines of a source
 

@@ -7,7 +7,7 @@ ghost use Rattle.lu_machine.specs.Layout.{IsSound};
 ghost use Rattle.lu_trace.specs.Deeds.{deed, loaded, looked, of_cell, register_after, swapped};
 ghost use Rattle.lu_trace.specs.Deeds as spec;
 
-use crate::wording::{Wording, has_name, is_indexed, write_jump, write_register};
+use crate::wording::{Wording, has_name, is_indexed, write_jump, write_register, write_tested};
 use lu_component::{Component, Instr, Operand};
 use lu_lang::{array_name, lock_name};
 use lu_machine::{Frame, Machine, compute};
@@ -198,7 +198,7 @@ fn write_unlock(
     }
 }
 
-/// Adds what a jump does that is taken where the value is 0.
+/// Adds what a jump does that is taken where the value is 0, and in a source the value.
 fn write_jump_if_zero(
     text: &mut String,
     how: &Wording<'_>,
@@ -208,6 +208,7 @@ fn write_jump_if_zero(
 ) -> Result<(), AllocError>
     ensures { Writes result text.old text.new (spec.jump_deed how.now frame.now target value) }
 {
+    write_tested(text, how, value)?;
     if value == 0 {
         write_jump(text, how, frame, target)
     } else {

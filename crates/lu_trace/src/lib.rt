@@ -4,7 +4,8 @@
 //! Each thread has a column of its own, so that it is seen how their steps interleave.
 //! [`write_trace_from_setup`] begins before, with what the calls of the matrix's setup do and
 //! leave. A component is shown with the labels that its text has, and one that was compiled from a
-//! source by the source's lines and names, with [`write_worded_trace`] and a [`Wording`].
+//! source by the source's lines and names, with [`write_worded_trace`] and a [`Wording`]; a
+//! [`Detail`] says which steps are shown.
 //!
 //! ```text
 //! trace complete
@@ -15,6 +16,7 @@
 //! ```
 #![tactic(auto)]
 
+mod detail;
 mod effects;
 mod fault;
 mod laws;
@@ -24,6 +26,7 @@ mod tracing;
 mod waiting;
 mod wording;
 
+pub use detail::Detail;
 pub use fault::TraceFault;
 pub use laws::trace_laws;
 pub use lines::write_step;

@@ -5,11 +5,12 @@ ghost use Rattle.lu_text.specs.Writing.{Writes};
 ghost use Rattle.lu_trace.specs.Lines as spec;
 ghost use Rattle.lu_trace.specs.Lines.{component_line, labelled_instr, labelled_line, head_of};
 
+use crate::detail::Detail;
 use crate::effects::write_deed;
-use crate::wording::{Wording, write_place, write_source_line};
+use crate::wording::{Wording, is_within_line, write_place, write_source_line};
 use lu_component::{Component, Instr};
 use lu_lang::{Labels, has_jump_to, write_instr, write_label};
-use lu_machine::{Activity, Frame, Machine, Status};
+use lu_machine::{Activity, Frame, Machine, Status, is_local};
 use lu_test::{Call, Move};
 use std::alloc::{AllocError, Global};
 
@@ -237,8 +238,76 @@ pub fn write_step(
     }
 }
 
+/// Whether the instruction after this place in the code of an operation is local.
+fn is_local_after(component: &Component, op: u8, place: u8) -> bool
+    ensures { result ≡ spec.is_local_after component.now op place }
+{
+    match code_of_operation(component, op).get(usize::from(place) + 1) {
+        None => false,
+        Some(instr) => is_local(instr),
+    }
+}
+
+/// Whether the instruction computes a value without a name, and the next one, which is local, comes
+/// from the same line of a source.
+fn is_partial(how: &Wording<'_>, component: &Component, frame: &Frame, instr: &Instr) -> bool
+    ensures { result ≡ spec.is_partial how.now component.now frame.now instr.now }
+{
+    match *instr {
+        Instr::Compute { to, .. } => {
+            is_within_line(how, frame, to) && is_local_after(component, frame.op, frame.place)
+        }
+        _ => false,
+    }
+}
+
+/// Whether a thread computes such a value next.
+fn is_at_partial(how: &Wording<'_>, machine: &Machine<'_>, thread: u8) -> bool
+    ensures { result ≡ spec.is_at_partial how.now machine.now thread }
+{
+    let Some(standing) = machine.standing(thread) else {
+        return false;
+    };
+    match &standing.activity {
+        Activity::Idle => false,
+        Activity::Open(frame) => match machine.instr(frame) {
+            None => false,
+            Some(instr) => is_partial(how, machine.component(), frame, instr),
+        },
+    }
+}
+
+/// Whether the step of the move can go without a line: it has no number, or no step without one
+/// comes after it.
+fn is_dispensable(machine: &Machine<'_>, number: Option<usize>, next: Move) -> bool
+    ensures { result ≡ spec.is_dispensable number machine.now next }
+{
+    match number {
+        None => true,
+        Some(_) => machine.more_local(next.thread) == 0,
+    }
+}
+
+/// Whether the next step of the move's thread has no line, where the move has this number or none.
+pub(crate) fn is_left_out(
+    detail: Detail,
+    how: &Wording<'_>,
+    machine: &Machine<'_>,
+    number: Option<usize>,
+    next: Move,
+) -> bool
+    ensures { result ≡ spec.is_left_out detail how.now number machine.now next }
+{
+    match detail {
+        Detail::EachStep => {
+            is_dispensable(machine, number, next) && is_at_partial(how, machine, next.thread)
+        }
+        Detail::SharedSteps => machine.is_at_local(next.thread),
+    }
+}
+
 /// Adds the line of the next step of the move's thread, with the number or none.
-pub(crate) fn write_line(
+fn write_step_line(
     alloc: Global,
     text: &mut String,
     how: &Wording<'_>,
@@ -252,4 +321,23 @@ pub(crate) fn write_line(
     write_head(alloc, text, number, next.thread)?;
     write_step(text, how, machine, next)?;
     text.push('\n')
+}
+
+/// Adds that line where it is shown in this detail.
+pub(crate) fn write_line(
+    alloc: Global,
+    text: &mut String,
+    detail: Detail,
+    how: &Wording<'_>,
+    machine: &Machine<'_>,
+    number: Option<usize>,
+    next: Move,
+) -> Result<(), AllocError>
+    ensures { Writes result text.old text.new
+        (spec.shown_line detail how.now number machine.now next) }
+{
+    if is_left_out(detail, how, machine, number, next) {
+        return Ok(());
+    }
+    write_step_line(alloc, text, how, machine, number, next)
 }

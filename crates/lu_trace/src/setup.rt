@@ -4,11 +4,12 @@ ghost use Rattle.std.specs.Prelude.{◌≡◌, ◌<◌, length, IfErr, IfOk};
 ghost use Rattle.lu_text.specs.Writing.{Writes};
 ghost use Rattle.lu_machine.specs.Starts.{CanRun};
 ghost use Rattle.lu_trace.specs.Traces.{IsTraceFault};
-ghost use Rattle.lu_trace.specs.Setups.{IsTextFromSetup, IsWordedFromSetup, WritesSetup, WritesUpTo};
+ghost use Rattle.lu_trace.specs.Setups.{IsDetailedFromSetup, IsTextFromSetup, WritesSetup, WritesUpTo};
 ghost use Rattle.lu_trace.specs.Setups as spec;
 
+use crate::detail::Detail;
 use crate::fault::TraceFault;
-use crate::lines::write_step;
+use crate::lines::{is_left_out, write_step};
 use crate::tracing::write_worded_trace;
 use crate::wording::Wording;
 use lu_component::Component;
@@ -36,14 +37,18 @@ fn setup_heading(matrix: &Matrix) -> &'static str
     }
 }
 
-/// Adds the line of what thread 0 does next.
+/// Adds the line of what thread 0 does next, where it is shown in this detail.
 fn write_setup_line(
     text: &mut String,
+    detail: Detail,
     how: &Wording<'_>,
     machine: &Machine<'_>,
 ) -> Result<(), AllocError>
-    ensures { Writes result text.old text.new (spec.setup_line how.now machine.now) }
+    ensures { Writes result text.old text.new (spec.setup_line detail how.now machine.now) }
 {
+    if is_left_out(detail, how, machine, None, FIRST_MOVE) {
+        return Ok(());
+    }
     text.push_str(INDENT)?;
     write_step(text, how, machine, FIRST_MOVE)?;
     text.push('\n')
@@ -53,16 +58,17 @@ fn write_setup_line(
 /// [`MOST_LINES`] of them. Adds their lines.
 fn write_setup_lines(
     text: &mut String,
+    detail: Detail,
     how: &Wording<'_>,
     machine: &mut Machine<'_>,
 ) -> Result<(), AllocError>
-    ensures { WritesUpTo result text.old text.new how.now 34952 machine.old machine.new }
+    ensures { WritesUpTo result text.old text.new detail how.now 34952 machine.old machine.new }
 {
     for _line in 0..MOST_LINES {
         if !machine.feasible(FIRST_MOVE) {
             return Ok(());
         }
-        write_setup_line(text, how, machine)?;
+        write_setup_line(text, detail, how, machine)?;
         machine.step_once(FIRST_MOVE);
     }
     Ok(())
@@ -72,14 +78,15 @@ fn write_setup_lines(
 fn write_setup(
     alloc: Global,
     text: &mut String,
+    detail: Detail,
     how: &Wording<'_>,
     test: Test<'_>,
 ) -> Result<(), AllocError>
-    ensures { WritesSetup result text.old text.new how.now test.entry }
+    ensures { WritesSetup result text.old text.new detail how.now test.entry }
 {
     let alone = setup_alone(alloc, test.matrix)?;
     let mut machine = Machine::start(alloc, test.component, &alone)?;
-    write_setup_lines(text, how, &mut machine)
+    write_setup_lines(text, detail, how, &mut machine)
 }
 
 /// The number of the cells of an array.
@@ -201,6 +208,7 @@ fn write_found(text: &mut String, machine: &Machine<'_>) -> Result<(), AllocErro
 /// where it stands; `Memory` where memory was refused.
 pub fn write_worded_trace_from_setup(
     alloc: Global,
+    detail: Detail,
     how: &Wording<'_>,
     component: &Component,
     matrix: &Matrix,
@@ -208,12 +216,12 @@ pub fn write_worded_trace_from_setup(
 ) -> Result<String, TraceFault>
     requires { CanRun component.now matrix.now }
     ensures trace { IfOk result
-        (IsWordedFromSetup how.now component.now matrix.now schedule.now) }
+        (IsDetailedFromSetup detail how.now component.now matrix.now schedule.now) }
     ensures fault { IfErr result (IsTraceFault component.now matrix.now schedule.now) }
 {
-    let trace = write_worded_trace(alloc, how, component, matrix, schedule)?;
+    let trace = write_worded_trace(alloc, detail, how, component, matrix, schedule)?;
     let mut text = String::from_str(alloc, setup_heading(matrix))?;
-    write_setup(alloc, &mut text, how, Test { component, matrix })?;
+    write_setup(alloc, &mut text, detail, how, Test { component, matrix })?;
     let machine = Machine::start(alloc, component, matrix)?;
     text.push_str("start\n")?;
     write_found(&mut text, &machine)?;
@@ -237,5 +245,6 @@ pub fn write_trace_from_setup(
     ensures trace { IfOk result (IsTextFromSetup component.now matrix.now schedule.now) }
     ensures fault { IfErr result (IsTraceFault component.now matrix.now schedule.now) }
 {
-    write_worded_trace_from_setup(alloc, &Wording::Component, component, matrix, schedule)
+    let how = Wording::Component;
+    write_worded_trace_from_setup(alloc, Detail::EachStep, &how, component, matrix, schedule)
 }

@@ -3,8 +3,9 @@
 ghost use Rattle.std.specs.Prelude.{IfErr, IfOk};
 ghost use Rattle.lu_machine.specs.Starts.{CanRun};
 ghost use Rattle.lu_machine.specs.Steps.{IsFeasible};
-ghost use Rattle.lu_trace.specs.Traces.{IsTraceFault, IsTraceText, IsWordedText, WritesLocals, WritesMove};
+ghost use Rattle.lu_trace.specs.Traces.{IsTraceFault, IsTraceText, IsDetailedText, WritesLocals, WritesMove};
 
+use crate::detail::Detail;
 use crate::fault::TraceFault;
 use crate::lines::{status_line, write_line};
 use crate::waiting::write_waits;
@@ -19,12 +20,13 @@ use std::alloc::{AllocError, Global};
 fn run_on(
     alloc: Global,
     text: &mut String,
+    detail: Detail,
     how: &Wording<'_>,
     machine: &mut Machine<'_>,
     t: u8,
     most: u8,
 ) -> Result<(), AllocError>
-    ensures { WritesLocals result text.old text.new how.now most machine.old t machine.new }
+    ensures { WritesLocals result text.old text.new detail how.now most machine.old t machine.new }
 {
     if most == 0 {
         return Ok(());
@@ -33,36 +35,41 @@ fn run_on(
         return Ok(());
     }
     let next = Move { thread: t, pick: 0 };
-    write_line(alloc, text, how, machine, None, next)?;
+    write_line(alloc, text, detail, how, machine, None, next)?;
     machine.step_once(next);
-    run_on(alloc, text, how, machine, t, most - 1)
+    run_on(alloc, text, detail, how, machine, t, most - 1)
 }
 
 /// Makes the move, which has this number, and adds its lines. It is asked to be feasible.
 fn write_move(
     alloc: Global,
     text: &mut String,
+    detail: Detail,
     how: &Wording<'_>,
     machine: &mut Machine<'_>,
     number: usize,
     next: Move,
 ) -> Result<(), AllocError>
     requires { IsFeasible machine.old next }
-    ensures { WritesMove result text.old text.new how.now number machine.old next machine.new }
+    ensures { WritesMove result text.old text.new detail how.now number machine.old next machine.new }
 {
     let more = machine.more_local(next.thread);
-    write_line(alloc, text, how, machine, Some(number), next)?;
+    write_line(alloc, text, detail, how, machine, Some(number), next)?;
     machine.step_once(next);
-    run_on(alloc, text, how, machine, next.thread, more)
+    run_on(alloc, text, detail, how, machine, next.thread, more)
 }
 
-/// The trace of a schedule of the component and the matrix, for people to read, in these words. The
-/// matrix is asked to be one of the component.
+/// The trace of a schedule of the component and the matrix, for people to read, in this detail and
+/// in these words. The matrix is asked to be one of the component.
 ///
 /// The first line is `trace complete`, `trace stuck` or `trace running`. Then each move has a line:
 /// its number, from 0, and in its thread's column the call that it opens, or the instruction and
 /// after `#` what it did. Local instructions that run with a move stand below it, without a
 /// number. Last comes a line for each thread that is blocked in the end, with what it waits for.
+///
+/// A test of a source is shown once, with its value: the steps that compute it have no lines. With
+/// [`Detail::SharedSteps`] no step has one that only its own thread sees. The numbers of the moves
+/// stay as they are.
 ///
 /// An instruction is shown as the component's text has it, `load r1 top 0`, and its remark by
 /// registers, cells and labels, which have the names that the text gives them or are shown by their
@@ -73,7 +80,7 @@ fn write_move(
 ///    1 T0 line 7: let head = top  # head = 0
 ///    2 T0 line 8: next[node] = head  # next[1] = 0
 ///    3 T0 line 9: if cas(top, head, node) {  # top = 1
-///         T0 line 9: if cas(top, head, node) {  # continues
+///         T0 line 9: if cas(top, head, node) {  # = 1, continues
 /// ```
 ///
 /// # Errors
@@ -82,6 +89,7 @@ fn write_move(
 /// `Memory` where memory was refused.
 pub fn write_worded_trace(
     alloc: Global,
+    detail: Detail,
     how: &Wording<'_>,
     component: &Component,
     matrix: &Matrix,
@@ -89,7 +97,7 @@ pub fn write_worded_trace(
 ) -> Result<String, TraceFault>
     requires { CanRun component.now matrix.now }
     ensures trace { IfOk result
-        (IsWordedText how.now component.now matrix.now schedule.now) }
+        (IsDetailedText detail how.now component.now matrix.now schedule.now) }
     ensures fault { IfErr result (IsTraceFault component.now matrix.now schedule.now) }
 {
     let mut machine = Machine::start(alloc, component, matrix)?;
@@ -98,7 +106,7 @@ pub fn write_worded_trace(
         if !machine.feasible(*next) {
             return Err(TraceFault::Infeasible(number));
         }
-        write_move(alloc, &mut lines, how, &mut machine, number, *next)?;
+        write_move(alloc, &mut lines, detail, how, &mut machine, number, *next)?;
     }
     let mut text = String::from_str(alloc, status_line(machine.status()))?;
     text.push_str(lines.as_str())?;
@@ -122,5 +130,6 @@ pub fn write_trace(
     ensures trace { IfOk result (IsTraceText component.now matrix.now schedule.now) }
     ensures fault { IfErr result (IsTraceFault component.now matrix.now schedule.now) }
 {
-    write_worded_trace(alloc, &Wording::Component, component, matrix, schedule)
+    let how = Wording::Component;
+    write_worded_trace(alloc, Detail::EachStep, &how, component, matrix, schedule)
 }

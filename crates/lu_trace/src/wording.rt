@@ -1,6 +1,6 @@
 //! How instructions are shown.
 
-ghost use Rattle.std.specs.Prelude.{◌≡◌, is_some};
+ghost use Rattle.std.specs.Prelude.{◌≡◌, ◌+◌, is_some};
 ghost use Rattle.std.specs.Option.{option_copied};
 ghost use Rattle.lu_text.specs.Writing.{Writes};
 ghost use Rattle.lu_trace.specs.Wordings as spec;
@@ -128,6 +128,55 @@ pub(crate) fn write_jump(
             None => text.push_str("continues"),
             Some(origin) => write!(text, "jumps to line {}", origin.line),
         },
+    }
+}
+
+/// Adds the value that a jump tests, where a source is shown.
+pub(crate) fn write_tested(
+    text: &mut String,
+    how: &Wording<'_>,
+    value: u32,
+) -> Result<(), AllocError>
+    ensures { Writes result text.old text.new (spec.tested how.now value) }
+{
+    match how {
+        Wording::Component | Wording::Labelled(_) => Ok(()),
+        Wording::Source { .. } => write!(text, "= {value}, "),
+    }
+}
+
+/// Where the instruction after this place of an operation comes from, if that is known.
+fn origin_after(origins: &Origins, op: u8, place: u8) -> Option<&Origin>
+    ensures { option_copied result ≡ spec.origin_in origins.now op (place + 1) }
+{
+    let code = origins.operations.get(usize::from(op))?;
+    code.get(usize::from(place) + 1)
+}
+
+/// Whether the next instruction of the operation, in its code, comes from the same line of the
+/// source.
+fn stays_in_line(origins: &Origins, frame: &Frame) -> bool
+    ensures { result ≡ spec.stays_in_line origins.now frame.now }
+{
+    match origin_in(origins, frame.op, frame.place) {
+        None => false,
+        Some(here) => match origin_after(origins, frame.op, frame.place) {
+            None => false,
+            Some(next) => here.line == next.line,
+        },
+    }
+}
+
+/// Whether a source gives a name to no local in this register, and the next instruction of the
+/// operation comes from the same line.
+pub(crate) fn is_within_line(how: &Wording<'_>, frame: &Frame, register: u8) -> bool
+    ensures { result ≡ spec.is_within_line how.now frame.now register }
+{
+    match *how {
+        Wording::Component | Wording::Labelled(_) => false,
+        Wording::Source { origins, .. } => {
+            local_in(origins, frame, register).is_none() && stays_in_line(origins, frame)
+        }
     }
 }
 

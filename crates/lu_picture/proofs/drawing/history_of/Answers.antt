@@ -5,5 +5,5 @@ use Rattle.lu_picture.proofs.drawing.history_of.Goals as goal
 
 pub loop-mark-preserved : goal.loop-mark-preserved
 loop-mark-preserved c =
-    let none : Mark = record { left = 0; event = Call 0 0 } in
+    let none : Mark = record { top = 0; event = Call 0 0 } in
     events_on c.args.marks.now c.loop-mark.mark-index none c.loop-mark.history c.push.new.self c.loop-mark-test.true c.loop-mark.invariant c.in_ok-push.ensures.ok

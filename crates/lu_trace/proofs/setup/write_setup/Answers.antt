@@ -13,4 +13,4 @@ returns c =
     let machine = c.in_ok-machine.machine in
     let short = alone_short calls c.in_ok-alone.alone c.in_ok-alone.ensures c.in_ok-machine.ensures.limits.1 in
     let starts = alone_starts component calls c.in_ok-alone.alone machine c.in_ok-alone.ensures c.in_ok-machine.ensures.starts in
-    on_ok_weaker c.write_setup_lines.result (λ more. setup_added c.args.how.now component calls machine c.write_setup_lines.new.machine (string_bytes c.args.text.now) (string_bytes c.write_setup_lines.new.text) c.in_ok-machine.ensures.limits.0.local_few short c.args.test.can_run.settles starts more) c.write_setup_lines.ensures
+    on_ok_weaker c.write_setup_lines.result (λ more. setup_added c.args.detail c.args.how.now component calls machine c.write_setup_lines.new.machine (string_bytes c.args.text.now) (string_bytes c.write_setup_lines.new.text) c.in_ok-machine.ensures.limits.0.local_few short c.args.test.can_run.settles starts more) c.write_setup_lines.ensures

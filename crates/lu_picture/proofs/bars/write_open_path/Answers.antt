@@ -1,0 +1,5 @@
+use Rattle.std.proofs.Common.{append_assoc}
+use Rattle.lu_picture.proofs.bars.write_open_path.Goals as goal
+
+pub returns : goal.returns
+returns c = simp append_assoc c.write.ensures.bytes
