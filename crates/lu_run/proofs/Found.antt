@@ -288,6 +288,7 @@ sound_first c calls events table a there none zero_state pending effects = recor
             subst (λ x. IsConfiguration (RestAfter s) x new) (sym h) is);
       });
 }
+
 pub sound_last_event : (c : Component) (calls : List ACall) (events : List RunEvent) (first table : Table) (a : Attempt) → IsTable c calls table → IsSound c calls events first table a → length events ≤ a.events → (setup : List ACall) (s : State) → IsStart c (matrix_of setup calls events) s → StartsAt first s → IsRun calls events → HasLinearization s events
 sound_last_event c calls events first table a right was le setup s start starts run =
     let line = was.linearized setup s start starts run in

@@ -133,9 +133,9 @@ module _ (c : Component) (setup calls : List ACall) (events : List RunEvent) (s 
       let makes : step.call ≡ record { thread = one.thread; call = one.call } = same_call step.call (record { thread = one.thread; call = one.call }) thread (ap (λ (x : ThreadCall). x.call) which ∙ sym is.has_call) in
       let leads : (rest : Rest) → InState table new.attempt.configuration.state rest → RestAfter s (q ++ op ∷ []) rest =
       (λ rest there.
-          let from = from_state c calls table right a.configuration.state new.attempt.configuration.state step.call rest step.outcome step.leads there in
-          leads_put (RestAfter s) q h was.order.linearizes effects was.effects (NextRest c calls) next auto sequential op step.call waits absent from.0 rest
-          (was.leads from.0 (in_earlier old table grows a.configuration.state from.0 attempt.state from.1)) (subst (λ x. NextRest c calls from.0 step.call x rest) outcome from.2)) in
+      let from = from_state c calls table right a.configuration.state new.attempt.configuration.state step.call rest step.outcome step.leads there in
+      leads_put (RestAfter s) q h was.order.linearizes effects was.effects (NextRest c calls) next auto sequential op step.call waits absent from.0 rest
+      (was.leads from.0 (in_earlier old table grows a.configuration.state from.0 attempt.state from.1)) (subst (λ x. NextRest c calls from.0 step.call x rest) outcome from.2)) in
       let state = next_state c calls table right a.configuration.state new.attempt.configuration.state step.call step.outcome step.leads in
       let first = first_of state.0.positions.items (right.states new.attempt.configuration.state state.0 state.1).some in
       let some = leads (rest_at first.0) (state.0, state.1, (first.0, first.1, refl)) in
@@ -219,10 +219,10 @@ replay_first c calls events table r right there none zero_state pending effects 
           let h : history_of (take r.attempt.events events) ≡ [] = ap (λ i. history_of (take i events)) none in
           let at : (rest : Rest) → InState table r.attempt.configuration.state rest → IsLinearization (Reads (RestAfter s)) [] [] × RestAfter s [] rest =
           (λ rest there.
-              let is = line.linearizes rest there in
-              let whole : IsLinearization (Reads (RestAfter s)) is.q [] = subst (IsLinearization (Reads (RestAfter s)) is.q) h is.linearizes in
-              let none_in : is.q ≡ [] = nothing_called is.q whole.called in
-              (subst (λ x. IsLinearization (Reads (RestAfter s)) x []) none_in whole, subst (λ x. RestAfter s x rest) none_in is.leads)) in
+          let is = line.linearizes rest there in
+          let whole : IsLinearization (Reads (RestAfter s)) is.q [] = subst (IsLinearization (Reads (RestAfter s)) is.q) h is.linearizes in
+          let none_in : is.q ≡ [] = nothing_called is.q whole.called in
+          (subst (λ x. IsLinearization (Reads (RestAfter s)) x []) none_in whole, subst (λ x. RestAfter s x rest) none_in is.leads)) in
           let state = sound.is.state in
           let one = first_of state.0.positions.items (right.states r.attempt.configuration.state state.0 state.1).some in
           let orders : entries_of r.order.items ≡ [] = ap entries_of empty in

@@ -52,7 +52,11 @@ pub(crate) struct Foreseen<'a> {
 }
 
 /// Whether the thread's call may return this outcome.
-pub(crate) fn is_allowed(returns: &[Option<SerialOutcome>; 8], thread: u8, outcome: SerialOutcome) -> bool
+pub(crate) fn is_allowed(
+    returns: &[Option<SerialOutcome>; 8],
+    thread: u8,
+    outcome: SerialOutcome,
+) -> bool
     ensures { IsTrue result ↔ Allows (by_thread returns.now thread) outcome }
 {
     match returns.get(usize::from(thread)) {

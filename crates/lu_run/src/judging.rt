@@ -418,11 +418,7 @@ fn judge_by_all(
 ///
 /// After some serial calls, a call takes more moves than the bound, or has two outcomes; or out of
 /// memory.
-fn passes_at_once(
-    runs: SerialRuns<'_>,
-    table: &mut Table,
-    run: &Run,
-) -> Result<bool, FollowFault>
+fn passes_at_once(runs: SerialRuns<'_>, table: &mut Table, run: &Run) -> Result<bool, FollowFault>
     requires table { IsTable runs.component.now runs.calls.now table.old }
     requires start { HasState table.old 0 }
     requires calls { AreCallsOf runs.component.now runs.calls.now }
@@ -447,7 +443,8 @@ fn passes_at_once(
 /// linearization, or else a thread whose pending call can't be stuck.
 ///
 /// The serial runs are a specification only if each call has one outcome after the same serial calls,
-/// within the bound. Where a call that comes up does not, the verdict names it.
+/// within the bound. Where a call that comes up does not, the verdict names it. Calls come up in a
+/// depth-first search for one linearization; if it finds none, in all linearizations.
 ///
 /// `bound`, up to 256, is the number of moves that an operation may take after its call. The memory
 /// that is needed depends on the states and the pending calls, and not on the length of the run.
