@@ -1,6 +1,6 @@
 -- Attempts at a linearization of a run stay sound, step by step.
 use Rattle.std.proofs.Common.{arith, ◌≡◌, ◌≢◌, ℕ, zero, suc, ◌+◌, ◌<◌, ◌≤◌, ◌==◌, List, [], ◌∷◌, ◌++◌, drop, length, replicate, set, take, Option, Some, None, slice_get, refl, sym, ◌∙◌, ap, subst, inl, inr, add-one, append_assoc}
-use Rattle.std.specs.Prelude.{◌⊎◌, if◌then◌else◌}
+use Rattle.std.specs.Prelude.{◌⊎◌, Vec, if◌then◌else◌}
 use Rattle.std.proofs.lemmas.Bool.Decides.{eqb_tells}
 use Rattle.std.proofs.lemmas.List.{append-nil, get_or-set_other, get_or-set_same, length-set, take_all}
 use Rattle.std.proofs.lemmas.Option.{same_Some}
@@ -99,10 +99,10 @@ module _ (c : Component) (calls : List ACall) (events : List RunEvent) (first ol
   pub all_later : (list : List Attempt) → AreSound c calls events first old list → AreSound c calls events first new list
   all_later list all i a at = sound_later a (all i a at)
 
-pub opens_none : (runs : SerialRuns) (from : Attempt) (table : Table) (list : List Attempt) → Opens runs from table list table list
+pub opens_none : {Z : Type 0} (runs : SerialRuns) (from : Attempt) (table : Table) (list : Vec Attempt Z) → Opens runs from table list table list
 opens_none runs from table list events first is all = all
 
-pub opens_on : (runs : SerialRuns) (from : Attempt) (old mid new : Table) (xs ys zs : List Attempt) → Grows old mid → Opens runs from old xs mid ys → Opens runs from mid ys new zs → Opens runs from old xs new zs
+pub opens_on : {Z : Type 0} (runs : SerialRuns) (from : Attempt) (old mid new : Table) (xs ys zs : Vec Attempt Z) → Grows old mid → Opens runs from old xs mid ys → Opens runs from mid ys new zs → Opens runs from old xs new zs
 opens_on runs from old mid new xs ys zs grows before more events first is all = more events first (sound_later runs.component.now runs.calls.now events first old mid grows from is) (before events first is all)
 
 -- ---- one step

@@ -1,5 +1,5 @@
 -- The search for one linearization of a run.
-use Rattle.std.specs.Prelude.{◌≡◌, ℕ, ◌+◌, ◌<◌, ◌≤◌, Bool, true, List, [], ◌∷◌, drop, length, set, take, Option, Some, None, IfOk, IsSome, Result, slice_get}
+use Rattle.std.specs.Prelude.{◌≡◌, ℕ, ◌+◌, ◌<◌, ◌≤◌, Bool, true, List, [], ◌∷◌, drop, length, set, take, Option, Some, None, IfOk, IsSome, OnOk, Result, Vec, slice_get}
 use Rattle.lu_component.specs.Component.{Component}
 use Rattle.lu_test.specs.declared.matrix.Call.{Call as ACall}
 use Rattle.lu_machine.specs.States.{State}
@@ -56,9 +56,16 @@ OpensOf runs events from old list new longer =
     → AreSound runs.component.now runs.calls.now events first new longer
 
 -- so it is of the attempts at any run
-abbrev pub Opens : SerialRuns → Attempt → Table → List Attempt → Table → List Attempt → Type 0
+abbrev pub Opens : {Z : Type 0} → SerialRuns → Attempt → Table → Vec Attempt Z → Table
+    → Vec Attempt Z → Type 0
 Opens runs from old list new longer =
-    (events : List RunEvent) → OpensOf runs events from old list new longer
+    (events : List RunEvent) → OpensOf runs events from old list.items new longer.items
+
+-- so it is of the attempts at this run, unless a serial run offends or memory ran out
+abbrev pub IfOpens : {A E Z : Type 0} → SerialRuns → List RunEvent → Attempt → Table
+    → Vec Attempt Z → Table → Vec Attempt Z → Result A E → Type 0
+IfOpens runs events from old list new longer result =
+    OnOk result (OpensOf runs events from old list.items new longer.items)
 
 -- where it is known that the run has a linearization, it has one
 abbrev pub Finds : {E : Type 0} → SerialRuns → Table → List RunEvent → Result Bool E → Type 0

@@ -3,7 +3,7 @@
 ghost use Rattle.std.specs.Prelude.{◌≡◌, ◌↔◌, ◌<◌, ◌≤◌, ◌++◌, ◌+◌, ◌∷◌, [], IfErr, IfOk, IfSome, IsTrue, None, OnOk, length, replicate};
 ghost use Rattle.lu_history.specs.Parts.{as_serial};
 ghost use Rattle.lu_machine.specs.declared.TheConstants.{MOST_MOVES};
-ghost use Rattle.lu_run.specs.Finding.{Finds, FindsAttempt, HasEffect, IsAfterCall, IsAfterEffect, IsAfterReturn, IsAlike, IsAttempt, IsLaterPart, Opens, OpensOf};
+ghost use Rattle.lu_run.specs.Finding.{Finds, FindsAttempt, HasEffect, IfOpens, IsAfterCall, IsAfterEffect, IsAfterReturn, IsAlike, IsAttempt, IsLaterPart, Opens};
 ghost use Rattle.lu_run.specs.Following.{HasState};
 ghost use Rattle.lu_run.specs.Offending.{IsFollowFaultOf, LearnsBy};
 ghost use Rattle.lu_run.specs.Runs.{AreEventsOf};
@@ -240,7 +240,7 @@ fn open_effect(
     requires few { runs.bound ≤ MOST_MOVES }
     ensures learns { OnOk result (LearnsBy runs.entry table.old table.new) }
     ensures opens { OnOk result
-        (Opens runs.entry from.now table.old open.old.items table.new open.new.items) }
+        (Opens runs.entry from.now table.old open.old table.new open.new) }
     ensures offends { IfErr result (IsFollowFaultOf runs.entry table.old) }
 {
     if let Some(to) = take_effect(runs, table, from, thread)? {
@@ -267,7 +267,7 @@ fn open_effects(
     requires few { runs.bound ≤ MOST_MOVES }
     ensures learns { OnOk result (LearnsBy runs.entry table.old table.new) }
     ensures opens { OnOk result
-        (Opens runs.entry from.now table.old open.old.items table.new open.new.items) }
+        (Opens runs.entry from.now table.old open.old table.new open.new) }
     ensures offends { IfErr result (IsFollowFaultOf runs.entry table.old) }
 {
     for thread in 0..8 {
@@ -304,8 +304,8 @@ fn go_on(
     requires next { from.now.events < length events.now }
     requires few { runs.bound ≤ MOST_MOVES }
     ensures learns { OnOk result (LearnsBy runs.entry table.old table.new) }
-    ensures opens { OnOk result (OpensOf runs.entry
-        events.now from.now table.old open.old.items table.new open.new.items) }
+    ensures opens { IfOpens runs.entry
+        events.now from.now table.old open.old table.new open.new result }
     ensures offends { IfErr result (IsFollowFaultOf runs.entry table.old) }
 {
     let next = from.events + 1;

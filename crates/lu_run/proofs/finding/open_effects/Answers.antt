@@ -11,7 +11,7 @@ use Rattle.lu_run.proofs.finding.open_effects.Goals.{then-thread-last+in_ok-open
 pub loop-thread-init : goal.loop-thread-init
 loop-thread-init c = record {
   learns = learns_none c.args.runs.component.now c.args.runs.calls.now c.args.table.now c.requires.table;
-  opens = opens_none c.args.runs c.args.from.now c.args.table.now c.args.open.now.items;
+  opens = opens_none c.args.runs c.args.from.now c.args.table.now c.args.open.now;
 }
 
 pub open_effect-requires-clause-from : goal.open_effect-requires-clause-from
@@ -34,7 +34,7 @@ loop-thread-preserved c =
     elim c.if-thread-last.branch [
       | then-thread-last+in_ok-open_effect w ↦ record {
         learns = subst (Learns runs.component.now runs.calls.now old) (sym w.table-is) (learns_on runs.component.now runs.calls.now old mid _ inv.learns w.in_ok-open_effect.ensures.learns);
-        opens = rw (w.table-is, w.open-is) (opens_on runs c.args.from.now old mid w.open_effect.new.table c.args.open.now.items c.loop-thread.open.items w.open_effect.new.open.items inv.learns.grows inv.opens w.in_ok-open_effect.ensures.opens);
+        opens = rw (w.table-is, w.open-is) (opens_on runs c.args.from.now old mid w.open_effect.new.table c.args.open.now c.loop-thread.open w.open_effect.new.open inv.learns.grows inv.opens w.in_ok-open_effect.ensures.opens);
       }
       | else-thread-last w ↦ record {
         learns = subst (Learns runs.component.now runs.calls.now old) (sym w.table-is) inv.learns;
@@ -53,4 +53,4 @@ returns-clause-learns c = learns_on c.args.runs.component.now c.args.runs.calls.
 pub returns-clause-opens : goal.returns-clause-opens
 returns-clause-opens c =
     let inv = c.loop-thread.invariant in
-    opens_on c.args.runs c.args.from.now c.args.table.now c.loop-thread.table c.open_effect-2.new.table c.args.open.now.items c.loop-thread.open.items c.open_effect-2.new.open.items inv.learns.grows inv.opens c.in_ok-open_effect-2.ensures.opens
+    opens_on c.args.runs c.args.from.now c.args.table.now c.loop-thread.table c.open_effect-2.new.table c.args.open.now c.loop-thread.open c.open_effect-2.new.open inv.learns.grows inv.opens c.in_ok-open_effect-2.ensures.opens

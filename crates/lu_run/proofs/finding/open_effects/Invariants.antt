@@ -5,5 +5,5 @@ use Rattle.lu_run.proofs.finding.open_effects.Given as goal
 abbrev pub invariant-loop-thread : goal.invariant-loop-thread
 invariant-loop-thread l = record {
   learns : Learns l.fn.runs.component.now l.fn.runs.calls.now l.fn.table l.table;
-  opens : Opens l.fn.runs l.from l.fn.table l.fn.open.items l.table l.open.items;
+  opens : Opens l.fn.runs l.from l.fn.table l.fn.open l.table l.open;
 }
