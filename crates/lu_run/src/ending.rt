@@ -93,10 +93,10 @@ pub(crate) fn write_end(
 }
 
 /// Adds what is said before the operations of a linearization, where this many events are left out.
-fn put_order_head(text: &mut String, count: usize) -> Result<(), AllocError>
-    ensures { Writes result text.old text.new (order_head count) }
+fn put_order_head(text: &mut String, left_out: usize) -> Result<(), AllocError>
+    ensures { Writes result text.old text.new (order_head left_out) }
 {
-    if count == 0 {
+    if left_out == 0 {
         text.push_str("the events before have this linearization:\n")
     } else {
         text.push_str("the events before have a linearization that ends with:\n")
