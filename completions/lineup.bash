@@ -14,6 +14,7 @@ _lineup() {
         --depth) options="$(seq 0 8)" ;;
         --local) options="$(seq 0 16)" ;;
         --nodes) options='8388608 16777216' ;;            # 1 to 4294967295
+        --memory) options='1024 4096' ;;                  # 1 to 65535
         --rounds) options="$(seq 8)" ;;                   # 1 to 65535
         --threads | --calls) options="$(seq 8)" ;;
         --from | --upto) return ;;                        # numbers of matrices
@@ -21,7 +22,7 @@ _lineup() {
         *)
             case "${COMP_WORDS[1]}" in
                 check) options='--bound --serial --workers --depth --spec --marks' ;;
-                certify | test) options='--bound --serial --workers --depth --local --nodes --rounds --forever' ;;
+                certify | test) options='--bound --serial --workers --depth --local --nodes --memory --rounds --forever' ;;
                 findings) options='gcc junit sarif --check --lint --watch' ;;
                 serial | shrink) options='--bound --serial' ;;
                 witness) options='--bound --serial --spec --marks' ;;
@@ -30,7 +31,7 @@ _lineup() {
                 explain) options='--serial --spec --marks' ;;
                 draw) options='--serial --explain' ;;
                 trace) options='--setup --brief' ;;
-                campaign) options='--bound --serial --threads --calls --by-thread --from --upto --count --certify --all --spec' ;;
+                campaign) options='--bound --serial --threads --calls --by-thread --from --upto --count --certify --all --spec --progress' ;;
                 *) return ;;
             esac
             ;;

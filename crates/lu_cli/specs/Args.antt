@@ -1,5 +1,5 @@
 -- The commands of the program, and what words ask for.
-use Rattle.std.specs.Prelude.{◌≡◌, ℕ, ◌^◌, ◌&&◌, ◌==◌, Bool, true, false, pos, List, [], ◌∷◌, fold, length, map, Option, Some, None, Result, IfOk, option_and_then, unwrap_or, codes, nat_lt, if◌then◌else◌}
+use Rattle.std.specs.Prelude.{◌≡◌, ℕ, ◌*◌, ◌/◌, min, ◌^◌, ◌&&◌, ◌==◌, Bool, true, false, pos, List, [], ◌∷◌, fold, length, map, Option, Some, None, Result, IfOk, option_and_then, unwrap_or, codes, nat_lt, if◌then◌else◌}
 use Rattle.std.specs.List.{list_all, list_any}
 use Rattle.std.specs.Option.{option_map, option_map_or}
 use Rattle.std.specs.Str.{bytes_eq}
@@ -12,6 +12,7 @@ use Rattle.clap.specs.declared.builder.command.Command.{Command}
 use Rattle.clap.specs.declared.builder.command.Command.TheViews.{out-Command}
 use Rattle.clap.specs.declared.builder.value_parser.ValueParser.TheVariants as vp
 use Rattle.clap.specs.declared.error.kind.ErrorKind.{ErrorKind}
+use Rattle.lu_cli.specs.declared.args.TheConstants.{NODES_OF_A_MIB}
 use Rattle.lu_cli.specs.declared.request.CampaignOptions.{CampaignOptions}
 use Rattle.lu_cli.specs.declared.request.CampaignPart.{CampaignPart}
 use Rattle.lu_cli.specs.declared.request.CampaignPart.TheVariants.{Whole, Slice, Count}
@@ -202,14 +203,24 @@ check_in rows =
     else Check choice)
     (choice_in rows)
 
-abbrev pub certify_with : Option Options → Option ℕ → Option ℕ → Option CertifyOptions
-certify_with (Some choice) (Some local) (Some nodes) =
-    Some (record { options = choice; local = local; nodes = nodes })
-certify_with _ _ _ = None
+-- at most this many nodes for each worker, and no more than fit in this many MiB
+abbrev pub nodes_within : ℕ → Option ℕ → ℕ → ℕ
+nodes_within nodes None workers = nodes
+nodes_within nodes (Some memory) workers = min nodes (memory * NODES_OF_A_MIB / workers)
+
+abbrev pub certify_with : Option Options → Option ℕ → Option ℕ → Option ℕ → Option CertifyOptions
+certify_with (Some choice) (Some local) (Some nodes) memory =
+    Some (record {
+      options = choice;
+      local = local;
+      nodes = nodes_within nodes memory choice.workers;
+    })
+certify_with _ _ _ _ = None
 
 abbrev pub certify_options_in : List Row → Option CertifyOptions
 certify_options_in rows =
     certify_with (choice_in rows) (number_named (codes "local") rows) (nodes_in rows)
+    (number_named (codes "memory") rows)
 
 -- how often threads make their lines, where that is asked
 abbrev pub repetition_in : List Row → Option Repetition

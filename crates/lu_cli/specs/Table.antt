@@ -109,6 +109,9 @@ options =
     ∷ number (codes "nodes") (codes "N") (Number 1 4294967295) (Some (codes "8388608"))
     (codes "maximum number of states to search in each cut; in total with --rounds or --forever")
     (codes "certify" ∷ [])
+    ∷ number (codes "memory") (codes "M") (Number 1 65535) None
+    (codes "no more states than fit in M MiB, at 512 bytes each")
+    (codes "certify" ∷ [])
     ∷ number (codes "local") (codes "L") (Number 0 16) (Some (codes "0"))
     (codes "least number of local instructions that may run as part of a move; replaces a "
     ++ codes "smaller `local` of the component")
@@ -157,6 +160,9 @@ options =
     (codes "continue after a matrix that is not linearizable; only with --certify")
     (codes "campaign" ∷ [])
     ∷ flag (codes "spec") (codes "compare with a trusted component, the third part")
+    (codes "campaign" ∷ [])
+    ∷ flag (codes "progress")
+    (codes "show on standard error how far the campaign has come, also without a terminal")
     (codes "campaign" ∷ [])
     ∷ flag (codes "source") (codes "the component may be a source")
     (codes "serial" ∷ codes "check" ∷ codes "certify" ∷ codes "witness" ∷ codes "conform" ∷

@@ -1,6 +1,6 @@
 //! What the command line asks for.
 
-ghost use Rattle.std.specs.Prelude.{◌≡◌, false, IfOk, IsErrOf, Some, None};
+ghost use Rattle.std.specs.Prelude.{◌≡◌, ◌≤◌, false, IfOk, IsErrOf, Some, None};
 ghost use Rattle.clap.specs.Words.{found_of, rows_of, rule_of, subcommand_rows_of};
 ghost use Rattle.lu_cli.specs.declared.request.ArgsFault.TheVariants.{Refused};
 ghost use Rattle.lu_cli.specs.Args as spec;
@@ -24,6 +24,9 @@ use std::convert::AsStr;
 
 /// How many looks of its watch the search of one worker lasts before there are more: a minute.
 const HEAD_START: u64 = 16_777_216;
+
+/// How many nodes take a MiB. A node of a search is taken to have 512 bytes with its tables.
+const NODES_OF_A_MIB: u32 = 2048;
 
 /// The option of a row.
 fn option_of<'a>(alloc: Global, row: &OptionRow) -> Arg<'a>
@@ -302,16 +305,29 @@ fn check_in(given: &ArgMatches<'_>) -> Option<BundleCommand>
     }
 }
 
+/// The most nodes of each worker: as many as it is to have at most, and no more than fit in this
+/// many MiB.
+fn nodes_within(nodes: u32, memory: Option<u16>, workers: u8) -> u32
+    requires { 1 ≤ workers }
+    ensures { result ≡ spec.nodes_within nodes memory workers }
+{
+    match memory {
+        None => nodes,
+        Some(memory) => nodes.min(u32::from(memory) * NODES_OF_A_MIB / u32::from(workers)),
+    }
+}
+
 fn certify_options_in(given: &ArgMatches<'_>) -> Option<CertifyOptions>
     ensures { result ≡ spec.certify_options_in (rows_of (found_of given.now)) }
 {
     let options = options_in(given)?;
     let local = number_named(given, "local")?;
     let nodes = nodes_in(given)?;
+    let memory = number_named(given, "memory");
     Some(CertifyOptions {
         options,
         local,
-        nodes,
+        nodes: nodes_within(nodes, memory, options.workers()),
     })
 }
 

@@ -22,9 +22,13 @@ use lu_certify::{Certificate, DEFAULT_NODES};
 use lu_component::Component;
 use lu_machine::Test;
 use lu_refine::{
-    Campaign, CampaignFault, Roles, campaign_by_thread, campaign_slice, count_matrices, same_lists,
+    Campaign, CampaignFault, CampaignProgress, Roles, campaign_by_thread_with_progress,
+    campaign_slice_with_progress, count_matrices, same_lists,
 };
-use lu_survey::{CertifiedCampaign, CertifiedMatrix, Survey, certify_slice, survey_slice};
+use lu_survey::{
+    CertifiedCampaign, CertifiedMatrix, Survey, certify_slice_with_progress,
+    survey_slice_with_progress,
+};
 use lu_test::{Calls, Matrix, write_matrix};
 use lu_text::exactly_two;
 use std::alloc::{AllocError, Global};
@@ -161,20 +165,30 @@ fn show_found(alloc: Global, component: &Component, found: &Campaign) -> Result<
 }
 
 /// What all matrices of the campaign show.
-fn try_all(alloc: Global, roles: Roles<'_>) -> Result<Answer, Refusal>
+fn try_all<P: CampaignProgress>(
+    alloc: Global,
+    progress: &P,
+    roles: Roles<'_>,
+) -> Result<Answer, Refusal>
     requires { CanAsk (asked_of roles) }
     ensures { Answered (spec.IsCheckedWhole (asked_of roles.entry)) result }
 {
-    let found = campaign_by_thread(alloc, roles)?;
+    let found = campaign_by_thread_with_progress(alloc, progress, roles)?;
     Ok(show_found(alloc, roles.component, &found)?)
 }
 
 /// What the matrices of the campaign with the numbers `from` to `upto - 1` show.
-fn try_slice(alloc: Global, roles: Roles<'_>, from: u64, upto: u64) -> Result<Answer, Refusal>
+fn try_slice<P: CampaignProgress>(
+    alloc: Global,
+    progress: &P,
+    roles: Roles<'_>,
+    from: u64,
+    upto: u64,
+) -> Result<Answer, Refusal>
     requires { CanAsk (asked_of roles) }
     ensures { Answered (spec.IsCheckedNumbers (asked_of roles.entry) from upto) result }
 {
-    let found = campaign_slice(alloc, roles, from, upto)?;
+    let found = campaign_slice_with_progress(alloc, progress, roles, from, upto)?;
     Ok(show_found(alloc, roles.component, &found)?)
 }
 
@@ -211,11 +225,17 @@ fn answer_certificates(
 }
 
 /// What the certificates of the matrices with the numbers `from` to `upto - 1` say.
-fn certify_numbers(alloc: Global, roles: Roles<'_>, from: u64, upto: u64) -> Result<Answer, Refusal>
+fn certify_numbers<P: CampaignProgress>(
+    alloc: Global,
+    progress: &P,
+    roles: Roles<'_>,
+    from: u64,
+    upto: u64,
+) -> Result<Answer, Refusal>
     requires { CanAsk (asked_of roles) }
     ensures { Answered (spec.IsCertifiedNumbers (asked_of roles.entry) from upto) result }
 {
-    let found = certify_slice(alloc, roles, DEFAULT_NODES, from, upto)?;
+    let found = certify_slice_with_progress(alloc, progress, roles, DEFAULT_NODES, from, upto)?;
     Ok(answer_certificates(alloc, roles.component, found)?)
 }
 
@@ -228,25 +248,35 @@ pub(crate) fn count_all(alloc: Global, candidates: &[Calls], calls: u8) -> Resul
 }
 
 /// What is answered where the matrices are checked.
-fn check_part(alloc: Global, roles: Roles<'_>, part: CampaignPart) -> Result<Answer, Refusal>
+fn check_part<P: CampaignProgress>(
+    alloc: Global,
+    progress: &P,
+    roles: Roles<'_>,
+    part: CampaignPart,
+) -> Result<Answer, Refusal>
     requires { CanAsk (asked_of roles) }
     ensures { Answered (spec.IsCheckedPart part (asked_of roles.entry)) result }
 {
     match part {
-        CampaignPart::Whole => try_all(alloc, roles),
-        CampaignPart::Slice { from, upto } => try_slice(alloc, roles, from, upto),
+        CampaignPart::Whole => try_all(alloc, progress, roles),
+        CampaignPart::Slice { from, upto } => try_slice(alloc, progress, roles, from, upto),
         CampaignPart::Count => count_all(alloc, roles.candidates, roles.calls),
     }
 }
 
 /// What is answered where the matrices are certified.
-fn certify_part(alloc: Global, roles: Roles<'_>, part: CampaignPart) -> Result<Answer, Refusal>
+fn certify_part<P: CampaignProgress>(
+    alloc: Global,
+    progress: &P,
+    roles: Roles<'_>,
+    part: CampaignPart,
+) -> Result<Answer, Refusal>
     requires { CanAsk (asked_of roles) }
     ensures { Answered (spec.IsCertifiedPart part (asked_of roles.entry)) result }
 {
     match part {
-        CampaignPart::Whole => certify_numbers(alloc, roles, 0, u64::MAX),
-        CampaignPart::Slice { from, upto } => certify_numbers(alloc, roles, from, upto),
+        CampaignPart::Whole => certify_numbers(alloc, progress, roles, 0, u64::MAX),
+        CampaignPart::Slice { from, upto } => certify_numbers(alloc, progress, roles, from, upto),
         CampaignPart::Count => count_all(alloc, roles.candidates, roles.calls),
     }
 }
@@ -261,22 +291,33 @@ fn answer_survey(alloc: Global, component: &Component, survey: Survey) -> Result
 }
 
 /// How many of the matrices with the numbers `from` to `upto - 1` have a certificate of each kind.
-fn survey_numbers(alloc: Global, roles: Roles<'_>, from: u64, upto: u64) -> Result<Answer, Refusal>
+fn survey_numbers<P: CampaignProgress>(
+    alloc: Global,
+    progress: &P,
+    roles: Roles<'_>,
+    from: u64,
+    upto: u64,
+) -> Result<Answer, Refusal>
     requires { CanAsk (asked_of roles) }
     ensures { Answered (spec.IsSurveyedNumbers (asked_of roles.entry) from upto) result }
 {
-    let survey = survey_slice(alloc, roles, DEFAULT_NODES, from, upto)?;
+    let survey = survey_slice_with_progress(alloc, progress, roles, DEFAULT_NODES, from, upto)?;
     Ok(answer_survey(alloc, roles.component, survey)?)
 }
 
 /// What is answered where all matrices are certified, whatever their certificates.
-fn survey_part(alloc: Global, roles: Roles<'_>, part: CampaignPart) -> Result<Answer, Refusal>
+fn survey_part<P: CampaignProgress>(
+    alloc: Global,
+    progress: &P,
+    roles: Roles<'_>,
+    part: CampaignPart,
+) -> Result<Answer, Refusal>
     requires { CanAsk (asked_of roles) }
     ensures { Answered (spec.IsSurveyedPart part (asked_of roles.entry)) result }
 {
     match part {
-        CampaignPart::Whole => survey_numbers(alloc, roles, 0, u64::MAX),
-        CampaignPart::Slice { from, upto } => survey_numbers(alloc, roles, from, upto),
+        CampaignPart::Whole => survey_numbers(alloc, progress, roles, 0, u64::MAX),
+        CampaignPart::Slice { from, upto } => survey_numbers(alloc, progress, roles, from, upto),
         CampaignPart::Count => count_all(alloc, roles.candidates, roles.calls),
     }
 }
@@ -303,8 +344,9 @@ pub(crate) fn roles_of<'a>(
 }
 
 /// What is answered where each thread draws from its own list.
-fn try_lists<'a>(
+fn try_lists<'a, P: CampaignProgress>(
     alloc: Global,
+    progress: &P,
     test: Test<'a>,
     lists: &'a [Calls],
     options: CampaignOptions,
@@ -316,15 +358,16 @@ fn try_lists<'a>(
     let (trial, part) = (options.trial, options.part);
     let roles = roles_of(test, lists, options);
     match trial {
-        CampaignTrial::Checked => check_part(alloc, roles, part),
-        CampaignTrial::Certified => certify_part(alloc, roles, part),
-        CampaignTrial::Surveyed => survey_part(alloc, roles, part),
+        CampaignTrial::Checked => check_part(alloc, progress, roles, part),
+        CampaignTrial::Certified => certify_part(alloc, progress, roles, part),
+        CampaignTrial::Surveyed => survey_part(alloc, progress, roles, part),
     }
 }
 
 /// What is answered where this many threads draw from the one line of the matrix.
-fn try_alike(
+fn try_alike<P: CampaignProgress>(
     alloc: Global,
+    progress: &P,
     test: Test<'_>,
     threads: u8,
     options: CampaignOptions,
@@ -334,26 +377,32 @@ fn try_alike(
     match test.matrix.as_slice() {
         [candidates] => {
             let lists = same_lists(alloc, candidates.as_slice(), threads)?;
-            try_lists(alloc, test, &lists, options)
+            try_lists(alloc, progress, test, &lists, options)
         }
         _ => Err(Refusal::Campaign(CampaignFault::Candidates)),
     }
 }
 
 /// What is answered to a test: its matrix lists the calls that threads draw from.
-fn try_test(alloc: Global, test: Test<'_>, options: CampaignOptions) -> Result<Answer, Refusal>
+fn try_test<P: CampaignProgress>(
+    alloc: Global,
+    progress: &P,
+    test: Test<'_>,
+    options: CampaignOptions,
+) -> Result<Answer, Refusal>
     ensures { TriesTest test.entry options result }
 {
     match options.threads {
-        CampaignThreads::Alike(threads) => try_alike(alloc, test, threads, options),
-        CampaignThreads::Own => try_lists(alloc, test, test.matrix.as_slice(), options),
+        CampaignThreads::Alike(threads) => try_alike(alloc, progress, test, threads, options),
+        CampaignThreads::Own => try_lists(alloc, progress, test, test.matrix.as_slice(), options),
     }
 }
 
 /// `lineup campaign`: component, and a matrix whose one thread, or each of whose threads, makes the
 /// calls to choose from.
-pub(crate) fn answer_campaign(
+pub(crate) fn answer_campaign<P: CampaignProgress>(
     alloc: Global,
+    progress: &P,
     options: CampaignOptions,
     parts: &[&[u8]],
 ) -> Result<Answer, Refusal>
@@ -365,5 +414,5 @@ pub(crate) fn answer_campaign(
         component: &case.component,
         matrix: &case.matrix,
     };
-    try_test(alloc, test, options)
+    try_test(alloc, progress, test, options)
 }

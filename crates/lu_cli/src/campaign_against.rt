@@ -21,8 +21,8 @@ use crate::texts::{Fault, read_texts};
 use lu_component::Component;
 use lu_lang::read_component;
 use lu_machine::{Test, settles};
-use lu_refine::{CampaignFault, Roles, same_lists};
-use lu_survey::{Comparison, Difference, compare_slice, have_same_operations};
+use lu_refine::{CampaignFault, CampaignProgress, Roles, same_lists};
+use lu_survey::{Comparison, Difference, compare_slice_with_progress, have_same_operations};
 use lu_test::{Calls, Matrix, Schedule};
 use lu_text::exactly_three;
 use std::alloc::{AllocError, Global};
@@ -108,8 +108,9 @@ fn show_comparison(
 
 /// How the component differs from a trusted one on the matrices with the numbers `from` to
 /// `upto - 1`.
-fn compare_numbers(
+fn compare_numbers<P: CampaignProgress>(
     alloc: Global,
+    progress: &P,
     roles: Roles<'_>,
     trusted: &Component,
     from: u64,
@@ -118,13 +119,14 @@ fn compare_numbers(
     requires { CanCompare (asked_of roles) trusted.now }
     ensures { ComparesNumbers trusted.entry.now roles.entry from upto result }
 {
-    let found = compare_slice(alloc, roles, trusted, from, upto)?;
+    let found = compare_slice_with_progress(alloc, progress, roles, trusted, from, upto)?;
     Ok(show_comparison(alloc, roles.component, &found)?)
 }
 
 /// What is answered where the component is held against a trusted one.
-fn compare_part(
+fn compare_part<P: CampaignProgress>(
     alloc: Global,
+    progress: &P,
     roles: Roles<'_>,
     trusted: &Component,
     part: CampaignPart,
@@ -134,15 +136,18 @@ fn compare_part(
         (spec.IsComparedPart trusted.entry.now part (asked_of roles.entry)) result }
 {
     match part {
-        CampaignPart::Whole => compare_numbers(alloc, roles, trusted, 0, u64::MAX),
-        CampaignPart::Slice { from, upto } => compare_numbers(alloc, roles, trusted, from, upto),
+        CampaignPart::Whole => compare_numbers(alloc, progress, roles, trusted, 0, u64::MAX),
+        CampaignPart::Slice { from, upto } => compare_numbers(
+            alloc, progress, roles, trusted, from, upto,
+        ),
         CampaignPart::Count => count_all(alloc, roles.candidates, roles.calls),
     }
 }
 
 /// What is answered against a trusted component, where each thread draws from its own list.
-fn compare_lists<'a>(
+fn compare_lists<'a, P: CampaignProgress>(
     alloc: Global,
+    progress: &P,
     test: Test<'a>,
     trusted: &Component,
     lists: &'a [Calls],
@@ -154,13 +159,20 @@ fn compare_lists<'a>(
     ensures { ComparesLists trusted.now test.entry lists.now options result }
 {
     let part = options.part;
-    compare_part(alloc, roles_of(test, lists, options), trusted, part)
+    compare_part(
+        alloc,
+        progress,
+        roles_of(test, lists, options),
+        trusted,
+        part,
+    )
 }
 
 /// What is answered against a trusted component, where this many threads draw from the one line of
 /// the matrix.
-fn compare_alike(
+fn compare_alike<P: CampaignProgress>(
     alloc: Global,
+    progress: &P,
     test: Test<'_>,
     trusted: &Component,
     threads: u8,
@@ -172,15 +184,16 @@ fn compare_alike(
     match test.matrix.as_slice() {
         [candidates] => {
             let lists = same_lists(alloc, candidates.as_slice(), threads)?;
-            compare_lists(alloc, test, trusted, &lists, options)
+            compare_lists(alloc, progress, test, trusted, &lists, options)
         }
         _ => Err(Refusal::Campaign(CampaignFault::Candidates)),
     }
 }
 
 /// What is answered to a test against a trusted component.
-fn compare_test(
+fn compare_test<P: CampaignProgress>(
     alloc: Global,
+    progress: &P,
     test: Test<'_>,
     trusted: &Component,
     options: CampaignOptions,
@@ -189,17 +202,21 @@ fn compare_test(
     ensures { ComparesTest trusted.now test.entry options result }
 {
     match options.threads {
-        CampaignThreads::Alike(threads) => compare_alike(alloc, test, trusted, threads, options),
+        CampaignThreads::Alike(threads) => compare_alike(
+            alloc, progress, test, trusted, threads, options,
+        ),
         CampaignThreads::Own => {
-            compare_lists(alloc, test, trusted, test.matrix.as_slice(), options)
+            let lines = test.matrix.as_slice();
+            compare_lists(alloc, progress, test, trusted, lines, options)
         }
     }
 }
 
 /// What is answered where the trusted component has the operations of the other one: the setup has
 /// to settle with it too.
-fn compare_settled(
+fn compare_settled<P: CampaignProgress>(
     alloc: Global,
+    progress: &P,
     test: Test<'_>,
     trusted: &Component,
     options: CampaignOptions,
@@ -209,7 +226,7 @@ fn compare_settled(
 {
     match settles(alloc, trusted, test.matrix)? {
         Some(call) => Err(Refusal::Texts(Fault::Setup(call))),
-        None => compare_test(alloc, test, trusted, options),
+        None => compare_test(alloc, progress, test, trusted, options),
     }
 }
 
@@ -225,8 +242,9 @@ fn read_trusted(alloc: Global, text: &[u8]) -> Result<Component, Refusal>
 }
 
 /// What is answered to a test and the text of a trusted component.
-fn compare_with(
+fn compare_with<P: CampaignProgress>(
     alloc: Global,
+    progress: &P,
     test: Test<'_>,
     options: CampaignOptions,
     trusted: &[u8],
@@ -237,12 +255,13 @@ fn compare_with(
     if !have_same_operations(test.component, &trusted) {
         return Err(Refusal::Operations);
     }
-    compare_settled(alloc, test, &trusted, options)
+    compare_settled(alloc, progress, test, &trusted, options)
 }
 
 /// `lineup campaign --spec`: component, matrix, and a component that is trusted.
-pub(crate) fn answer_campaign_against(
+pub(crate) fn answer_campaign_against<P: CampaignProgress>(
     alloc: Global,
+    progress: &P,
     options: CampaignOptions,
     parts: &[&[u8]],
 ) -> Result<Answer, Refusal>
@@ -254,5 +273,5 @@ pub(crate) fn answer_campaign_against(
         component: &case.component,
         matrix: &case.matrix,
     };
-    compare_with(alloc, test, options, trusted)
+    compare_with(alloc, progress, test, options, trusted)
 }

@@ -5,6 +5,7 @@ ghost use Rattle.lu_cli.specs.Refusals.{Answered};
 ghost use Rattle.lu_cli.specs.Commands as spec;
 
 use crate::answer::Answer;
+use crate::by_matrix::ByMatrix;
 use crate::campaign::answer_campaign;
 use crate::campaign_against::answer_campaign_against;
 use crate::certify::{answer_certify, answer_certify_alone};
@@ -27,6 +28,7 @@ use crate::spec::answer_spec;
 use crate::unrolled::answer_certify_unrolled;
 use crate::witness::{answer_witness, answer_witness_against};
 use lu_certify::Progress;
+use lu_refine::Unshown;
 use std::alloc::Global;
 use std::sync::Wait;
 use std::thread::Threads;
@@ -64,14 +66,16 @@ pub(crate) fn carry_out_alone(
         }
         BundleCommand::Refute => answer_refute(alloc, parts),
         BundleCommand::Shrink(bounds) => answer_shrink(alloc, bounds, parts),
-        BundleCommand::Campaign(options) => answer_campaign(alloc, options, parts),
-        BundleCommand::CampaignAgainst(options) => answer_campaign_against(alloc, options, parts),
+        BundleCommand::Campaign(options) => answer_campaign(alloc, &Unshown, options, parts),
+        BundleCommand::CampaignAgainst(options) => {
+            answer_campaign_against(alloc, &Unshown, options, parts)
+        }
         BundleCommand::Compile => answer_compile(alloc, parts),
     }
 }
 
-/// The answer to a command and the parts of a bundle, or why it is refused. A certificate tells
-/// meanwhile how far it has come.
+/// The answer to a command and the parts of a bundle, or why it is refused. A certificate and a
+/// campaign tell meanwhile how far they have come.
 pub(crate) fn carry_out<X: AllocGlobal + Threads + Wait, P: Progress>(
     rt: &X,
     progress: &P,
@@ -86,6 +90,12 @@ pub(crate) fn carry_out<X: AllocGlobal + Threads + Wait, P: Progress>(
             answer_check_against(rt, options, marks, parts)
         },
         BundleCommand::Certify(asked) => answer_certify(rt, progress, asked, parts),
+        BundleCommand::Campaign(options) => {
+            answer_campaign(rt.alloc(), &ByMatrix { progress }, options, parts)
+        }
+        BundleCommand::CampaignAgainst(options) => {
+            answer_campaign_against(rt.alloc(), &ByMatrix { progress }, options, parts)
+        }
         _ => carry_out_alone(rt.alloc(), command, parts),
     }
 }

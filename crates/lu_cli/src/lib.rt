@@ -5,6 +5,7 @@
 mod answer;
 mod args;
 mod at_once;
+mod by_matrix;
 mod campaign;
 mod campaign_against;
 mod certify;
@@ -53,5 +54,5 @@ pub use request::{
     LintRequest, Repetition, Request, Showing, TraceStart, Tracing,
 };
 pub use table::{CommandRow, Kind, OptionRow, commands as command_rows, options as option_rows};
-pub use terminal::Terminal;
+pub use terminal::{Display, Terminal};
 pub use texts::{Case, Fault, check_texts, check_texts_against, read_texts};

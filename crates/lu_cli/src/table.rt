@@ -131,7 +131,7 @@ static COMMANDS: [CommandRow; 16] = [
     },
 ];
 
-static OPTIONS: [OptionRow; 30] = [
+static OPTIONS: [OptionRow; 32] = [
     OptionRow {
         name: "bound",
         letter: "N",
@@ -228,6 +228,17 @@ static OPTIONS: [OptionRow; 30] = [
         },
         default: Some("8388608"),
         words: "maximum number of states to search in each cut; in total with --rounds or --forever",
+        commands: &["certify"],
+    },
+    OptionRow {
+        name: "memory",
+        letter: "M",
+        kind: Kind::Number {
+            least: 1,
+            most: 65535,
+        },
+        default: None,
+        words: "no more states than fit in M MiB, at 512 bytes each",
         commands: &["certify"],
     },
     OptionRow {
@@ -380,6 +391,14 @@ static OPTIONS: [OptionRow; 30] = [
         kind: Kind::Flag,
         default: None,
         words: "compare with a trusted component, the third part",
+        commands: &["campaign"],
+    },
+    OptionRow {
+        name: "progress",
+        letter: "",
+        kind: Kind::Flag,
+        default: None,
+        words: "show on standard error how far the campaign has come, also without a terminal",
         commands: &["campaign"],
     },
     OptionRow {

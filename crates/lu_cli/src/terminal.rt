@@ -1,21 +1,33 @@
-//! How far a certificate has come, on a terminal.
+//! How far a command has come, on standard error.
 
 use lu_certify::Progress;
 use std::sync::atomic::{AtomicBool, AtomicU64, Ordering};
 use std::time::Clock;
 
-/// After how many nodes the clock is looked at.
-const NODES_TO_A_LOOK: u64 = 1024;
+/// Where it is shown how far a command has come.
+#[derive(Clone, Copy, PartialEq, Eq)]
+pub enum Display {
+    /// Nowhere.
+    Nothing,
 
-/// Shows on standard error, once a second, how many cuts of all are done, and how many nodes are
-/// kept. What it shows stands in one line, which is gone at the end; but where the component is
-/// undecided, a line stays that says how many nodes the greatest cut came to.
+    /// On a terminal, in one line, which is gone at the end.
+    OneLine,
+
+    /// In a line of its own each time.
+    Lines,
+}
+
+/// Shows on standard error how far a command has come: which matrix a campaign tries, how many cuts
+/// and nodes a certificate has, or the time alone. Whoever made it calls [`Terminal::show`] from
+/// time to time, and [`Terminal::erase`] at the end. If a component is undecided, a line stays that
+/// says how many nodes the largest cut had.
 #[derive(Drop)]
 pub struct Terminal<'a, R> {
     rt: &'a R,
+    display: Display,
 
-    /// Where it shows nothing.
-    is_silent: bool,
+    /// Whether matrices are counted, and not cuts.
+    is_campaign: bool,
     cuts: AtomicU64,
     done: AtomicU64,
 
@@ -23,48 +35,112 @@ pub struct Terminal<'a, R> {
     kept: AtomicU64,
     most: AtomicU64,
 
-    /// How many nodes were kept since the start.
-    looks: AtomicU64,
-
-    /// The second in which it last showed something, or began.
-    shown: AtomicU64,
+    /// The second in which it began.
+    began: AtomicU64,
     is_line_there: AtomicBool,
 }
 
+/// The second now, or 0 if there is no clock.
+fn second_now(rt: &impl Clock) -> u64 {
+    match rt.monotonic() {
+        Ok(time) => time.as_secs(),
+        Err(_) => 0,
+    }
+}
+
 impl<'a, R: Clock + Eprint> Terminal<'a, R> {
-    /// Shows how far a certificate has come, or nothing, where it is to be silent.
-    pub fn new(rt: &'a R, is_silent: bool) -> Terminal<'a, R> {
+    /// Shows how far a command has come, which is a campaign or another one.
+    pub fn new(rt: &'a R, display: Display, is_campaign: bool) -> Terminal<'a, R> {
         Terminal {
             rt,
-            is_silent,
+            display,
+            is_campaign,
             cuts: AtomicU64::new(0),
             done: AtomicU64::new(0),
             kept: AtomicU64::new(0),
             most: AtomicU64::new(0),
-            looks: AtomicU64::new(0),
-            shown: AtomicU64::new(0),
+            began: AtomicU64::new(second_now(rt)),
             is_line_there: AtomicBool::new(false),
         }
     }
 
-    /// Shows the line. What can't be shown is left out.
-    fn show(&self) {
-        self.is_line_there.store(true, Ordering::Relaxed);
-        let done = self.done.load(Ordering::Relaxed);
-        let cuts = self.cuts.load(Ordering::Relaxed);
-        let kept = self.kept.load(Ordering::Relaxed);
-        drop(eprint!(self.rt; "\r{done} of {cuts} cuts are done, {kept} nodes are kept\x1b[K"));
+    /// Where it is shown.
+    pub fn display(&self) -> Display {
+        self.display
     }
 
-    /// Shows the line where a second has gone by since it was last shown.
-    fn show_each_second(&self) {
-        let Ok(time) = self.rt.monotonic() else {
-            return;
-        };
-        let second = time.as_secs();
-        let shown = self.shown.load(Ordering::Relaxed);
-        if second > shown && self.shown.swap(second, Ordering::Relaxed) == shown {
-            self.show();
+    /// How many seconds have passed.
+    fn seconds(&self) -> u64 {
+        second_now(self.rt).saturating_sub(self.began.load(Ordering::Relaxed))
+    }
+
+    /// Shows the line. What can't be shown is left out.
+    pub fn show(&self) {
+        match self.display {
+            Display::Nothing => {}
+            Display::OneLine => {
+                self.is_line_there.store(true, Ordering::Relaxed);
+                drop(eprint!(self.rt; "\r"));
+                self.show_words();
+                drop(eprint!(self.rt; "\x1b[K"));
+            }
+            Display::Lines => {
+                self.show_words();
+                drop(eprint!(self.rt; "\n"));
+            }
+        }
+    }
+
+    fn show_words(&self) {
+        let cuts = self.cuts.load(Ordering::Relaxed);
+        if cuts == 0 {
+            let seconds = self.seconds();
+            drop(eprint!(self.rt; "{seconds} s"));
+        } else if self.is_campaign {
+            self.show_matrix(cuts);
+        } else {
+            self.show_cuts(cuts);
+        }
+    }
+
+    fn show_cuts(&self, cuts: u64) {
+        let done = self.done.load(Ordering::Relaxed);
+        let kept = self.kept.load(Ordering::Relaxed);
+        let seconds = self.seconds();
+        drop(eprint!(self.rt;
+            "{done} of {cuts} cuts are done, {kept} nodes are kept, {seconds} s"
+        ));
+    }
+
+    /// Shows which matrix a campaign tries, with the rate and the time left once one is done.
+    fn show_matrix(&self, matrices: u64) {
+        let done = self.done.load(Ordering::Relaxed);
+        let number = done.saturating_add(1).min(matrices);
+        drop(eprint!(self.rt; "matrix {number} of {matrices}"));
+        let seconds = self.seconds();
+        if done > 0 && seconds > 0 {
+            let rate = done.saturating_mul(60) / seconds;
+            let left = matrices.saturating_sub(done).saturating_mul(seconds) / done;
+            drop(eprint!(self.rt; ", {rate} a minute, "));
+            self.show_left(left);
+        }
+    }
+
+    /// Shows that this many seconds are left.
+    fn show_left(&self, seconds: u64) {
+        if seconds < 60 {
+            drop(eprint!(self.rt; "{seconds} s left"));
+        } else if seconds < 3600 {
+            drop(eprint!(self.rt; "{} min left", seconds / 60));
+        } else {
+            drop(eprint!(self.rt; "{} h {} min left", seconds / 3600, seconds / 60 % 60));
+        }
+    }
+
+    /// Erases the line, if there is one.
+    pub fn erase(&self) {
+        if self.is_line_there.swap(false, Ordering::Relaxed) {
+            drop(eprint!(self.rt; "\r\x1b[K"));
         }
     }
 }
@@ -72,25 +148,18 @@ impl<'a, R: Clock + Eprint> Terminal<'a, R> {
 impl<'a, R: Clock + Eprint + Sync> Progress for Terminal<'a, R> {
     fn begin(&self, cuts: u64) {
         self.cuts.store(cuts, Ordering::Relaxed);
-        if self.is_silent {
-            return;
-        }
-        if let Ok(time) = self.rt.monotonic() {
-            self.shown.store(time.as_secs(), Ordering::Relaxed);
-        }
     }
 
     fn keep(&self) {
-        if self.is_silent {
-            return;
-        }
-        self.kept.fetch_add(1, Ordering::Relaxed);
-        if self.looks.fetch_add(1, Ordering::Relaxed) % NODES_TO_A_LOOK == 0 {
-            self.show_each_second();
+        if self.display != Display::Nothing {
+            self.kept.fetch_add(1, Ordering::Relaxed);
         }
     }
 
     fn done(&self, nodes: u64) {
+        if self.display == Display::Nothing {
+            return;
+        }
         self.done.fetch_add(1, Ordering::Relaxed);
         self.kept.fetch_sub(nodes, Ordering::Relaxed);
         if nodes > self.most.load(Ordering::Relaxed) {
@@ -99,15 +168,10 @@ impl<'a, R: Clock + Eprint + Sync> Progress for Terminal<'a, R> {
     }
 
     fn end(&self, is_undecided: bool) {
-        if self.is_silent {
-            return;
-        }
-        if self.is_line_there.load(Ordering::Relaxed) {
-            drop(eprint!(self.rt; "\r\x1b[K"));
-        }
-        if is_undecided {
+        if is_undecided && self.display == Display::OneLine {
+            self.erase();
             let most = self.most.load(Ordering::Relaxed);
-            drop(eprintln!(self.rt; "undecided: the greatest cut came to {most} nodes"));
+            drop(eprintln!(self.rt; "undecided: the largest cut had {most} nodes"));
         }
     }
 }

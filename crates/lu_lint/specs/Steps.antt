@@ -1,12 +1,15 @@
 -- Serial steps: the moves of serial runs, each counted once for each schedule that ends with it.
-use Rattle.std.specs.Prelude.{◌≡◌, ◌≢◌, ℕ, ◌+◌, ◌-◌, ◌<◌, ◌≤◌, List, [], ◌∷◌, Option, Some, None, length}
+use Rattle.std.specs.Prelude.{◌≡◌, ◌≢◌, ℕ, ◌+◌, ◌-◌, ◌<◌, ◌≤◌, Bool, true, List, [], ◌∷◌, Option, Some, None, Result, IfOk, length}
 use Rattle.lu_test.specs.declared.schedule.Move.{Move}
 use Rattle.lu_machine.specs.declared.event.Event.{Event}
 use Rattle.lu_machine.specs.declared.event.Event.TheVariants.{Call, Return}
 use Rattle.lu_machine.specs.States.{State}
 use Rattle.lu_machine.specs.Steps.{Step}
+use Rattle.lu_machine.specs.declared.test.Test.{Test}
+use Rattle.lu_machine.specs.Tests.{FromEachStartOf}
 use Rattle.lu_serial_graph.specs.Playing.{IsAmong}
 use Rattle.lu_lint.specs.declared.step_count.OpenCall.{OpenCall}
+use Rattle.lu_lint.specs.declared.step_count.TheConstants.{MOST_STEPS}
 
 -- the operation that is open after a move of thread t with this event, or with none: after its call
 -- it may take `bound` moves
@@ -48,3 +51,8 @@ pub record HasSteps (bound : ℕ) (s : State) (current : Option OpenCall) (n : �
 -- the serial runs from s have more than n steps
 abbrev pub HasMoreSteps : ℕ → ℕ → State → Type 0
 HasMoreSteps bound n s = HasSteps bound s None (n + 1)
+
+-- where it says so, the serial runs of the test have too many steps to look at them
+abbrev pub FindsManySteps : {E : Type 0} → Result Bool E → Test → ℕ → Type 0
+FindsManySteps result test bound =
+    IfOk result (λ many. many ≡ true → FromEachStartOf test (HasMoreSteps bound MOST_STEPS))

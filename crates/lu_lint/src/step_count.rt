@@ -1,9 +1,8 @@
 //! How many steps the serial runs of a test have.
 
-ghost use Rattle.std.specs.Prelude.{◌≡◌, ◌≤◌, ◌-◌, true, IfOk, OnOk};
-ghost use Rattle.lu_machine.specs.Tests.{FromEachStartOf};
+ghost use Rattle.std.specs.Prelude.{◌≡◌, ◌≤◌, ◌-◌};
 ghost use Rattle.lu_lint.specs.Steps as spec;
-ghost use Rattle.lu_lint.specs.Steps.{AreTurns, HasMoreSteps, HasSteps};
+ghost use Rattle.lu_lint.specs.Steps.{AreTurns, FindsManySteps, HasSteps};
 
 use lu_machine::{Event, Machine, Test};
 use lu_test::Move;
@@ -83,8 +82,7 @@ fn steps_left(bound: u16, machine: &mut Machine<'_>, current: Option<OpenCall>, 
 /// Whether the serial runs have too many steps to look at them. An operation may take `bound` moves
 /// after its call.
 pub(crate) fn has_many_steps(alloc: Global, test: Test<'_>, bound: u16) -> Result<bool, AllocError>
-    ensures { IfOk result (λ many. many ≡ true →
-        FromEachStartOf test.entry (HasMoreSteps bound MOST_STEPS)) }
+    ensures { FindsManySteps result test.entry bound }
 {
     let mut machine = Machine::start(alloc, test.component, test.matrix)?;
     Ok(steps_left(bound, &mut machine, None, MOST_STEPS + 1) == 0)

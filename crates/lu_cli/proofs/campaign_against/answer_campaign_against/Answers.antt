@@ -6,7 +6,7 @@ use Rattle.lu_cli.proofs.Refuted.{texts_answered}
 use Rattle.lu_cli.proofs.campaign_against.answer_campaign_against.Goals as goal
 
 pub returns : goal.returns
-returns c =
+returns g c =
     let p = c.in_ok-component in
     let read = c.in_ok-case in
     let parts : exactly_three (texts c.args.parts.now) ≡ Some (p.component.now, p.matrix.now, p.trusted.now) = search rules in

@@ -7,7 +7,7 @@ use Rattle.lu_cli.proofs.Refuted.{answered_more}
 use Rattle.lu_cli.proofs.campaign_against.compare_with.Goals as goal
 
 pub returns : goal.returns
-returns c =
+returns g c =
     let component = c.args.test.component.now in
     let matrix = c.args.test.matrix.now in
     let trusted = c.in_ok-trusted.trusted in
