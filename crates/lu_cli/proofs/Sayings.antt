@@ -76,7 +76,7 @@ use Rattle.lu_cli.specs.Pictures.{IsDrawnExplained}
 use Rattle.lu_cli.specs.declared.explanation.Target.{Target}
 use Rattle.lu_cli.specs.declared.explanation.Target.TheVariants as target
 use Rattle.lu_cli.specs.Explain.{IsAnswerToExplainAgainst, IsExplainAfter, IsAnswerToExplain, IsExplainedAgainstText, IsExplainedText, ToTarget, is_report, limits_for, view_of}
-use Rattle.lu_cli.specs.Explanation.{IsExplainedTarget, IsExplainedHistory, IsExplainedSchedule, IsExplainedSerially, IsPicturedHistory, IsPresentedAs, IsPresentedHistory, ToEnded, ToFinding, status_by, unexplained}
+use Rattle.lu_cli.specs.Explanation.{difference, IsExplainedTarget, IsExplainedHistory, IsExplainedSchedule, IsExplainedSerially, IsPicturedHistory, IsPresentedAs, IsPresentedHistory, ToEnded, ToFinding, status_by, unexplained}
 use Rattle.lu_recorded.specs.declared.recorded.Recorded.{Recorded}
 use Rattle.lu_recorded.specs.Codes.{recorded_code_of}
 use Rattle.lu_run.specs.Codes.{run_code_of}
@@ -415,7 +415,7 @@ explained_else by members c m u answer (inr is) = status_else answer 1 (ap (λ (
 
 finding_else : (IsAnswer : List Move → Answer → Type 0) (f : Finding) (answer : Answer) → ((u : List Move) → IsAnswer u answer → IsElse answer) → ToFinding IsAnswer f answer → IsElse answer
 finding_else IsAnswer (SerialCut u) answer h is = unexplained_else (codes "serial-cut") (schedule_text u) answer is
-finding_else IsAnswer (Nondeterministic u before earlier) answer h is = unexplained_else (codes "nondeterministic") (schedule_text u) answer is
+finding_else IsAnswer (Nondeterministic u before earlier) answer h is = unexplained_else (codes "nondeterministic") (schedule_text u ++ difference before earlier) answer is
 finding_else IsAnswer (Fail u why) answer h is = h u is
 finding_else IsAnswer (Pass counts) answer h is = unexplained_else (codes "pass") [] answer is
 

@@ -9,7 +9,10 @@ use Rattle.lu_machine.specs.declared.event.Status.{Status}
 use Rattle.lu_machine.specs.States.{State}
 use Rattle.lu_machine.specs.declared.test.Test.{Test}
 use Rattle.lu_machine.specs.Starts.{FromEachStart, IsStart}
+use Rattle.std.specs.Fmt.{decimal}
 use Rattle.lu_history.specs.declared.serial.SerialOp.{SerialOp}
+use Rattle.lu_history.specs.declared.serial.SerialOutcome.{SerialOutcome}
+use Rattle.lu_history.specs.Text.{serial_outcome_text}
 use Rattle.lu_serial.specs.Offences.{IsSetOf}
 use Rattle.lu_serial_graph.specs.Graphs.{members_of}
 use Rattle.lu_report.specs.declared.report.Finding.{Finding}
@@ -67,6 +70,18 @@ abbrev pub unexplained : List ℕ → List ℕ → Answer
 unexplained why schedule =
     record { text = codes "explain " ++ why ++ codes "\n" ++ schedule; status = 1 }
 
+-- how another serial run differs from this one, which has the same operations before
+abbrev pub difference : ℕ → SerialOutcome → List ℕ
+difference before earlier =
+    codes "another serial run begins with the same " ++ decimal before
+    ++ codes " calls, and then the same call has the outcome " ++ serial_outcome_text earlier
+    ++ codes ", unlike here\n"
+
+-- that serial runs differ, and how, with the schedule of this one
+abbrev pub nondeterministic : List Move → ℕ → SerialOutcome → Answer
+nondeterministic u before earlier =
+    unexplained (codes "nondeterministic") (schedule_text u ++ difference before earlier)
+
 abbrev pub status_by : Verdict → ℕ
 status_by Good = 0
 status_by NoWitness = 1
@@ -102,7 +117,7 @@ abbrev pub ToFinding : (List Move → Answer → Type 0) → Finding → Answer 
 ToFinding IsAnswer (SerialCut u) answer =
     answer ≡ unexplained (codes "serial-cut") (schedule_text u)
 ToFinding IsAnswer (Nondeterministic u before earlier) answer =
-    answer ≡ unexplained (codes "nondeterministic") (schedule_text u)
+    answer ≡ nondeterministic u before earlier
 ToFinding IsAnswer (Fail u why) answer = IsAnswer u answer
 ToFinding IsAnswer (Pass counts) answer = answer ≡ unexplained (codes "pass") []
 

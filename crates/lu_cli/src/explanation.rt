@@ -1,6 +1,7 @@
 //! Why the history of a schedule has no serial witness.
 
 ghost use Rattle.std.specs.Prelude.{◌<◌, ◌≡◌, IfOk};
+ghost use Rattle.lu_text.specs.Writing.{Writes};
 ghost use Rattle.lu_report.specs.Limits.{IsSerialBound};
 ghost use Rattle.lu_test.specs.ScheduleText.{schedule_text};
 ghost use Rattle.lu_test.specs.declared.matrix.TheConstants.{MOST_THREADS};
@@ -11,7 +12,7 @@ ghost use Rattle.lu_cli.specs.Explanation.{ExplainsFinding, ExplainsRun, Explain
 use crate::answer::{Answer, infeasible};
 use crate::pictures::draw;
 use lu_explain::{Explanation, event_moves, explain as explain_history, write_explanations};
-use lu_history::{History, HistoryFault};
+use lu_history::{History, HistoryFault, SerialOutcome};
 use lu_machine::{Status, Test};
 use lu_replay::{Replay, ReplayFault, replay};
 use lu_report::{Bounds, Finding, MOST_MOVES, Report};
@@ -65,6 +66,34 @@ fn say_with(alloc: Global, why: &str, schedule: &Schedule) -> Result<Answer, All
 {
     let text = write_schedule(alloc, schedule)?;
     say(alloc, why, text.as_str())
+}
+
+/// Adds how another serial run differs from this one, which has the same operations before.
+fn write_difference(
+    text: &mut String,
+    before: usize,
+    earlier: SerialOutcome,
+) -> Result<(), AllocError>
+    ensures { Writes result text.old text.new (spec.difference before earlier) }
+{
+    write!(
+        text,
+        "another serial run begins with the same {before} calls, and then the same call has the outcome {earlier}, unlike here\n"
+    )
+}
+
+/// That serial runs differ, and how, with the schedule of this one.
+fn say_nondeterministic(
+    alloc: Global,
+    schedule: &Schedule,
+    before: usize,
+    earlier: SerialOutcome,
+) -> Result<Answer, AllocError>
+    ensures { IfOk result (λ a. a ≡ spec.nondeterministic schedule.now before earlier) }
+{
+    let mut text = write_schedule(alloc, schedule)?;
+    write_difference(&mut text, before, earlier)?;
+    say(alloc, "nondeterministic", text.as_str())
 }
 
 /// The status by a verdict.
@@ -205,7 +234,11 @@ fn explain_finding<T: SerialTree>(
 {
     match finding {
         Finding::SerialCut(schedule) => say_with(alloc, "serial-cut", schedule),
-        Finding::Nondeterministic { schedule, .. } => say_with(alloc, "nondeterministic", schedule),
+        Finding::Nondeterministic {
+            schedule,
+            before,
+            earlier,
+        } => say_nondeterministic(alloc, schedule, *before, *earlier),
         Finding::Fail { schedule, .. } => { explain_schedule(alloc, test, tree, schedule, by) }
         Finding::Pass(_) => say(alloc, "pass", ""),
     }
@@ -239,9 +272,11 @@ fn learn_or_say(
     match learn_graph(alloc, alloc, test.component, test.matrix, serial)? {
         LearntGraph::Set(graph) => Ok(Ok(graph)),
         LearntGraph::Cut(schedule) => Ok(Err(say_with(alloc, "serial-cut", &schedule)?)),
-        LearntGraph::Conflict { schedule, .. } => {
-            Ok(Err(say_with(alloc, "nondeterministic", &schedule)?))
-        }
+        LearntGraph::Conflict {
+            schedule,
+            before,
+            earlier,
+        } => Ok(Err(say_nondeterministic(alloc, &schedule, before, earlier)?)),
     }
 }
 

@@ -16,8 +16,8 @@ returns-in_ok-say_with-in-Cut c =
     let offends : IsOffenceOf c.args.test.component.now c.args.test.matrix.now c.args.serial found = (tt, λ bound s start. subst (IsLearntGraph s c.args.serial) c.in-Cut.is (c.in_ok-graph.ensures.learnt s start)) in
     (found, offends, c.in_ok-say_with-in-Cut.ensures)
 
-pub returns-in_ok-say_with-in-Conflict : goal.returns-in_ok-say_with-in-Conflict
-returns-in_ok-say_with-in-Conflict c =
+pub returns-in_ok-say_nondeterministic-in-Conflict : goal.returns-in_ok-say_nondeterministic-in-Conflict
+returns-in_ok-say_nondeterministic-in-Conflict c =
     let found = Nondeterministic c.in-Conflict.schedule c.in-Conflict.before c.in-Conflict.earlier in
     let offends : IsOffenceOf c.args.test.component.now c.args.test.matrix.now c.args.serial found = (tt, λ bound s start. subst (IsLearntGraph s c.args.serial) c.in-Conflict.is (c.in_ok-graph.ensures.learnt s start)) in
-    (found, offends, c.in_ok-say_with-in-Conflict.ensures)
+    (found, offends, c.in_ok-say_nondeterministic-in-Conflict.ensures)
