@@ -12,3 +12,4 @@ mod Strings
 mod WordedTexts
 mod Messages
 mod Tables
+mod FirstLines

@@ -1,8 +1,9 @@
 //! What there is to say of a bundle: by its component's text, or by its source's own.
 
-ghost use Rattle.std.specs.Prelude.{◌≡◌, ◌≤◌, ◌++◌, IfOk, OnOk, string_bytes};
+ghost use Rattle.std.specs.Prelude.{◌≡◌, ◌≤◌, ◌++◌, IfOk, None, OnOk, string_bytes};
 ghost use Rattle.lu_report.specs.Limits.{most_moves};
 ghost use Rattle.lu_text.specs.Lines.{lines_of, texts};
+ghost use Rattle.lu_text.specs.Lines as text;
 ghost use Rattle.lu_text.specs.Writing.{Writes};
 ghost use Rattle.lu_text.specs.Results.{HasItems};
 ghost use Rattle.lu_cli.specs.Compile.{lent_after};
@@ -139,6 +140,23 @@ fn options_of(asked: LintRequest) -> LintOptions
     }
 }
 
+/// The number of this line, if it has words, and whether the first one is this word.
+fn line_with_words(
+    alloc: Global,
+    number: usize,
+    line: &[u8],
+    word: &[u8],
+) -> Result<Option<(usize, bool)>, AllocError>
+    ensures { IfOk result (λ found.
+        found ≡ spec.line_or word.now number (text.words_of line.now) None) }
+{
+    let words = words_of(alloc, line)?;
+    match words.split_first() {
+        Some((first, _)) => Ok(Some((number, *first == word))),
+        None => Ok(None),
+    }
+}
+
 /// The number of the first of these lines that has words, counted on from `above`, and whether its
 /// first word is this one.
 fn first_line(
@@ -149,15 +167,15 @@ fn first_line(
 ) -> Result<Option<(usize, bool)>, AllocError>
     ensures { IfOk result (λ first. first ≡ spec.first_line word.now above (texts lines.now)) }
 {
-    let Some((line, rest)) = lines.split_first() else {
-        return Ok(None);
-    };
-    let above = above.saturating_add(1);
-    let words = words_of(alloc, line)?;
-    match words.split_first() {
-        Some((first, _)) => Ok(Some((above, *first == word))),
-        None => first_line(alloc, above, rest, word),
+    let mut number = above;
+    for line in lines {
+        number = number.saturating_add(1);
+        match line_with_words(alloc, number, line, word)? {
+            Some(found) => return Ok(Some(found)),
+            None => {}
+        }
     }
+    Ok(None)
 }
 
 /// The same of a text's lines.
