@@ -66,11 +66,20 @@ export async function open(url) {
         const { result } = await send('Page.captureScreenshot', { captureBeyondViewport: false });
         writeFileSync(file, Buffer.from(result.data, 'base64'));
     };
+    // Types a text where the focus is, and presses a key.
+    const type = text => send('Input.insertText', { text });
+    const press = async key => {
+        const text = key === 'Enter' ? '\r' : key.length === 1 ? key : undefined;
+        const codes = { ArrowLeft: 37, ArrowRight: 39, Home: 36, End: 35, Tab: 9, Enter: 13 };
+        const given = { key, code: key, windowsVirtualKeyCode: codes[key] ?? key.charCodeAt(0), text };
+        await send('Input.dispatchKeyEvent', { type: text ? 'keyDown' : 'rawKeyDown', ...given });
+        await send('Input.dispatchKeyEvent', { type: 'keyUp', ...given });
+    };
     const close = async () => {
         socket.close();
         browser.kill();
         await wait(300);
         rmSync(profile, { recursive: true, force: true });
     };
-    return { evaluate, until, shot, faults, close };
+    return { evaluate, until, shot, type, press, faults, close };
 }
