@@ -69,11 +69,16 @@ function box(name, text) {
     mark_row(null);
 }
 
-// Where the row of each move lies in a picture that runs down the page, from its top and in height.
+// Where the row of each move lies in a picture that runs down the page: from its top, in height, and where its words begin. A
+// move that only its own thread sees has a tick in place of words.
 function rows_of(svg) {
-    const found = [...svg.matchAll(/<text class='m'[^>]*? x='(\d+)' y='(\d+)'[^>]*>(\d+)</g)].map(([, x, y, move]) => [Number(move), x, Number(y)]);
-    const is_down = new Set(found.map(([, x]) => x)).size === 1;
-    return new Map(is_down ? found.map(([move, , top], at) => [move, {top, height: (found[at + 1]?.[2] ?? top + 18) - top}]) : []);
+    const worded = [...svg.matchAll(/<text class='m'[^>]* x='(\d+)' y='(\d+)'>(\d+)<\/text><text [^>]*x='(\d+)'/g)]
+        .map(([, x, top, move, left]) => ({x, top: Number(top), move: Number(move), left: Number(left)}));
+    if (worded.length === 0 || worded.some(({x}) => x !== worded[0].x)) return new Map();
+    const ticks = [...svg.matchAll(/<path class='t' d='M(\d+) (\d+)m[^>]*><title>(\d+) T/g)]
+        .map(([, left, top, move]) => ({top: Number(top), move: Number(move), left: Number(left)}));
+    const found = [...worded, ...ticks].sort((one, other) => one.move - other.move);
+    return new Map(found.map(({top, move, left}, at) => [move, {top, left, height: Math.max(4, (found[at + 1]?.top ?? top + 18) - top)}]));
 }
 
 function mark_row(move) {
@@ -82,8 +87,9 @@ function mark_row(move) {
     if (!row) return;
     $('row').style.top = `${row.top}px`;
     $('row').style.height = `${row.height}px`;
-    const pane = $('frame').parentElement;
+    const pane = $('frame').parentElement, words = 300;
     if (row.top < pane.scrollTop || row.top + row.height > pane.scrollTop + pane.clientHeight) pane.scrollTop = row.top - pane.clientHeight / 2;
+    if (row.left < pane.scrollLeft || row.left + words > pane.scrollLeft + pane.clientWidth) pane.scrollLeft = row.left - 80;
 }
 
 function clear() {
@@ -202,15 +208,14 @@ function failure_of(answer, typed) {
 // Shows a failing schedule: the steps, why no serial history explains it, and the picture.
 async function show_failure(typed, {matrix, report, moves}) {
     const parts = parts_of(typed), spec = has_spec(parts) ? [parts[2]] : [], case_of = [parts[0], matrix, report];
-    await begin_walk(parts[0], matrix, moves);
     const serial = report.match(/^serial (\d+)$/m), bound = serial ? ` --serial ${serial[1]}` : '';
     if (/^lineup report/m.test(report)) {
         const why = await ask(spec.length ? 'explain --spec' : 'explain' + bound, bundle_of([...case_of, ...spec]));
         box('explain', why.text);
     }
     const is_explained = !spec.length && /^fail/m.test(report);
-    box('draw', (await ask(is_explained ? 'draw --explain' + bound : 'draw', bundle_of(case_of))).text);
-    mark_row(walk.at - 1);
+    const drawn = await ask(is_explained ? 'draw --explain' + bound : 'draw', bundle_of(case_of));
+    await begin_walk(parts[0], matrix, moves, drawn.text);
 }
 
 let runs = 0;
@@ -227,7 +232,7 @@ async function run_command(name, text) {
     const said = await ask(words + ' --source', bundle);
     const [kind, sentence, why] = meaning_of(said);
     verdict(kind, sentence, why, `${words}, ${time(said.took)}`);
-    $('text-title').textContent = `What \`lineup ${words}\` prints`;
+    show_words($('text-title'), `What \`lineup ${words}\` prints`);
     box('text', said.text);
     $('box-text').querySelector('details').open = words.startsWith('witness') || words.startsWith('campaign');
     const failure = failure_of(said.text, text), parts = parts_of(text);
@@ -330,7 +335,10 @@ async function share() {
 for (const label of new Set(examples.map(({group}) => group))) {
     const group = element('optgroup', '', undefined, $('example'));
     group.label = label;
-    for (const {name, title} of examples.filter(it => it.group === label)) group.append(new Option(title, name));
+    for (const {name, title, about} of examples.filter(it => it.group === label)) {
+        group.append(new Option(title, name));
+        group.lastChild.title = about;
+    }
 }
 
 // ---- the controls
@@ -369,7 +377,7 @@ document.addEventListener('keydown', event => {
         const size = (code.byteLength / 1e6).toFixed(1);
         $('about').textContent = `${facts.version}; ${size} MB of WebAssembly, ready after ${time(performance.now() - begun)}. Editor: CodeMirror ${CodeMirror.version}`;
     } catch (fault) {
-        $('old').textContent += ` (${fault})`;
+        $('old').textContent = `This browser is too old for lineup. ${$('needs').textContent} (${fault})`;
         return;
     }
     $('old').remove();

@@ -95,13 +95,14 @@ async function look(moves) {
     return seen;
 }
 
-// Begins with a schedule that fails, or with none.
-async function begin_walk(typed, matrix, moves) {
+// Begins with a schedule that fails and its picture, or with no move.
+async function begin_walk(typed, matrix, moves, picture) {
     const compiled = (await ask('compile', bundle_of([typed, matrix]))).text;
     const is_source = /^(\s|#.*)*object(\s|$)/.test(typed);
     const component = is_source ? parts_of(compiled)[0] : typed;
     walk = {typed, matrix, component, is_source, fault: moves, moves, at: 0, known: new Map(), lines: new Map(),
-        calls: calls_of(matrix), ...read_component(component)};
+        pictures: new Map(picture ? [[moves.join(' '), picture]] : []), pictured: null, calls: calls_of(matrix),
+        ...read_component(component)};
     walk.at = Math.min(1, moves.length);
     $('stepper-title').textContent = moves.length ? 'Step through the schedule' : 'Step through a schedule of your own';
     await show_step();
@@ -262,9 +263,19 @@ async function show_step() {
     show_threads(seen, before);
     show_shared(seen, before);
     show_history(seen, before);
-    mark_row(is_fault() ? walk.at - 1 : null);
     await show_moves();
+    await show_picture(mine);
     if (mine === drawing) await judge(seen, mine);
+}
+
+// The picture of the schedule, with the row of the last move marked. The one of the fault has its explanation in it.
+async function show_picture(mine) {
+    const key = walk.moves.join(' '), known = walk.pictures;
+    if (!known.has(key)) known.set(key, (await ask('draw', bundle_of([walk.typed, walk.matrix, schedule_of(walk.moves)]))).text);
+    if (mine !== drawing) return;
+    if (walk.pictured !== key) box('draw', walk.moves.length ? known.get(key) : null);
+    walk.pictured = key;
+    mark_row(walk.at - 1);
 }
 
 // What serial histories say of a schedule that one has played to its end.

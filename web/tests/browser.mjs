@@ -19,7 +19,8 @@ async function socket_of(port) {
     throw new Error('the browser does not answer');
 }
 
-export async function open(url) {
+// Opens a page, after the script `before`, if there is one, has run in it.
+export async function open(url, before) {
     const port = 9300 + Math.floor(Math.random() * 500), profile = mkdtempSync(join(tmpdir(), 'lineup-page-'));
     const browser = spawn('chromium', ['--headless=new', '--no-sandbox', '--disable-gpu', '--hide-scrollbars',
         `--remote-debugging-port=${port}`, `--user-data-dir=${profile}`, 'about:blank'], { stdio: 'ignore' });
@@ -42,6 +43,7 @@ export async function open(url) {
         socket.send(JSON.stringify({ id: number, method, params }));
     });
     for (const domain of ['Runtime', 'Page', 'Log']) await send(`${domain}.enable`);
+    if (before) await send('Page.addScriptToEvaluateOnNewDocument', { source: before });
     await send('Page.navigate', { url });
 
     // What an expression of the page is, once it is known.

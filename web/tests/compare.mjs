@@ -5,7 +5,7 @@
 import { spawnSync } from 'node:child_process';
 import { existsSync, readdirSync, readFileSync } from 'node:fs';
 import { open } from './browser.mjs';
-import { IDLE, try_page } from './page.mjs';
+import { IDLE, try_old, try_page } from './page.mjs';
 
 const [page, program, root, folder] = process.argv.slice(2);
 const LIMIT = 3000;    // milliseconds for the program; what takes longer is left out, and counted
@@ -46,10 +46,13 @@ async function compare(shown) {
 
 const shown = await open(`${page}#examples/locked-counter`);
 if (await shown.until(IDLE)) {
-    await try_page(shown, page, folder, tell);
+    await try_page(shown, page, root, folder, tell);
     if (program !== 'none') console.log(await compare(shown));
 } else {
     tell(`the page does not start: ${await shown.evaluate(`document.getElementById('text').textContent`)}`);
 }
 await shown.close();
+const old = await open(page, `WebAssembly.compile = async () => { throw new Error('unknown memory type'); }`);
+await try_old(old, tell);
+await old.close();
 process.exit(faults.length > 0 ? 1 : 0);

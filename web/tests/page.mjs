@@ -1,10 +1,19 @@
 // Tries the page as somebody uses it: types, steps, follows links. `tell` is called with each fault.
+import { readFileSync } from 'node:fs';
 import { wait } from './browser.mjs';
 
 export const IDLE = `document.readyState === 'complete' && document.getElementById('stop').disabled
     && document.getElementById('about').textContent !== '' && !/Searching|certified yet \\.\\./.test($('said').textContent)`;
 
-export async function try_page(shown, page, folder, tell) {
+// A browser without 64-bit memories is told so.
+export async function try_old(shown, tell) {
+    if (!await shown.until(`/too old for lineup\\..*Firefox 134/.test(document.getElementById('old')?.textContent)`, 5000)) {
+        tell(`a browser that is too old is told ${await shown.evaluate(`document.getElementById('old')?.textContent`)}`);
+    }
+    if (!await shown.evaluate(`document.getElementById('verdict').hidden`)) tell('a browser that is too old is shown a verdict');
+}
+
+export async function try_page(shown, page, root, folder, tell) {
     const { evaluate, until, press, type } = shown;
     const idle = async () => {
         await wait(50);
@@ -109,6 +118,12 @@ export async function try_page(shown, page, folder, tell) {
     }
     await is(`$('standing').textContent`, 'Stuck: no thread can move.', 'the end of lock-order');
 
+    // ---- the rows of a picture that runs down the page
+    const drawn = readFileSync(`${root}/docs/pictures/broken-counter.svg`, 'utf8');
+    const words = [...drawn.matchAll(/<title>(\d+) T/g)].map(([, move]) => Number(move));
+    await is(`JSON.stringify([...rows_of(${JSON.stringify(drawn)}).keys()])`, JSON.stringify(words), 'the rows of a picture');
+    if (words.length === 0) tell('the picture has no rows');
+
     // ---- free play, by keys: T0 alone to its end, and then T1, which no longer loses its increment
     await example('sources/broken-counter');
     await evaluate(`document.activeElement.blur(), step_to(0)`);
@@ -122,6 +137,8 @@ export async function try_page(shown, page, folder, tell) {
     await until(`!$('judged').hidden`, 4000);
     await is(`/^T1 returns 2$/m.test($('history').innerText)`, true, 'T1 returns 2 after T0');
     await is(`/^explain /.test($('judged').textContent)`, true, 'what explains the schedule that was played');
+    await is(`$('box-draw').hidden`, false, 'the picture of the schedule that was played is hidden');
+    await is(`walk.pictured`, '0 0 0 0 0 0 1 1 1 1 1 1', 'the schedule of the picture');
     await shots('played');
     await press('ArrowLeft');
     if (!await until(`$('at').textContent.startsWith('move 11 of 12')`, 4000)) tell('the left arrow does not step back');
