@@ -120,38 +120,47 @@ function percent(part, whole) {
     return hundredths === 0n ? 'less than 0.01 %' : `${hundredths / 100n}.${String(hundredths % 100n).padStart(2, '0')} %`;
 }
 
-// What a text that lineup prints means: a colour, a sentence, and what it is about. Green is only what is about every schedule:
-// a certificate, and a pass that cut none.
+// What a text that lineup prints means: a colour, a sentence, and what it is about. Green is only what is about every schedule: a
+// certificate, and a pass that cut none.
 const MEANINGS = [
-    [/^linearizable$/, 'good', 'Linearizable', 'A serial order of the calls explains every schedule of this matrix, of any length.'],
-    [/^campaign pass (\d+)$/, 'good', 'Every matrix passes', 'These are all matrices of so many calls of each thread.'],
+    [/^linearizable$/, 'good', 'Linearizable', 'A serial order of the calls explains every schedule, of any length.'],
+    [/^campaign linearizable (\d+)$/, 'good', 'Every matrix is linearizable', 'Below is how many there are.'],
     [/^fail complete$/, 'bad', 'Not linearizable: no serial order of the calls has these results', ''],
     [/^fail stuck/, 'bad', 'Not linearizable: a thread blocks forever, and no serial order explains that', ''],
     [/^nondeterministic$/, 'bad', 'Not deterministic: two serial runs of the same calls differ', ''],
     [/^livelock$/, 'bad', 'Livelock: after this schedule no execution ends', 'Some thread can always move, but the calls never return.'],
     [/^witness pass/, 'good', 'A serial order explains each recorded run', ''],
     [/^witness fail/, 'bad', 'A recorded run has no linearization', 'Below is the first such run, up to the event that shows it.'],
-    [/^serial-cut/, 'part', 'Undecided: an operation takes more moves alone than `serial` allows', 'Set a larger `serial` below.'],
-    [/^undecided$/, 'part', 'Undecided: the search was cut short', 'Set more `nodes` below, or make the matrix smaller.'],
-    [/^refused stack$/, 'odd', 'These bounds need more memory than the page has', 'Set smaller bounds below.'],
-    [/^refused/, 'bad', 'Refused', ''],
+    [/^serial-cut/, 'part', 'Undecided: an operation takes more moves alone than `serial` allows', 'Set a larger `serial` in the options.'],
+    [/^undecided$/, 'part', 'Undecided: the search was cut short', 'Set more `nodes` in the options, or make the matrix smaller.'],
+    [/^refused stack$/, 'odd', 'These bounds need more memory than the page has', 'Set smaller bounds in the options.'],
+];
+// The same where a specification is given in place of the serial runs.
+const BY_SPECIFICATION = [
+    [/^fail complete$/, 'bad', 'Fails: the specification has no history with these results', ''],
+    [/^fail stuck/, 'bad', 'Fails: a thread blocks forever, and the specification does not allow that', ''],
+    ...MEANINGS,
 ];
 const STATUSES = [['good', 'Success'], ['bad', 'Failure'], ['odd', 'Refused'], ['part', 'Undecided'], ['odd', 'Out of memory']];
 
-function meaning_of({status, text}) {
-    const lines = text.split('\n');
+function meaning_of({status, text}, words) {
+    const lines = text.split('\n'), has_rounds = / --(rounds|forever)/.exec(words), by_spec = words.includes('--spec');
     if (lines.includes('pass')) {
-        const {cut, all} = cut_of(text);
+        const {cut, all} = cut_of(text), by = by_spec ? 'the specification' : 'a serial order';
         return cut === 0n
-            ? ['good', 'Passes: a serial order explains each schedule', `All ${all} schedules end within the bound.`]
+            ? ['good', `Passes: ${by} explains each schedule`, `None of the ${all} schedules was cut.`]
             : ['part', `Passes, but ${percent(cut, all)} of the schedules were cut`,
-                `Only ${all - cut} of ${all} schedules end within the bound. \`Certify\` judges schedules of any length.`];
+                `Only ${all - cut} of ${all} schedules are within the bound and were judged. \`Certify\` judges schedules of any length.`];
     }
-    for (const [pattern, kind, said, why] of MEANINGS) {
-        const line = lines.find(it => pattern.test(it));
-        if (line !== undefined) return [kind, said === 'Refused' ? `Refused: ${line.replace(/^refused /, '')}` : said, why];
+    for (const [pattern, kind, said, why] of by_spec ? BY_SPECIFICATION : MEANINGS) {
+        if (!lines.some(it => pattern.test(it))) continue;
+        const repeated = !has_rounds ? '' : has_rounds[1] === 'forever' ? ' Each thread repeats its calls any number of times.'
+            : ` Each thread repeats its calls up to ${$('rounds').value} times.`;
+        return [kind, said, kind === 'good' ? why + repeated : why];
     }
-    return [...STATUSES[status], ''];
+    const refused = lines.find(it => it.startsWith('refused'));
+    const [kind, said] = refused ? ['bad', `Refused: ${refused.replace('refused ', '')}`] : STATUSES[status];
+    return [kind, said, ''];
 }
 
 // ---- the commands
@@ -192,7 +201,7 @@ const COMMANDS = {
     campaign(text) {
         const [component, matrix = ''] = parts_of(text), is_by_thread = $('by-thread').checked;
         const setup = matrix.match(/^[ \t]*setup\b.*$/m)?.[0] ?? '', calls = [...new Set(calls_of(matrix).flat())];
-        return ['campaign' + options(['calls']) + (is_by_thread ? ' --by-thread' : options(['threads'])) + options(['bound', 'serial']),
+        return ['campaign --certify' + options(['calls']) + (is_by_thread ? ' --by-thread' : options(['threads'])) + options(['bound', 'serial']),
             bundle_of([component, is_by_thread ? matrix : `${setup}\nthread ${calls.join(';')}\n`])];
     },
 };
@@ -201,7 +210,8 @@ const COMMANDS = {
 function failure_of(answer, typed) {
     const parts = parts_of(answer), shown = parts.findIndex(part => /^schedule/m.test(part));
     if (shown < 0) return null;
-    const matrix = parts.find(part => /^\s*(setup|thread)\b/m.test(part)) ?? parts_of(typed)[1];
+    // (a campaign prints the matrix, and then the cut of it that fails)
+    const matrix = parts.slice(0, shown).filter(part => /^\s*(setup|thread)\b/m.test(part)).pop() ?? parts_of(typed)[1];
     return {matrix, report: parts[shown], moves: parts[shown].match(/^schedule(.*)$/m)[1].trim().split(/\s+/).filter(move => move)};
 }
 
@@ -228,9 +238,13 @@ async function run_command(name, text) {
             faults.length > 1 ? `All ${faults.length} messages are listed below the text.` : ''].join('\n'), 'lint');
         return;
     }
+    if (parts_of(text).length === 1) {
+        verdict('part', 'There is no matrix yet', 'Add a line `---`, and below it a line `thread` with calls for each thread, as in `thread inc;get`.', 'lint');
+        return;
+    }
     const [words, bundle] = COMMANDS[name](text);
     const said = await ask(words + ' --source', bundle);
-    const [kind, sentence, why] = meaning_of(said);
+    const [kind, sentence, why] = meaning_of(said, words);
     verdict(kind, sentence, why, `${words}, ${time(said.took)}`);
     show_words($('text-title'), `What \`lineup ${words}\` prints`);
     box('text', said.text);

@@ -254,7 +254,7 @@ async function show_step() {
     const mine = drawing, prefix = walk.moves.slice(0, walk.at);
     const seen = await look(prefix), before = walk.at > 0 ? await look(prefix.slice(0, -1)) : null;
     if (mine !== drawing) return;
-    $('at').textContent = `move ${walk.at} of ${walk.moves.length}` + (is_fault() ? '' : ', a schedule of your own');
+    $('at').textContent = `${walk.at} of ${walk.moves.length} moves` + (is_fault() ? '' : ', a schedule of your own');
     $('standing').className = '';
     $('standing').textContent = {running: '', complete: 'Every call has ended.', stuck: 'Stuck: no thread can move.'}[seen.state.status];
     $('first').disabled = $('back').disabled = walk.at === 0;

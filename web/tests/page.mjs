@@ -74,13 +74,17 @@ export async function try_page(shown, page, root, folder, tell) {
     await click('certify');
     await is(`$('took').textContent.startsWith('certify --rounds 2,')`, true, 'certify with rounds');
     await is_judged('good', 'Linearizable', 'cas-counter with rounds');
+    await is(`/up to 2 times/.test($('why').textContent)`, true, 'the certificate says nothing of rounds');
     await evaluate(`$('rounds').value = ''`);
     await click('campaign');
-    await is_judged('good', 'Every matrix passes', 'a campaign of cas-counter');
+    await is_judged('good', 'Every matrix is linearizable', 'a campaign of cas-counter');
     await example('sources/broken-counter');
     await click('campaign');
     await is_judged('bad', 'Not linearizable', 'a campaign of broken-counter');
     await is(`$('stepper').hidden`, false, 'the steps of a campaign are hidden');
+    await evaluate(`editor.setValue(editor.getValue().replace(/---[^]*/, ''))`);
+    await click('certify');
+    await is_judged('part', 'There is no matrix yet', 'a text without a matrix');
 
     // ---- a fault is marked on its line while one types, and goes when it is mended
     await example('sources/broken-counter');
@@ -127,13 +131,13 @@ export async function try_page(shown, page, root, folder, tell) {
     // ---- free play, by keys: T0 alone to its end, and then T1, which no longer loses its increment
     await example('sources/broken-counter');
     await evaluate(`document.activeElement.blur(), step_to(0)`);
-    await until(`$('at').textContent === 'move 0 of 12'`);
+    await until(`$('at').textContent === '0 of 12 moves'`);
     await shots('steps');
     for (let move = 1; move <= 12; move++) {
         await press(move <= 6 ? '0' : '1');
-        if (!await until(`$('at').textContent.startsWith('move ${move} of')`, 4000)) tell(`move ${move} of free play is not made`);
+        if (!await until(`$('at').textContent.startsWith('${move} of')`, 4000)) tell(`move ${move} of free play is not made`);
     }
-    await is(`$('at').textContent`, 'move 12 of 12, a schedule of your own', 'the end of free play');
+    await is(`$('at').textContent`, '12 of 12 moves, a schedule of your own', 'the end of free play');
     await until(`!$('judged').hidden`, 4000);
     await is(`/^T1 returns 2$/m.test($('history').innerText)`, true, 'T1 returns 2 after T0');
     await is(`/^explain /.test($('judged').textContent)`, true, 'what explains the schedule that was played');
@@ -141,10 +145,10 @@ export async function try_page(shown, page, root, folder, tell) {
     await is(`walk.pictured`, '0 0 0 0 0 0 1 1 1 1 1 1', 'the schedule of the picture');
     await shots('played');
     await press('ArrowLeft');
-    if (!await until(`$('at').textContent.startsWith('move 11 of 12')`, 4000)) tell('the left arrow does not step back');
+    if (!await until(`$('at').textContent.startsWith('11 of 12 moves')`, 4000)) tell('the left arrow does not step back');
     await click('again');
-    await until(`$('at').textContent === 'move 11 of 12'`, 4000);
-    await is(`$('at').textContent`, 'move 11 of 12', 'the schedule of the fault, again');
+    await until(`$('at').textContent === '11 of 12 moves'`, 4000);
+    await is(`$('at').textContent`, '11 of 12 moves', 'the schedule of the fault, again');
 
     // ---- a link has the text; a damaged one says so
     await evaluate(`editor.setValue('object linked\\nword a\\nop get() {\\n    return a\\n}\\n---\\nthread get # <b>&amp;+/\\n')`);
@@ -192,7 +196,7 @@ async function step_through({ evaluate, until, press }, name, tell) {
     const moves = await evaluate(`walk.moves.length`);
     for (let at = 0; at <= moves; at++) {
         if (at > 0) await press('ArrowRight');
-        if (!await until(`$('at').textContent === 'move ${at} of ${moves}' && $('moves').querySelector('[aria-current]')?.parentElement === $('moves').children[${at}]`, 4000)) {
+        if (!await until(`$('at').textContent === '${at} of ${moves} moves' && $('moves').querySelector('[aria-current]')?.parentElement === $('moves').children[${at}]`, 4000)) {
             tell(`${name}: move ${at} is not shown, but ${await evaluate(`$('at').textContent`)}`);
             return;
         }
