@@ -90,9 +90,31 @@ async function look(moves) {
             if (operation > 0 && ahead.line) mine.lines.set(`${operation}:${place}`, ahead);
         }
     }
+    for (const [thread, {picks, operation, place}] of state.threads.entries()) {
+        const key = `${operation}:${place}`, is_blocked = mine.is_source && operation > 0 && picks === 0;
+        if (!is_blocked || mine.lines.has(key)) continue;
+        const found = await line_when_free(thread, moves);
+        if (found?.line) mine.lines.set(key, found);
+    }
     const seen = {state, trace, next};
     mine.known.set(key, seen);
     return seen;
+}
+
+// The line at which a thread is blocked: that of the move it makes once the others, in turn, have moved so far that it can. A
+// trace that ends stuck names the line itself.
+async function line_when_free(thread, moves) {
+    const played = [...moves];
+    for (let turn = 0; turn < 256; turn++) {
+        const {status, numbers} = await ask_state(walk.component, walk.matrix, schedule_of(played), played.length);
+        if (status !== 0) return null;
+        const {status: standing, threads} = read_state(numbers);
+        if (standing === 'stuck') return (await trace_of(played)).find(it => it.thread === thread && it.move === null);
+        if (threads[thread].picks > 0) return (await trace_of([...played, thread])).find(it => it.move === played.length);
+        const able = threads.flatMap(({picks}, other) => picks > 0 ? [other] : []);
+        played.push(able[turn % able.length]);
+    }
+    return null;
 }
 
 // Begins with a schedule that fails and its picture, or with no move.

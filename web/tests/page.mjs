@@ -150,6 +150,17 @@ export async function try_page(shown, page, root, folder, tell) {
     await until(`$('at').textContent === '11 of 12 moves'`, 4000);
     await is(`$('at').textContent`, '11 of 12 moves', 'the schedule of the fault, again');
 
+    // ---- a thread that waits for a lock is marked at its line, before any trace names that line
+    await example('sources/locked-counter');
+    for (const [number, move] of ['0', '0', '1'].entries()) {
+        await press(move);
+        await until(`$('at').textContent.startsWith('${number + 1} of')`, 4000);
+    }
+    const lock = await evaluate(`editor.getValue().split('\\n').findIndex(line => /^ +lock /.test(line)) + 1`);
+    await until(`$('cards').children[1].innerText.includes('blocked')`, 4000);
+    await is(`$('cards').children[1].innerText.includes('line ${lock}: lock ')`, true, 'the line of a blocked thread');
+    await is(`editor.lineInfo(${lock - 1}).gutterMarkers['threads-gutter'].textContent`, 'T1', 'the mark of a blocked thread');
+
     // ---- a link has the text; a damaged one says so
     await evaluate(`editor.setValue('object linked\\nword a\\nop get() {\\n    return a\\n}\\n---\\nthread get # <b>&amp;+/\\n')`);
     await evaluate(`share()`);
