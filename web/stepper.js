@@ -126,6 +126,9 @@ async function begin_walk(typed, matrix, moves, picture) {
         pictures: new Map(picture ? [[moves.join(' '), picture]] : []), pictured: null, calls: calls_of(matrix),
         ...read_component(component)};
     walk.at = Math.min(1, moves.length);
+    const all_calls = calls_of(parts_of(editor.getValue())[1] ?? ''), is_part = JSON.stringify(all_calls) !== JSON.stringify(walk.calls);
+    $('suffices').textContent = is_part && moves.length
+        ? `These calls suffice for it: ${walk.calls.map((calls, thread) => `T${thread} ${calls.join(', ')}`).join('; ')}.` : '';
     $('stepper-title').textContent = moves.length ? 'Step through the schedule' : 'Step through a schedule of your own';
     await show_step();
     $('stepper').hidden = false;
@@ -342,7 +345,9 @@ function step_by_key(event) {
     if (!walk || event.ctrlKey || event.metaKey || event.altKey) return;
     if (event.target.closest('.CodeMirror, input, select, textarea')) return;
     const at = {ArrowLeft: walk.at - 1, ArrowRight: walk.at + 1, Home: 0, End: walk.moves.length}[event.key];
-    if (at !== undefined) step_to(at);
+    // (elsewhere Home and End lead to the ends of the page)
+    const is_ours = /^Arrow/.test(event.key) || event.target.closest('#stepper');
+    if (at !== undefined && is_ours) step_to(at);
     else if (/^[0-7]$/.test(event.key) && walk.known.get(walk.moves.slice(0, walk.at).join(' '))?.next.some(it => it.move === event.key)) {
         play(event.key);
     } else return;

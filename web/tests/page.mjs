@@ -150,6 +150,15 @@ export async function try_page(shown, page, root, folder, tell) {
     await until(`$('at').textContent === '11 of 12 moves'`, 4000);
     await is(`$('at').textContent`, '11 of 12 moves', 'the schedule of the fault, again');
 
+    // ---- a part of the matrix that fails is named; Home and End step where the focus is in the steps
+    await example('sources/mended');
+    await is(`/^These calls suffice for it: T0 /.test($('suffices').textContent)`, true, 'the calls that suffice');
+    await evaluate(`$('stepper').focus()`);
+    await press('End');
+    if (!await until(`$('last').disabled`, 4000)) tell('End does not step to the end');
+    await press('Home');
+    if (!await until(`$('first').disabled`, 4000)) tell('Home does not step to the start');
+
     // ---- a thread that waits for a lock is marked at its line, before any trace names that line
     await example('sources/locked-counter');
     for (const [number, move] of ['0', '0', '1'].entries()) {
