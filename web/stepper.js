@@ -284,7 +284,7 @@ async function show_step() {
     $('standing').textContent = {running: '', complete: 'Every call has ended.', stuck: 'Stuck: no thread can move.'}[seen.state.status];
     $('first').disabled = $('back').disabled = walk.at === 0;
     $('forward').disabled = $('last').disabled = walk.at === walk.moves.length;
-    $('again').hidden = is_fault();
+    $('again').hidden = is_fault() || walk.fault.length === 0;
     show_threads(seen, before);
     show_shared(seen, before);
     show_history(seen, before);

@@ -70,10 +70,10 @@ export async function open(url, before) {
     };
     // Types a text where the focus is, and presses a key.
     const type = text => send('Input.insertText', { text });
-    const press = async key => {
-        const text = key === 'Enter' ? '\r' : key.length === 1 ? key : undefined;
+    const press = async (key, { control = false } = {}) => {
+        const text = control ? undefined : key === 'Enter' ? '\r' : key.length === 1 ? key : undefined;
         const codes = { ArrowLeft: 37, ArrowRight: 39, Home: 36, End: 35, Tab: 9, Enter: 13 };
-        const given = { key, code: key, windowsVirtualKeyCode: codes[key] ?? key.charCodeAt(0), text };
+        const given = { key, code: key, windowsVirtualKeyCode: codes[key] ?? key.charCodeAt(0), text, modifiers: control ? 2 : 0 };
         await send('Input.dispatchKeyEvent', { type: text ? 'keyDown' : 'rawKeyDown', ...given });
         await send('Input.dispatchKeyEvent', { type: 'keyUp', ...given });
     };

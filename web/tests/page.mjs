@@ -186,8 +186,17 @@ export async function try_page(shown, page, root, folder, tell) {
     if (!await until(`/damaged/.test($('about-example').textContent)`, 4000)) tell('a damaged link is not reported');
     await idle();
 
-    // ---- the keyboard alone: Tab leaves the editor
-    await evaluate(`editor.focus()`);
+    // ---- the keyboard alone: Ctrl+Enter certifies, and Tab leaves the editor
+    await evaluate(`choose('sources/cas-counter')`);
+    await idle();
+    await evaluate(`$('live').checked = false, editor.focus(), editor.setCursor(0, 0)`);
+    await type('# ');
+    await wait(500);
+    await is(`$('said').textContent`, 'Changed: not certified yet', 'the verdict where nothing is certified while one types');
+    await press('Enter', { control: true });
+    await idle();
+    await is_judged('good', 'Linearizable', 'Ctrl+Enter');
+    await evaluate(`$('live').checked = true`);
     await press('Tab');
     await is(`document.activeElement.closest('.CodeMirror') === null`, true, 'Tab leaves the editor');
     await is(`/\\t/.test(editor.getValue())`, false, 'Tab writes into the editor');
