@@ -284,6 +284,8 @@ async function show_step() {
     $('standing').textContent = {running: '', complete: 'Every call has ended.', stuck: 'Stuck: no thread can move.'}[seen.state.status];
     $('first').disabled = $('back').disabled = walk.at === 0;
     $('forward').disabled = $('last').disabled = walk.at === walk.moves.length;
+    // (the explanation is that of lineup's schedule)
+    $('box-explain').hidden = !is_fault() || $('box-explain').querySelector('pre').textContent === '';
     $('again').hidden = is_fault() || walk.fault.length === 0;
     show_threads(seen, before);
     show_shared(seen, before);

@@ -143,12 +143,14 @@ export async function try_page(shown, page, root, folder, tell) {
     await is(`/^explain /.test($('judged').textContent)`, true, 'what explains the schedule that was played');
     await is(`$('box-draw').hidden`, false, 'the picture of the schedule that was played is hidden');
     await is(`walk.pictured`, '0 0 0 0 0 0 1 1 1 1 1 1', 'the schedule of the picture');
+    await is(`$('box-explain').hidden`, true, 'the explanation of another schedule is hidden');
     await shots('played');
     await press('ArrowLeft');
     if (!await until(`$('at').textContent.startsWith('11 of 12 moves')`, 4000)) tell('the left arrow does not step back');
     await click('again');
     await until(`$('at').textContent === '11 of 12 moves'`, 4000);
     await is(`$('at').textContent`, '11 of 12 moves', 'the schedule of the fault, again');
+    await is(`$('box-explain').hidden`, false, 'the explanation of the fault is hidden');
 
     // ---- a part of the matrix that fails is named; Home and End step where the focus is in the steps
     await example('sources/mended');
