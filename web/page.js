@@ -88,8 +88,10 @@ function mark_row(move) {
     $('row').style.top = `${row.top}px`;
     $('row').style.height = `${row.height}px`;
     const pane = $('frame').parentElement, words = 300;
-    if (row.top < pane.scrollTop || row.top + row.height > pane.scrollTop + pane.clientHeight) pane.scrollTop = row.top - pane.clientHeight / 2;
-    if (row.left < pane.scrollLeft || row.left + words > pane.scrollLeft + pane.clientWidth) pane.scrollLeft = row.left - 80;
+    const is_in_height = row.top >= pane.scrollTop && row.top + row.height <= pane.scrollTop + pane.clientHeight;
+    const is_in_width = row.left >= pane.scrollLeft && row.left + words <= pane.scrollLeft + pane.clientWidth;
+    if (!is_in_height) pane.scrollTop = row.top - pane.clientHeight / 2;
+    if (!is_in_width) pane.scrollLeft = row.left - 80;
 }
 
 function clear() {
@@ -201,7 +203,8 @@ const COMMANDS = {
     campaign(text) {
         const [component, matrix = ''] = parts_of(text), is_by_thread = $('by-thread').checked;
         const setup = matrix.match(/^[ \t]*setup\b.*$/m)?.[0] ?? '', calls = [...new Set(calls_of(matrix).flat())];
-        return ['campaign --certify' + options(['calls']) + (is_by_thread ? ' --by-thread' : options(['threads'])) + options(['bound', 'serial']),
+        const threads = is_by_thread ? ' --by-thread' : options(['threads']);
+        return ['campaign --certify' + options(['calls']) + threads + options(['bound', 'serial']),
             bundle_of([component, is_by_thread ? matrix : `${setup}\nthread ${calls.join(';')}\n`])];
     },
 };
@@ -239,7 +242,8 @@ async function run_command(name, text) {
         return;
     }
     if (parts_of(text).length === 1) {
-        verdict('part', 'There is no matrix yet', 'Add a line `---`, and below it a line `thread` with calls for each thread, as in `thread inc;get`.', 'lint');
+        verdict('part', 'There is no matrix yet',
+            'Add a line `---`, and below it a line `thread` with calls for each thread, as in `thread inc;get`.', 'lint');
         return;
     }
     const [words, bundle] = COMMANDS[name](text);
@@ -389,7 +393,9 @@ document.addEventListener('keydown', event => {
         const code = await unpacked($('packed').textContent.trim(), 'gzip');
         module = await WebAssembly.compile(code);
         const size = (code.byteLength / 1e6).toFixed(1);
-        $('about').textContent = `${facts.version}; ${size} MB of WebAssembly, ready after ${time(performance.now() - begun)}. Editor: CodeMirror ${CodeMirror.version}`;
+        const took = time(performance.now() - begun);
+        $('about').textContent = `${facts.version}; ${size} MB of WebAssembly, ready after ${took}. `
+            + `Editor: CodeMirror ${CodeMirror.version}`;
     } catch (fault) {
         $('old').textContent = `This browser is too old for lineup. ${$('needs').textContent} (${fault})`;
         return;

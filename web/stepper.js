@@ -200,8 +200,9 @@ function show_threads(seen, before) {
         if (locals.length) show_values(element('div', 'values', undefined, card), locals, old);
         const buttons = element('div', 'picks', undefined, card);
         for (const {move, words} of seen.next.filter(it => it.thread === thread)) {
-            const what = walk.moves[walk.at] === move ? 'next' : 'instead';
-            const button = element('button', '', `${walk.at < walk.moves.length ? what : 'move'}: T${move} ${without_remark(words)}`, buttons);
+            const what = walk.at === walk.moves.length ? 'move' : walk.moves[walk.at] === move ? 'next' : 'instead';
+            const pick = picks > 1 ? `, pick ${move.split(':')[1] ?? 0}` : '';
+            const button = element('button', '', `${what}: T${thread}${pick} ${without_remark(words)}`, buttons);
             button.onclick = () => play(move);
         }
     }

@@ -9,8 +9,8 @@ import { IDLE, try_old, try_page } from './page.mjs';
 
 const [page, program, root, folder] = process.argv.slice(2);
 const LIMIT = 3000;    // milliseconds for the program; what takes longer is left out, and counted
-const COMMANDS = ['lint', 'serial', 'check', 'check --bound 60', 'check --bound 12 --serial 9', 'check --spec', 'check --source', 'certify --bound 30', 'certify --bound 30 --source',
-    'explain', 'explain --spec', 'draw', 'draw --explain', 'trace', 'trace --setup', 'replay', 'shrink', 'spec', 'refute', 'witness',
+const COMMANDS = ['lint', 'serial', 'check', 'check --bound 60', 'check --bound 12 --serial 9', 'check --spec', 'check --source',
+    'certify --bound 30', 'certify --bound 30 --source', 'explain', 'explain --spec', 'draw', 'draw --explain', 'trace', 'trace --setup', 'replay', 'shrink', 'spec', 'refute', 'witness',
     'conform', 'campaign --count', 'compile', 'commands', 'help', 'judge', '', 'nonsense'];
 const faults = [];
 const tell = fault => { faults.push(fault); console.log(fault); };

@@ -227,11 +227,13 @@ async function step_through({ evaluate, until, press }, name, tell) {
     const moves = await evaluate(`walk.moves.length`);
     for (let at = 0; at <= moves; at++) {
         if (at > 0) await press('ArrowRight');
-        if (!await until(`$('at').textContent === '${at} of ${moves} moves' && $('moves').querySelector('[aria-current]')?.parentElement === $('moves').children[${at}]`, 4000)) {
+        const current = `$('moves').querySelector('[aria-current]')?.parentElement === $('moves').children[${at}]`;
+        if (!await until(`$('at').textContent === '${at} of ${moves} moves' && ${current}`, 4000)) {
             tell(`${name}: move ${at} is not shown, but ${await evaluate(`$('at').textContent`)}`);
             return;
         }
-        const { status, numbers } = await evaluate(`ask_state(walk.component, walk.matrix, 'schedule ' + walk.fault.join(' ') + '\\n', ${at})`);
+        const schedule = `'schedule ' + walk.fault.join(' ') + '\\n'`;
+        const { status, numbers } = await evaluate(`ask_state(walk.component, walk.matrix, ${schedule}, ${at})`);
         const [, , , threads, cells, locks] = numbers, first = 6 + 12 * threads;
         const values = numbers.slice(first, first + cells + locks);
         const shown_values = await evaluate(`[...document.querySelectorAll('#shared code')].map(it => it.textContent.split(' = ')[1])`);
@@ -240,12 +242,14 @@ async function step_through({ evaluate, until, press }, name, tell) {
         for (let event = 0; event < events.length; event += 4) {
             history.push(`T${events[event + 1]} ${events[event] === 0 ? 'calls' : `returns ${events[event + 3]}`}`);
         }
-        const shown_history = await evaluate(`[...$('history').children].filter(it => !it.matches('.dim')).map(it => it.textContent.replace(/calls .*/, 'calls'))`);
+        const shown_history = await evaluate(`[...$('history').children].filter(it => !it.matches('.dim'))
+            .map(it => it.textContent.replace(/calls .*/, 'calls'))`);
         const can_move = await evaluate(`[...$('cards').children].map(it => it.querySelectorAll('.picks button').length)`);
         const picks = Array.from({ length: threads }, (_, thread) => numbers[6 + 12 * thread]);
         const pairs = { status: [0, status], cells: [wanted, shown_values], history: [history, shown_history], moves: [picks, can_move] };
         if (name.startsWith('examples/')) {
-            const registers = await evaluate(`[...$('cards').children].map(it => [...it.querySelectorAll('.values code')].map(it => it.textContent))`);
+            const registers = await evaluate(`[...$('cards').children].map(card =>
+                [...card.querySelectorAll('.values code')].map(it => it.textContent))`);
             pairs.registers = [registers.map((those, thread) => those.map(it => {
                 const register = Number(it[1]);
                 return `r${register} = ${numbers[6 + 12 * thread + 4 + register]}`;
