@@ -5,7 +5,7 @@
 import { spawnSync } from 'node:child_process';
 import { existsSync, readdirSync, readFileSync } from 'node:fs';
 import { open } from './browser.mjs';
-import { IDLE, try_old, try_page } from './page.mjs';
+import { IDLE, states, try_old, try_page } from './page.mjs';
 
 const [page, program, root, folder] = process.argv.slice(2);
 const LIMIT = 3000;    // milliseconds for the program; what takes longer is left out, and counted
@@ -44,9 +44,22 @@ async function compare(shown) {
     return `${compared} answers compared, ${faults.length} differ, ${left} left out (the program takes over ${LIMIT / 1000} s)`;
 }
 
+// Compares the states that were stepped to with those that the library built for this machine reports, if it is there.
+function compare_states() {
+    const library = `${root}/crates/lineup_c/out/liblineup.so`;
+    if (!existsSync(library)) return `states are not compared, without ${library}`;
+    const input = states.map(({ question }) => JSON.stringify(question) + '\n').join('');
+    const ran = spawnSync('python3', [`${root}/web/tests/states.py`, library], { input, maxBuffer: 1 << 28 });
+    const answers = ran.stdout.toString().trim().split('\n').map(line => JSON.parse(line));
+    const differing = states.filter(({ told }, at) => JSON.stringify(told) !== JSON.stringify(answers[at]));
+    for (const { question } of differing) tell(`lineup_state differs: ${question[2].trim()}, ${question[3]} moves`);
+    return `${states.length} states compared, ${differing.length} differ`;
+}
+
 const shown = await open(`${page}#examples/locked-counter`);
 if (await shown.until(IDLE)) {
     await try_page(shown, page, root, folder, tell);
+    console.log(compare_states());
     if (program !== 'none') console.log(await compare(shown));
 } else {
     tell(`the page does not start: ${await shown.evaluate(`document.getElementById('text').textContent`)}`);

@@ -13,6 +13,9 @@ export async function try_old(shown, tell) {
     if (!await shown.evaluate(`document.getElementById('verdict').hidden`)) tell('a browser that is too old is shown a verdict');
 }
 
+// What the module reports of each state that was stepped to.
+export const states = [];
+
 export async function try_page(shown, page, root, folder, tell) {
     const { evaluate, until, press, type } = shown;
     const idle = async () => {
@@ -232,8 +235,11 @@ async function step_through({ evaluate, until, press }, name, tell) {
             tell(`${name}: move ${at} is not shown, but ${await evaluate(`$('at').textContent`)}`);
             return;
         }
-        const schedule = `'schedule ' + walk.fault.join(' ') + '\\n'`;
-        const { status, numbers } = await evaluate(`ask_state(walk.component, walk.matrix, ${schedule}, ${at})`);
+        const [question, { status, numbers }] = await evaluate(`(async () => {
+            const question = [walk.component, walk.matrix, 'schedule ' + walk.fault.join(' ') + '\\n', ${at}];
+            return [question, await ask_state(...question)];
+        })()`);
+        states.push({ question, told: [status, numbers] });
         const [, , , threads, cells, locks] = numbers, first = 6 + 12 * threads;
         const values = numbers.slice(first, first + cells + locks);
         const shown_values = await evaluate(`[...document.querySelectorAll('#shared code')].map(it => it.textContent.split(' = ')[1])`);
