@@ -19,7 +19,8 @@ async function socket_of(port) {
     throw new Error('the browser does not answer');
 }
 
-export async function open(url) {
+// Opens a page, after the script `before`, if there is one, has run in it.
+export async function open(url, before) {
     const port = 9300 + Math.floor(Math.random() * 500), profile = mkdtempSync(join(tmpdir(), 'lineup-page-'));
     const browser = spawn('chromium', ['--headless=new', '--no-sandbox', '--disable-gpu', '--hide-scrollbars',
         `--remote-debugging-port=${port}`, `--user-data-dir=${profile}`, 'about:blank'], { stdio: 'ignore' });
@@ -42,6 +43,7 @@ export async function open(url) {
         socket.send(JSON.stringify({ id: number, method, params }));
     });
     for (const domain of ['Runtime', 'Page', 'Log']) await send(`${domain}.enable`);
+    if (before) await send('Page.addScriptToEvaluateOnNewDocument', { source: before });
     await send('Page.navigate', { url });
 
     // What an expression of the page is, once it is known.
@@ -66,11 +68,20 @@ export async function open(url) {
         const { result } = await send('Page.captureScreenshot', { captureBeyondViewport: false });
         writeFileSync(file, Buffer.from(result.data, 'base64'));
     };
+    // Types a text where the focus is, and presses a key.
+    const type = text => send('Input.insertText', { text });
+    const press = async (key, { control = false } = {}) => {
+        const text = control ? undefined : key === 'Enter' ? '\r' : key.length === 1 ? key : undefined;
+        const codes = { ArrowLeft: 37, ArrowRight: 39, Home: 36, End: 35, Tab: 9, Enter: 13 };
+        const given = { key, code: key, windowsVirtualKeyCode: codes[key] ?? key.charCodeAt(0), text, modifiers: control ? 2 : 0 };
+        await send('Input.dispatchKeyEvent', { type: text ? 'keyDown' : 'rawKeyDown', ...given });
+        await send('Input.dispatchKeyEvent', { type: 'keyUp', ...given });
+    };
     const close = async () => {
         socket.close();
         browser.kill();
         await wait(300);
         rmSync(profile, { recursive: true, force: true });
     };
-    return { evaluate, until, shot, faults, close };
+    return { evaluate, until, shot, type, press, faults, close };
 }
