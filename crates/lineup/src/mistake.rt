@@ -205,7 +205,7 @@ fn option_fault(
 }
 
 /// Which parts the command of these words takes, where this answer refuses others. None for any other
-/// answer, and with `--spec`, where one more part is wanted.
+/// answer, and with `--spec`, which takes one more part.
 ///
 /// # Errors
 ///
