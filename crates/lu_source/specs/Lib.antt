@@ -4,6 +4,7 @@ pub mod Left
 pub mod Meaning
 pub mod Runs
 pub mod Shapes
+pub mod Updates
 pub mod Expressions
 pub mod Evaluations
 pub mod Sound

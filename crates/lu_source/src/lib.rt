@@ -8,6 +8,7 @@ mod laws;
 mod origin;
 mod shape;
 mod tree;
+mod updating;
 
 pub use compiling::{compile, compile_operation};
 pub use emit::{comes_out, flatten};
@@ -16,3 +17,4 @@ pub use laws::compiler_laws;
 pub use origin::{Origin, Origins};
 pub use shape::{breaks, continues, falls, instr_of, size};
 pub use tree::{Action, Operation, Stmt};
+pub use updating::{Answer, Update};

@@ -9,10 +9,14 @@ use Rattle.lu_text.specs.Numbers.{value_in}
 use Rattle.lu_text.specs.Words.{Word}
 use Rattle.lu_text.proofs.NumberText.{value_small}
 use Rattle.lu_source.specs.Expressions.{Expr}
-use Rattle.lu_source.specs.Expressions.Expr.{Number, Local, Swap}
+use Rattle.lu_source.specs.Expressions.Expr.{Number, Local}
+use Rattle.lu_source.specs.declared.updating.Answer.{Answer}
+use Rattle.lu_source.specs.declared.updating.Update.{Update}
+use Rattle.lu_source_text.specs.declared.updates.CellCall.{CellCall}
+use Rattle.lu_source_text.specs.declared.updates.CellCall.TheVariants as called
 use Rattle.lu_source_text.specs.declared.infix.Infix.{Infix}
 use Rattle.lu_source_text.specs.declared.infix.Infix.TheVariants.{Or as Or', And as And', Joins}
-use Rattle.lu_source_text.specs.Grammar.{Inner, Kind, Read', Scope, all_read, after_word, binding, cas_with, cell_with, closed_with, constant_from, either, expr_from, first_number, infix_from, infix_in, inner_by, is_free_name, is_word, joined, local_in, most_after, name_with, named_expr, number_of, on_first, on_ok, or_fault, pick_from, shared_from, steps_for, unary_with, unless, where_some}
+use Rattle.lu_source_text.specs.Grammar.{Inner, Kind, Read', Scope, all_read, after_word, binding, call_in, call_with, cell_with, closed_with, constant_from, either, expr_from, fetch_with, first_number, infix_from, infix_in, inner_by, is_free_name, is_word, joined, local_in, most_after, name_with, named_expr, number_of, on_first, on_ok, operands_with, or_fault, pick_from, plain_with, shared_from, steps_for, swap_with, unary_with, unless, where_some}
 use Rattle.lu_source_text.specs.Constants.{Constant}
 use Rattle.lu_source_text.specs.declared.draft.Shared.{Shared}
 use Rattle.lu_source_text.specs.declared.fault.SourceFaultKind.TheVariants.{Form, Number as Number', Limit, Name}
@@ -160,19 +164,28 @@ module _ (s : Scope) (values : AreValues s.constants) where
         some_holds (IsExpr (length s.words)) Fine (named_expr s w) _ (λ e. Ok (e, ws)) (named_fine w)
         (then_holds FineCell Fine (cell_with w inner ws) _ (cell_fine w ws) (λ r h. h)) (λ e h. h)
 
-    pub swap_fine : (ws : List Word) → Holds Fine (cas_with inner ws)
-    swap_fine ws = after_holds Fine (codes "(") ws _ (λ inside. of_first inside)
+    swap_fine : (answer : Answer) (cell : ℕ × Expr) (ws : List Word) → cell.0 < length s.words → IsExpr (length s.words) cell.1 → Holds Fine (swap_with answer cell inner ws)
+    swap_fine answer cell ws there index =
+        then_holds Fine Fine (closed_with (codes ",") inner ws) _ (closed_fine (codes ",") ws) (λ old k.
+        then_holds Fine Fine (closed_with (codes ")") inner old.1) _ (closed_fine (codes ")") old.1) (λ new l. (there, index, k, l)))
+
+    fetch_fine : (by : Update) (cell : ℕ × Expr) (ws : List Word) → cell.0 < length s.words → IsExpr (length s.words) cell.1 → Holds Fine (fetch_with by cell inner ws)
+    fetch_fine by cell ws there index =
+        then_holds Fine Fine (closed_with (codes ")") inner ws) _ (closed_fine (codes ")") ws) (λ e k. (there, index, k))
+
+    operands_fine : (by : CellCall) (cell : ℕ × Expr) (ws : List Word) → cell.0 < length s.words → IsExpr (length s.words) cell.1 → Holds Fine (operands_with by cell inner ws)
+    operands_fine (called.Swap answer) cell ws there index = swap_fine answer cell ws there index
+    operands_fine (called.Fetch by) cell ws there index = fetch_fine by cell ws there index
+
+    pub call_fine : (by : CellCall) (ws : List Word) → Holds Fine (call_with by inner ws)
+    call_fine by ws = after_holds Fine (codes "(") ws _ (λ inside. of_first inside)
       where
         of_first : (inside : List Word) → Holds Fine (on_first inside (λ w first.
-            on_ok (cell_with w inner first) (λ (cell, second). on_ok (after_word (codes ",") second) (λ third.
-            on_ok (closed_with (codes ",") inner third) (λ (old, fourth).
-            on_ok (closed_with (codes ")") inner fourth) (λ (new, more). Ok (Swap cell.0 cell.1 old new, more)))))))
+            on_ok (cell_with w inner first) (λ (cell, second). on_ok (after_word (codes ",") second) (operands_with by cell inner))))
         of_first [] = tt
         of_first (w ∷ first) =
             then_holds FineCell Fine (cell_with w inner first) _ (cell_fine w first) (λ cell h.
-            after_holds Fine (codes ",") cell.1 _ (λ third.
-            then_holds Fine Fine (closed_with (codes ",") inner third) _ (closed_fine (codes ",") third) (λ old k.
-            then_holds Fine Fine (closed_with (codes ")") inner old.1) _ (closed_fine (codes ")") old.1) (λ new l. (h.0, h.1, k, l)))))
+            after_holds Fine (codes ",") cell.1 _ (λ third. operands_fine by cell.0 third h.0 h.1))
 
     pick_fine : (ws : List Word) → Holds Fine (pick_from s.constants ws)
     pick_fine ws =
@@ -184,16 +197,24 @@ module _ (s : Scope) (values : AreValues s.constants) where
         let high = ltb-false 8 r.0 parts.1 in
         after_holds Fine (codes ")") r.1 _ (λ more. (low, high)))))
 
-    unary_fine : (w : Word) (ws : List Word) → Holds Fine (unary_with w inner ws)
-    unary_fine w ws =
+    -- an expression that calls nothing of a cell
+    plain_fine : (w : Word) (ws : List Word) → Holds Fine (plain_with w inner ws)
+    plain_fine w ws =
         if_holds Fine (is_word w (codes "!")) _ _ (then_holds Fine Fine (read 6 ws) _ (inner_fine 6 ws) (λ r h. h))
         (if_holds Fine (is_word w (codes "(")) _ _ (closed_fine (codes ")") ws)
-        (if_holds Fine (is_word w (codes "cas")) _ _ (swap_fine ws)
         (if_holds Fine (is_word w (codes "pick")) _ _ (pick_fine ws)
         (if_holds Fine (is_word w (codes "true")) (Ok (Number 1, ws)) _ (lit< tt)
         (if_holds Fine (is_word w (codes "false")) (Ok (Number 0, ws)) _ (lit< tt)
         (if_holds Fine (is_free_name w) _ _ (name_fine w ws)
-        (literal_fine w ws)))))))
+        (literal_fine w ws))))))
+
+    unary_fine : (w : Word) (ws : List Word) → Holds Fine (unary_with w inner ws)
+    unary_fine w ws =
+        some_holds (λ by. Unit {0}) Fine (call_in w ws) _ (λ by. call_with by inner ws) (any (call_in w ws)) (plain_fine w ws) (λ by t. call_fine by ws)
+      where
+        any : (o : Option CellCall) → MatchOption o (Unit {0}) (λ by. Unit {0})
+        any None = tt
+        any (Some by) = tt
 
   mutual
     pub expr_fine : (n least : ℕ) (ws : List Word) → Holds Fine (expr_from n s least ws)

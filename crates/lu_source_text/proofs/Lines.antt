@@ -15,14 +15,15 @@ use Rattle.lu_source.specs.declared.tree.Action.{Action}
 use Rattle.lu_source.specs.declared.tree.Action.TheVariants as action
 use Rattle.lu_source.specs.Code.{falls, instr_of}
 use Rattle.lu_source.specs.Expressions.{Coded, Expr, as_test, coded, needed, past, put}
-use Rattle.lu_source.specs.Expressions.Expr.{Number, Local, Read, Swap, Pick, Binary, Not, And, Or}
-use Rattle.lu_source_text.specs.Grammar.{Begun, Block, Drafted, Kind, Opening, added, added_to, assign, assigned_in, await_cell, await_tree, awaiting, after_word, both_of, cas_tree, cas_with, cell_in, closed_by, closing, code_for, compared, deeper, does_too, else_line, end_block, expr_before_brace, expr_from, first_value, expr_in, if_line, in_loop, inner_of, is_free_name, is_still, is_word, last_word, leave, let_line, local_in, lock_number, loop_line, name_of, new_name, nothing_left, on_first, on_ok, or_fault, other_by, other_side, owner_tree, position_from, return_tree, scope_of, set_cell, set_local, simple, statement, steps_for, tested, where_some, while_line, with_blocks, is_keyword, is_taken}
+use Rattle.lu_source.specs.Expressions.Expr.{Number, Local, Read, Swap, Fetch, Pick, Binary, Not, And, Or}
+use Rattle.lu_source_text.specs.Grammar.{Begun, Block, Drafted, Kind, Opening, added, added_to, assign, assigned_in, await_cell, await_tree, awaiting, after_word, both_of, call_in, call_tree, call_with, cell_in, closed_by, closing, code_for, compared, deeper, does_too, else_line, end_block, expr_before_brace, expr_from, first_value, expr_in, if_line, in_loop, inner_of, is_free_name, is_still, is_word, last_word, leave, let_line, local_in, lock_number, loop_line, name_of, new_name, nothing_left, on_first, on_ok, or_fault, other_by, other_side, owner_tree, plain, position_from, return_tree, scope_of, set_cell, set_local, simple, statement, steps_for, tested, where_some, while_line, with_blocks, is_keyword, is_taken}
 use Rattle.lu_source_text.specs.declared.fault.SourceFaultKind.TheVariants.{Form, Limit, Registers, Flow, Name}
 use Rattle.lu_source_text.specs.Grammar.Opening.{Whole, Test, Other, Turns}
 use Rattle.lu_source.specs.Sound.{IsExpr, IsTree}
 use Rattle.lu_source.specs.Trees.{Tree}
 use Rattle.lu_source.specs.Trees.Tree.{Nothing, Plain, Then, Break, BreakUnless, Continue}
-use Rattle.lu_source_text.proofs.Kept.{AreValues, Holds, any_holds, if_holds, or_holds, then_holds, unless_holds, whole_fine, cell_fine, expr_fine, swap_fine}
+use Rattle.lu_source_text.proofs.Kept.{AreValues, Holds, any_holds, if_holds, or_holds, then_holds, some_holds, unless_holds, whole_fine, call_fine, cell_fine, expr_fine}
+use Rattle.lu_source_text.specs.declared.updates.CellCall.{CellCall}
 use Rattle.lu_source.proofs.Registers.{coded_sound, put_sound}
 
 -- ---- an open operation
@@ -210,7 +211,8 @@ module _ (d : Drafted) (values : AreValues d.constants) where
   test_fine (Number n) h = h
   test_fine (Local r) h = h
   test_fine (Read w i) h = h
-  test_fine (Swap w i x y) h = h
+  test_fine (Swap answer w i x y) h = h
+  test_fine (Fetch by w i x) h = h
   test_fine (Pick n) h = h
   test_fine (Binary Plus x y) h = h
   test_fine (Binary Minus x y) h = h
@@ -286,10 +288,10 @@ module _ (d : Drafted) (values : AreValues d.constants) where
       or_holds (λ l. l < 0 + length d.locks) Name (position_from 0 d.locks name) (lock_there name)))
       (λ l within. fine l (omega arith))
 
-  cas_line_fine : (b : Begun) (ws : List Word) → Holds Sound (cas_tree d b ws)
-  cas_line_fine b ws =
-      then_holds (λ (r : Expr × List Word). IsExpr (length d.words) r.0) Sound (cas_with (inner_of (scope_of d b) ws) ws) _
-      (swap_fine (scope_of d b) values (expr_from (steps_for ws) (scope_of d b)) (expr_fine (scope_of d b) values (steps_for ws)) ws) (λ r h.
+  call_line_fine : (by : CellCall) (b : Begun) (ws : List Word) → Holds Sound (call_tree by d b ws)
+  call_line_fine by b ws =
+      then_holds (λ (r : Expr × List Word). IsExpr (length d.words) r.0) Sound (call_with by (inner_of (scope_of d b) ws) ws) _
+      (call_fine (scope_of d b) values (expr_from (steps_for ws) (scope_of d b)) (expr_fine (scope_of d b) values (steps_for ws)) by ws) (λ r h.
       whatever Sound (nothing_left r.1) _ (λ u.
       code_fine Sound r.0 (length b.locals) (length b.locals) (λ x. Ok x.code) h (omega arith) (λ x is_x code at. code)))
 
@@ -345,17 +347,24 @@ module _ (d : Drafted) (values : AreValues d.constants) where
           let within : r < length b.locals = (let l = place_within 0 b.locals w r at in omega arith) in
           assigned_holds Sound b ws _ (λ e fine. local_fine Sound b r e (omega arith) (omega arith) fine (λ t sound. sound))
 
-  simple_fine : (b : Begun) (w : Word) (ws : List Word) → length b.locals ≤ 8 → Holds Sound (simple w d b ws)
-  simple_fine b w ws few =
+  plain_line_fine : (b : Begun) (w : Word) (ws : List Word) → length b.locals ≤ 8 → Holds Sound (plain w d b ws)
+  plain_line_fine b w ws few =
       if_holds Sound (is_word w (codes "break")) _ _ (leave_fine b Break ws tt)
       (if_holds Sound (is_word w (codes "continue")) _ _ (leave_fine b Continue ws tt)
       (if_holds Sound (is_word w (codes "return")) _ _ (return_fine b ws)
       (if_holds Sound (is_word w (codes "lock")) _ _ (owner_fine action.Lock ws (λ l h. h))
       (if_holds Sound (is_word w (codes "unlock")) _ _ (owner_fine action.Unlock ws (λ l h. h))
       (if_holds Sound (is_word w (codes "await")) _ _ (await_fine b ws)
-      (if_holds Sound (is_word w (codes "cas")) _ _ (cas_line_fine b ws)
       (if_holds Sound (not (is_free_name w)) (Err Form) _ tt
-      (assign_fine b w ws few))))))))
+      (assign_fine b w ws few)))))))
+
+  simple_fine : (b : Begun) (w : Word) (ws : List Word) → length b.locals ≤ 8 → Holds Sound (simple w d b ws)
+  simple_fine b w ws few =
+      some_holds (λ by. Unit {0}) Sound (call_in w ws) _ (λ by. call_tree by d b ws) (any (call_in w ws)) (plain_line_fine b w ws few) (λ by t. call_line_fine by b ws)
+    where
+      any : (o : Option CellCall) → MatchOption o (Unit {0}) (λ by. Unit {0})
+      any None = tt
+      any (Some by) = tt
 
   loop_fine : (b : Begun) (ws : List Word) → IsGoing (length d.words) (length d.locks) b → Holds (Fits b) (loop_line b ws)
   loop_fine b ws is =

@@ -14,13 +14,19 @@ pub use Rattle.lu_source_text.specs.Constants.{Constant, constant_from}
 use Rattle.lu_source_text.specs.declared.draft.Shared.{Shared}
 pub use Rattle.lu_source_text.specs.declared.fault.SourceFaultKind.{SourceFaultKind as Kind}
 use Rattle.lu_source_text.specs.declared.fault.SourceFaultKind.TheVariants.{Byte, Missing, Form, Number as Number', Limit, Registers, Flow, Name}
+use Rattle.lu_source_text.specs.declared.updates.CellCall.{CellCall}
+use Rattle.lu_source_text.specs.declared.updates.CellCall.TheVariants as called
 use Rattle.lu_source_text.specs.declared.infix.Infix.{Infix}
 use Rattle.lu_source_text.specs.declared.infix.Infix.TheVariants.{Or as Or', And as And', Joins}
 use Rattle.lu_source.specs.declared.tree.Action.{Action}
 use Rattle.lu_source.specs.declared.tree.Action.TheVariants as action
 use Rattle.lu_source.specs.Code.{falls, operation_code}
 use Rattle.lu_source.specs.Expressions.{Coded, Expr, as_test, coded, needed, past, put_at}
-use Rattle.lu_source.specs.Expressions.Expr.{Number, Local, Read, Swap, Pick, Binary, Not, And, Or}
+use Rattle.lu_source.specs.Expressions.Expr.{Number, Local, Read, Swap, Fetch, Pick, Binary, Not, And, Or}
+use Rattle.lu_source.specs.declared.updating.Answer.{Answer}
+use Rattle.lu_source.specs.declared.updating.Answer.TheVariants.{Success, Before}
+use Rattle.lu_source.specs.declared.updating.Update.{Update}
+use Rattle.lu_source.specs.declared.updating.Update.TheVariants as update
 use Rattle.lu_source.specs.declared.expr.Operator.TheVariants.{Plus, Minus, Times, Equals, Differs, Below, Above, AtMost, AtLeast}
 use Rattle.lu_source.specs.Trees.{Operation, Program, Tree}
 use Rattle.lu_source.specs.Trees.Tree.{Nothing, Plain, Then, If, IfElse, Loop, Break, BreakUnless, Continue}
@@ -285,15 +291,51 @@ name_with w inner ws =
     (on_ok (cell_with w inner ws) (λ (cell, rest). Ok (Read cell.0 cell.1, rest)))
     (λ e. Ok (e, ws))
 
--- `(CELL, OLD, NEW)` after `cas`
-abbrev pub cas_with : Inner → List Word → Read' Expr
-cas_with inner ws =
+-- the update that a word is the name of
+abbrev pub update_in : Word → Option CellCall
+update_in w =
+    if is_word w (codes "fetch_add") then Some (called.Fetch update.Add)
+    else (if is_word w (codes "fetch_sub") then Some (called.Fetch update.Sub)
+    else (if is_word w (codes "fetch_max") then Some (called.Fetch update.Max)
+    else (if is_word w (codes "fetch_min") then Some (called.Fetch update.Min)
+    else (if is_word w (codes "swap") then Some (called.Fetch update.Swap)
+    else (if is_word w (codes "compare_exchange") then Some (called.Swap Before)
+    else None)))))
+
+-- whether `(` is the first word
+abbrev pub opens : List Word → Bool
+opens [] = false
+opens (w ∷ ws) = is_word w (codes "(")
+
+-- what a word calls that these words follow: it is `cas`, or the name of an update before `(`
+abbrev pub call_in : Word → List Word → Option CellCall
+call_in w ws =
+    if is_word w (codes "cas") then Some (called.Swap Success)
+    else (if opens ws then update_in w else None)
+
+-- `OLD, NEW)` after the cell of a compare-and-swap
+abbrev pub swap_with : Answer → ℕ × Expr → Inner → List Word → Read' Expr
+swap_with answer cell inner ws =
+    on_ok (closed_with (codes ",") inner ws) (λ (old, rest).
+    on_ok (closed_with (codes ")") inner rest) (λ (new, more).
+    Ok (Swap answer cell.0 cell.1 old new, more)))
+
+-- `EXPR)` after the cell of an update
+abbrev pub fetch_with : Update → ℕ × Expr → Inner → List Word → Read' Expr
+fetch_with by cell inner ws =
+    on_ok (closed_with (codes ")") inner ws) (λ (e, more). Ok (Fetch by cell.0 cell.1 e, more))
+
+-- what follows the cell of a call
+abbrev pub operands_with : CellCall → ℕ × Expr → Inner → List Word → Read' Expr
+operands_with (called.Swap answer) cell inner ws = swap_with answer cell inner ws
+operands_with (called.Fetch by) cell inner ws = fetch_with by cell inner ws
+
+-- `(CELL, OLD, NEW)` or `(CELL, EXPR)` after the word that calls it
+abbrev pub call_with : CellCall → Inner → List Word → Read' Expr
+call_with by inner ws =
     on_ok (after_word (codes "(") ws) (λ inside. on_first inside (λ w first.
     on_ok (cell_with w inner first) (λ (cell, second).
-    on_ok (after_word (codes ",") second) (λ third.
-    on_ok (closed_with (codes ",") inner third) (λ (old, fourth).
-    on_ok (closed_with (codes ")") inner fourth) (λ (new, more).
-    Ok (Swap cell.0 cell.1 old new, more)))))))
+    on_ok (after_word (codes ",") second) (operands_with by cell inner))))
 
 -- `(K)` after `pick`
 abbrev pub pick_from : List Constant → List Word → Read' Expr
@@ -303,17 +345,22 @@ pick_from constants ws =
     unless (nat_lt k 1 || nat_lt 8 k) Limit
     (on_ok (after_word (codes ")") rest) (λ more. Ok (Pick k, more)))))
 
--- an expression without operators between two values in it, but for those in parentheses
-abbrev pub unary_with : Word → Inner → List Word → Read' Expr
-unary_with w inner ws =
+-- an expression without operators between two values in it, but for those in parentheses, where it
+-- calls nothing of a cell
+abbrev pub plain_with : Word → Inner → List Word → Read' Expr
+plain_with w inner ws =
     if is_word w (codes "!") then on_ok (inner.read 6 ws) (λ (e, rest). Ok (Not e, rest))
     else (if is_word w (codes "(") then closed_with (codes ")") inner ws
-    else (if is_word w (codes "cas") then cas_with inner ws
     else (if is_word w (codes "pick") then pick_from inner.scope.constants ws
     else (if is_word w (codes "true") then Ok (Number 1, ws)
     else (if is_word w (codes "false") then Ok (Number 0, ws)
     else (if is_free_name w then name_with w inner ws
-    else on_ok (or_fault Number' (value_in w)) (λ k. Ok (Number k, ws))))))))
+    else on_ok (or_fault Number' (value_in w)) (λ k. Ok (Number k, ws)))))))
+
+-- the same, or a call
+abbrev pub unary_with : Word → Inner → List Word → Read' Expr
+unary_with w inner ws =
+    where_some (call_in w ws) (plain_with w inner ws) (λ by. call_with by inner ws)
 
 -- Expressions, by this many steps at most: more than there are words is enough.
 abbrev mutual
@@ -634,10 +681,10 @@ lock_number d ws =
 abbrev pub owner_tree : Drafted → (ℕ → Action) → List Word → Result Tree Kind
 owner_tree d act ws = on_ok (lock_number d ws) (λ l. Ok (Plain (act l)))
 
--- `cas(CELL, OLD, NEW)`, whose answer nobody asks for
-abbrev pub cas_tree : Drafted → Begun → List Word → Result Tree Kind
-cas_tree d b ws =
-    on_ok (cas_with (inner_of (scope_of d b) ws) ws) (λ (e, rest).
+-- `(CELL, OLD, NEW)` or `(CELL, EXPR)` after the word that calls it, whose value nobody asks for
+abbrev pub call_tree : CellCall → Drafted → Begun → List Word → Result Tree Kind
+call_tree by d b ws =
+    on_ok (call_with by (inner_of (scope_of d b) ws) ws) (λ (e, rest).
     on_ok (nothing_left rest) (λ _. on_ok (value_of b e) (λ x. Ok x.code)))
 
 -- `NAME = EXPR` and `NAME[EXPR] = EXPR`
@@ -762,18 +809,21 @@ close_line d b ws = close_blocks b.blocks d b ws
 
 -- ---- lines
 
--- a statement that opens no block and declares no local
-abbrev pub simple : Word → Drafted → Begun → List Word → Result Tree Kind
-simple w d b ws =
+-- a statement that opens no block, declares no local, and calls nothing of a cell
+abbrev pub plain : Word → Drafted → Begun → List Word → Result Tree Kind
+plain w d b ws =
     if is_word w (codes "break") then leave b Break ws
     else (if is_word w (codes "continue") then leave b Continue ws
     else (if is_word w (codes "return") then return_tree d b ws
     else (if is_word w (codes "lock") then owner_tree d action.Lock ws
     else (if is_word w (codes "unlock") then owner_tree d action.Unlock ws
     else (if is_word w (codes "await") then await_tree d b ws
-    else (if is_word w (codes "cas") then cas_tree d b ws
     else (if not (is_free_name w) then Err Form
-    else assign w d b ws)))))))
+    else assign w d b ws))))))
+
+-- the same, or a call
+abbrev pub simple : Word → Drafted → Begun → List Word → Result Tree Kind
+simple w d b ws = where_some (call_in w ws) (plain w d b ws) (λ by. call_tree by d b ws)
 
 -- a line of an operation that closes no block
 abbrev pub statement : Word → Drafted → Begun → List Word → Result Begun Kind

@@ -4,5 +4,6 @@ pub mod Grammar
 pub mod Begins
 pub mod Drafts
 pub mod Reads
+pub mod Cells
 pub mod Readers
 pub mod Origins

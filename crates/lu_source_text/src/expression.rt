@@ -5,6 +5,7 @@ ghost use Rattle.std.specs.Option.{option_map};
 ghost use Rattle.lu_text.specs.Lines.{texts};
 ghost use Rattle.lu_source.specs.declared.expr.TheConstants.{REGISTERS};
 ghost use Rattle.lu_source.specs.Evaluations.{expr_of};
+ghost use Rattle.lu_source_text.specs.Cells.{after_cell};
 ghost use Rattle.lu_source_text.specs.Grammar as spec;
 ghost use Rattle.lu_source_text.specs.Reads.{ReadsCell, ReadsExpr, ReadsAlone, ReadsNumber, ReadsWord, ReadsWords, by_steps, infix_after, meanings};
 
@@ -13,7 +14,8 @@ use crate::fault::{Refusal, SourceFaultKind};
 use crate::infix::{Infix, binding, infix_in, most_after};
 use crate::names::{is_free_name, position_from, shared_from};
 use crate::scope::{Cell, Scope};
-use lu_source::Expr;
+use crate::updates::{CellCall, call_in};
+use lu_source::{Answer, Expr, Update};
 use lu_text::{Name, value_in};
 use std::alloc::{AllocError, Global};
 
@@ -169,46 +171,84 @@ fn name_with<'a>(
     Ok((Expr::Read(cell.array, index), rest))
 }
 
-/// `(CELL, OLD, NEW)` after `cas`.
+/// `OLD, NEW)` after the cell of a compare-and-swap.
 #[cycle(expression)]
-pub(crate) fn cas_with<'a>(
+fn swap_with<'a>(
     alloc: Global,
     steps: usize,
     scope: Scope<'_>,
+    answer: Answer,
+    cell: Cell,
     words: &'a [&'a [u8]],
 ) -> Result<Parsed<'a>, Refusal>
-    ensures { ReadsExpr result (by_steps spec.cas_with steps scope.entry words.now) }
+    ensures { ReadsExpr result
+        (after_cell (spec.swap_with answer) cell steps scope.entry words.now) }
+{
+    let (old, rest) = closed_with(alloc, steps, scope, b",".as_slice(), words)?;
+    let (new, rest) = closed_with(alloc, steps, scope, b")".as_slice(), rest)?;
+    let index = Box::new(alloc, cell.index)?;
+    let old = Box::new(alloc, old)?;
+    let new = Box::new(alloc, new)?;
+    Ok((Expr::Swap(answer, cell.array, index, old, new), rest))
+}
+
+/// `EXPR)` after the cell of an update.
+#[cycle(expression)]
+fn fetch_with<'a>(
+    alloc: Global,
+    steps: usize,
+    scope: Scope<'_>,
+    by: Update,
+    cell: Cell,
+    words: &'a [&'a [u8]],
+) -> Result<Parsed<'a>, Refusal>
+    ensures { ReadsExpr result
+        (after_cell (spec.fetch_with by) cell steps scope.entry words.now) }
+{
+    let (operand, rest) = closed_with(alloc, steps, scope, b")".as_slice(), words)?;
+    let index = Box::new(alloc, cell.index)?;
+    let operand = Box::new(alloc, operand)?;
+    Ok((Expr::Fetch(by, cell.array, index, operand), rest))
+}
+
+/// `(CELL, OLD, NEW)` or `(CELL, EXPR)` after the word that calls it.
+#[cycle(expression)]
+pub(crate) fn call_with<'a>(
+    alloc: Global,
+    steps: usize,
+    scope: Scope<'_>,
+    called: CellCall,
+    words: &'a [&'a [u8]],
+) -> Result<Parsed<'a>, Refusal>
+    ensures { ReadsExpr result (by_steps (spec.call_with called) steps scope.entry words.now) }
 {
     let inside = after_word(b"(".as_slice(), words)?;
     let (word, rest) = first_word(inside)?;
     let (cell, rest) = cell_with(alloc, steps, scope, word, rest)?;
     let rest = after_word(b",".as_slice(), rest)?;
-    let (old, rest) = closed_with(alloc, steps, scope, b",".as_slice(), rest)?;
-    let (new, rest) = closed_with(alloc, steps, scope, b")".as_slice(), rest)?;
-    let index = Box::new(alloc, cell.index)?;
-    let old = Box::new(alloc, old)?;
-    let new = Box::new(alloc, new)?;
-    Ok((Expr::Swap(cell.array, index, old, new), rest))
+    match called {
+        CellCall::Swap(answer) => swap_with(alloc, steps, scope, answer, cell, rest),
+        CellCall::Fetch(by) => fetch_with(alloc, steps, scope, by, cell, rest),
+    }
 }
 
-/// An expression without operators between two values in it, but for those in parentheses.
+/// An expression without operators between two values in it, but for those in parentheses, where it
+/// calls nothing of a cell.
 #[cycle(expression)]
-fn unary_with<'a>(
+fn plain_with<'a>(
     alloc: Global,
     steps: usize,
     scope: Scope<'_>,
     word: &[u8],
     words: &'a [&'a [u8]],
 ) -> Result<Parsed<'a>, Refusal>
-    ensures { ReadsExpr result (by_steps (spec.unary_with word.now) steps scope.entry words.now) }
+    ensures { ReadsExpr result (by_steps (spec.plain_with word.now) steps scope.entry words.now) }
 {
     if word == b"!".as_slice() {
         let (expr, rest) = expr_from(alloc, steps, scope, 6, words)?;
         Ok((Expr::Not(Box::new(alloc, expr)?), rest))
     } else if word == b"(".as_slice() {
         closed_with(alloc, steps, scope, b")".as_slice(), words)
-    } else if word == b"cas".as_slice() {
-        cas_with(alloc, steps, scope, words)
     } else if word == b"pick".as_slice() {
         pick_from(scope.constants, words)
     } else if word == b"true".as_slice() {
@@ -220,6 +260,23 @@ fn unary_with<'a>(
     } else {
         let value = value_in(word).ok_or(Refusal::Kind(SourceFaultKind::Number))?;
         Ok((Expr::Number(value), words))
+    }
+}
+
+/// The same, or a call.
+#[cycle(expression)]
+fn unary_with<'a>(
+    alloc: Global,
+    steps: usize,
+    scope: Scope<'_>,
+    word: &[u8],
+    words: &'a [&'a [u8]],
+) -> Result<Parsed<'a>, Refusal>
+    ensures { ReadsExpr result (by_steps (spec.unary_with word.now) steps scope.entry words.now) }
+{
+    match call_in(word, words) {
+        Some(called) => call_with(alloc, steps, scope, called, words),
+        None => plain_with(alloc, steps, scope, word, words),
     }
 }
 

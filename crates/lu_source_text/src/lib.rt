@@ -19,6 +19,7 @@ mod scope;
 mod simple;
 mod source;
 mod statement;
+mod updates;
 mod words;
 
 pub use begins::is_source;

@@ -12,11 +12,12 @@ ghost use Rattle.lu_source_text.specs.Reads.{Reads, ReadsBoth, ReadsCell, ReadsC
 
 use crate::draft::{Begun, Block, Draft, Opening};
 use crate::expression::{
-    after_word, cas_with, cell_with, expr_from, first_word, last_word, local_in, nothing_left,
+    after_word, call_with, cell_with, expr_from, first_word, last_word, local_in, nothing_left,
 };
 use crate::fault::{Refusal, SourceFaultKind};
 use crate::names::{is_free_name, position_from};
 use crate::scope::{Cell, Scope};
+use crate::updates::{CellCall, call_in};
 use lu_component::Operand;
 use lu_source::{Action, Evaluation, Expr, Stmt, coded, past, put, then};
 use lu_text::exactly_one;
@@ -165,7 +166,9 @@ fn is_still(expr: &Expr) -> bool
         Expr::Not(inner) => is_still(inner),
         Expr::And(left, right) => is_still(left) && is_still(right),
         Expr::Or(left, right) => is_still(left) && is_still(right),
-        Expr::Read(_, _) | Expr::Swap(_, _, _, _) | Expr::Pick(_) => false,
+        Expr::Read(_, _) | Expr::Swap(_, _, _, _, _) | Expr::Fetch(_, _, _, _) | Expr::Pick(_) => {
+            false
+        }
     }
 }
 
@@ -284,12 +287,18 @@ fn lock_number(draft: &Draft, words: &[&[u8]]) -> Result<u8, Refusal>
     Ok(lock.ok_or(Refusal::Kind(SourceFaultKind::Name))? as u8)
 }
 
-/// `cas(CELL, OLD, NEW)`, whose answer nobody asks for.
-fn cas_tree(alloc: Global, draft: &Draft, begun: &Begun, words: &[&[u8]]) -> Result<Stmt, Refusal>
-    ensures { ReadsTree result (in_begun spec.cas_tree draft.now begun.now words.now) }
+/// `(CELL, OLD, NEW)` or `(CELL, EXPR)` after the word that calls it, whose value nobody asks for.
+fn call_tree(
+    alloc: Global,
+    draft: &Draft,
+    begun: &Begun,
+    called: CellCall,
+    words: &[&[u8]],
+) -> Result<Stmt, Refusal>
+    ensures { ReadsTree result (in_begun (spec.call_tree called) draft.now begun.now words.now) }
 {
     let scope = scope_of(draft, begun);
-    let (expr, rest) = cas_with(alloc, words.len() + 2, scope, words)?;
+    let (expr, rest) = call_with(alloc, words.len() + 2, scope, called, words)?;
     nothing_left(rest)?;
     Ok(value_of(alloc, begun, &expr)?.code)
 }
@@ -314,15 +323,15 @@ fn assign(
     set_cell(alloc, begun, &cell, &expr)
 }
 
-/// A statement that opens no block and declares no local.
-pub(crate) fn simple(
+/// A statement that opens no block, declares no local, and calls nothing of a cell.
+fn plain(
     alloc: Global,
     draft: &Draft,
     begun: &Begun,
     word: &[u8],
     words: &[&[u8]],
 ) -> Result<Stmt, Refusal>
-    ensures { ReadsTree result (in_begun (spec.simple word.now) draft.now begun.now words.now) }
+    ensures { ReadsTree result (in_begun (spec.plain word.now) draft.now begun.now words.now) }
 {
     if word == b"break".as_slice() {
         leave(begun, Stmt::Break, words)
@@ -336,11 +345,25 @@ pub(crate) fn simple(
         Ok(Stmt::Plain(Action::Unlock(lock_number(draft, words)?)))
     } else if word == b"await".as_slice() {
         await_tree(alloc, draft, begun, words)
-    } else if word == b"cas".as_slice() {
-        cas_tree(alloc, draft, begun, words)
     } else if is_free_name(word) {
         assign(alloc, draft, begun, word, words)
     } else {
         Err(Refusal::Kind(SourceFaultKind::Form))
+    }
+}
+
+/// The same, or a call.
+pub(crate) fn simple(
+    alloc: Global,
+    draft: &Draft,
+    begun: &Begun,
+    word: &[u8],
+    words: &[&[u8]],
+) -> Result<Stmt, Refusal>
+    ensures { ReadsTree result (in_begun (spec.simple word.now) draft.now begun.now words.now) }
+{
+    match call_in(word, words) {
+        Some(called) => call_tree(alloc, draft, begun, called, words),
+        None => plain(alloc, draft, begun, word, words),
     }
 }

@@ -9,6 +9,7 @@ syntax match lineupNumber /\<\d\+\>/
 syntax keyword lineupDeclaration component object const word local op end let
 syntax keyword lineupMatrix thread setup
 syntax keyword lineupInstruction set add sub mul eq lt load store cas lock unlock await awaitne pick jump jz return
+syntax match lineupInstruction /\%(\<op\s\+\)\@<!\<\%(fetch_\%(add\|sub\|max\|min\)\|swap\|compare_exchange\)\>\ze\s*(/
 syntax keyword lineupControl if else while loop break continue
 syntax keyword lineupConstant true false
 syntax match lineupOperator /&&\|||\|[=!<>]=\|[-+*<>!=]/

@@ -16,8 +16,17 @@ decreases-cell_with l = 6 * l.steps + 2
 abbrev pub decreases-name_with : goal.decreases-name_with
 decreases-name_with l = 6 * l.steps + 3
 
-abbrev pub decreases-cas_with : goal.decreases-cas_with
-decreases-cas_with l = 6 * l.steps + 4
+abbrev pub decreases-swap_with : goal.decreases-swap_with
+decreases-swap_with l = 6 * l.steps + 2
+
+abbrev pub decreases-fetch_with : goal.decreases-fetch_with
+decreases-fetch_with l = 6 * l.steps + 2
+
+abbrev pub decreases-call_with : goal.decreases-call_with
+decreases-call_with l = 6 * l.steps + 4
+
+abbrev pub decreases-plain_with : goal.decreases-plain_with
+decreases-plain_with l = 6 * l.steps + 4
 
 abbrev pub decreases-unary_with : goal.decreases-unary_with
 decreases-unary_with l = 6 * l.steps + 5
