@@ -70,10 +70,20 @@ word_changes word = is_among changing word
 abbrev pub changes : Line → Bool
 changes words = list_any word_changes words
 
+-- what changes a shared word where a line begins with it
+abbrev pub calling : List Word
+calling =
+    codes "cas" ∷ codes "compare_exchange" ∷ codes "swap" ∷ codes "fetch_add" ∷ codes "fetch_sub"
+    ∷ codes "fetch_max" ∷ codes "fetch_min" ∷ []
+
+abbrev pub begins_call : Line → Bool
+begins_call [] = false
+begins_call (word ∷ words) = is_among calling word
+
 -- whether a line does what is sought
 abbrev pub does : List Word → Sought → Line → Bool
 does shared Acts words = acts shared words
-does shared Changes words = changes words
+does shared Changes words = changes words || begins_call words
 
 -- whether a line does what is sought, or is in more blocks than there may be
 abbrev pub stops : List Word → Sought → ℕ → Line → Bool
@@ -103,7 +113,7 @@ tests_shared shared words below =
     || (word_is words 0 (codes "loop") && first_names_shared shared below)
 
 -- Whether a line begins a loop that can only end when another thread changes a shared word: it tests
--- one, and none of its lines assigns, locks or waits.
+-- one, and none of its lines assigns, locks, waits, or begins with a call that changes a word.
 abbrev pub spins : List Word → Line → List Line → Bool
 spins shared words below =
     tests_shared shared words below && ends_without shared Changes 1 below

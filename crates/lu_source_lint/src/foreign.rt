@@ -3,7 +3,7 @@
 use crate::meaning::word_is;
 
 /// Words of other languages.
-const FOREIGN: [(&str, &str); 44] = [
+const FOREIGN: [(&str, &str); 40] = [
     (
         ";",
         "unexpected `;`; help: remove it, since a statement ends with its line",
@@ -88,24 +88,8 @@ const FOREIGN: [(&str, &str); 44] = [
         "there is no `struct`; help: declare each shared field as a `word`",
     ),
     (
-        "fetch_add",
-        "there is no `fetch_add`; help: try `cas(CELL, OLD, OLD + N)` in a loop",
-    ),
-    (
-        "fetch_sub",
-        "there is no `fetch_sub`; help: try `cas(CELL, OLD, OLD - N)` in a loop",
-    ),
-    (
-        "swap",
-        "there is no `swap`; help: try `cas(CELL, OLD, NEW)` in a loop",
-    ),
-    (
         "exchange",
-        "there is no `exchange`; help: try `cas(CELL, OLD, NEW)` in a loop",
-    ),
-    (
-        "compare_exchange",
-        "there is no `compare_exchange`; help: write `cas(CELL, OLD, NEW)`",
+        "there is no `exchange`; help: write `swap(CELL, EXPR)`",
     ),
     (
         "compare_and_swap",

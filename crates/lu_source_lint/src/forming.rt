@@ -1,5 +1,6 @@
 //! What is said of a line that has no form of a source, or a word that is no number in it.
 
+use crate::calls::{call_count_words, first_call, method_words};
 use crate::foreign::foreign_words;
 use crate::keyword::{is_keyword, near_keyword};
 use crate::meaning::{begins_matrix, word_is};
@@ -394,7 +395,7 @@ fn no_form_words(
     format!(in alloc; "expected a statement, such as `NAME = EXPR`, found `{said}`")
 }
 
-/// A call of `cas` or `pick` in a line that begins with another word.
+/// A `cas` without operands, or a `pick`, in a line that begins with another word.
 fn call_words(words: &[&[u8]]) -> Option<&'static str> {
     if words.contains(&b"cas".as_slice()) && !word_is(words, 0, b"cas") {
         Some("`cas(CELL, OLD, NEW)` in this expression")
@@ -405,14 +406,10 @@ fn call_words(words: &[&[u8]]) -> Option<&'static str> {
     }
 }
 
-/// A call of `cas` or `pick` with too few or too many operands.
+/// A call with too few or too many operands.
 fn count_words(alloc: Global, words: &[&[u8]]) -> Result<Option<String>, AllocError> {
-    if let Some(count) = operand_count(words, "cas") {
-        if count != 3 {
-            return Ok(Some(format!(in alloc;
-                "`cas` takes 3 operands, found {count}; help: write `cas(CELL, OLD, NEW)`"
-            )?));
-        }
+    if let Some(said) = call_count_words(alloc, words)? {
+        return Ok(Some(said));
     }
     if let Some(count) = operand_count(words, "pick") {
         if count != 1 {
@@ -434,7 +431,7 @@ fn form_in(words: &[&[u8]]) -> Option<&'static (&'static str, Place, &'static st
 /// How a line that begins with this word looks.
 fn form_of(words: &[&[u8]]) -> Option<&'static str> {
     let form = form_in(words).map(|(_, _, looks)| *looks);
-    call_words(words).or(form)
+    call_words(words).or(first_call(words)).or(form)
 }
 
 /// A line that is not allowed where it is.
@@ -563,6 +560,9 @@ pub(crate) fn form_words(
         );
     }
     if let Some(said) = called_lock_words(alloc, words)? {
+        return Ok(said);
+    }
+    if let Some(said) = method_words(alloc, words)? {
         return Ok(said);
     }
     if let Some(foreign) = foreign_words(words) {

@@ -1,6 +1,7 @@
 //! Every fault of a source, and what is odd in one without faults.
 #![tactic(auto)]
 
+mod calls;
 mod faults;
 mod foreign;
 mod forming;

@@ -1,5 +1,6 @@
 //! What is said of a name that is not declared, is declared twice, or is not used as what it is.
 
+use crate::calls::{called_cell, calls_at, method_words, unknown_call_words};
 use crate::foreign::{foreign_field, foreign_word};
 use crate::keyword::{is_keyword, near_keyword};
 use crate::meaning::word_is;
@@ -25,8 +26,8 @@ pub(crate) fn declares(words: &[&[u8]]) -> bool {
 
 /// The first name among these words that is not declared.
 fn unknown_among<'a>(scope: &Scope<'_>, words: &[&'a [u8]]) -> Option<&'a [u8]> {
-    for word in words {
-        if is_free_name(word) && scope.declared(word).is_none() {
+    for (index, word) in words.iter().enumerate() {
+        if is_free_name(word) && scope.declared(word).is_none() && !calls_at(words, index) {
             return Some(*word);
         }
     }
@@ -89,6 +90,9 @@ fn unknown_words(
 ) -> Result<String, AllocError> {
     let said = shown(name);
     if let Some(said) = outer_words(alloc, scope, words, name)? {
+        return Ok(said);
+    }
+    if let Some(said) = unknown_call_words(alloc, name, is_called(words, name))? {
         return Ok(said);
     }
     if let Some(keyword) = meant_keyword(scope, words, name) {
@@ -169,6 +173,9 @@ pub(crate) fn misused_among(
         let Some(declared) = scope.declared(word) else {
             continue;
         };
+        if calls_at(words, index) {
+            continue;
+        }
         let next = words.get(index.saturating_add(1)).copied().unwrap_or(&[]);
         if let Some(said) = misuse_words(alloc, shown(word), declared, index == 0, next)? {
             return Ok(Some(said));
@@ -187,11 +194,11 @@ fn no_lock<'a>(scope: &Scope<'_>, words: &[&'a [u8]]) -> Option<&'a [u8]> {
     }
 }
 
-/// A word after `await` or `cas(` that is no name, or that of a value of the thread's own or of a
+/// A word after `await`, or in place of the cell of a call, that is no name, or that of a value of the thread's own or of a
 /// constant.
 fn no_cell<'a>(scope: &Scope<'_>, words: &[&'a [u8]]) -> Option<&'a [u8]> {
-    let name = match words.iter().position(|word| *word == b"cas".as_slice()) {
-        Some(cas) => *words.get(cas.saturating_add(2))?,
+    let name = match called_cell(words) {
+        Some(name) => name,
         None if word_is(words, 0, b"await") => *words.get(1)?,
         None => return None,
     };
@@ -332,6 +339,9 @@ pub(crate) fn name_words(
         return operation_words(alloc, scope, words);
     }
     if let Some(said) = called_lock_words(alloc, words)? {
+        return Ok(said);
+    }
+    if let Some(said) = method_words(alloc, words)? {
         return Ok(said);
     }
     let declares = declares(words) && !(scope.is_in_operation() && word_is(words, 0, b"lock"));

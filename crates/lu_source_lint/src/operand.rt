@@ -1,5 +1,6 @@
 //! What is wrong with the operands and operators of an expression, by the words of its line.
 
+use crate::calls::call_form;
 use crate::meaning::word_is;
 use lu_source_text::is_free_name;
 use lu_text::value_in;
@@ -72,13 +73,18 @@ fn expression_start(words: &[&[u8]]) -> Option<usize> {
     Some(equals?.saturating_add(1))
 }
 
+/// Whether the first word calls something of a cell, and the second is the `(` after it.
+fn calls(first: &[u8], second: &[u8]) -> bool {
+    second == b"(".as_slice() && call_form(first).is_some()
+}
+
 /// The first word that follows an operand without an operator between them.
 pub(crate) fn after_operand<'a>(words: &[&'a [u8]]) -> Option<&'a [u8]> {
     let start = expression_start(words)?;
     let (_, expression) = words.split_at(start.min(words.len()));
     for pair in expression.windows(2) {
         if let [left, right] = pair {
-            if ends_operand(left) && !follows_operand(right) {
+            if ends_operand(left) && !follows_operand(right) && !calls(left, right) {
                 return Some(*right);
             }
         }

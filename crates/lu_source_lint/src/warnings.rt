@@ -23,7 +23,8 @@ enum Sought {
     /// Anything that leaves the loop, or that others see.
     Acts,
 
-    /// Anything that changes the thread's own values or a shared word, or that waits.
+    /// Anything that changes the thread's own values or a shared word, or that waits; but for calls
+    /// in an expression.
     Changes,
 }
 
@@ -113,13 +114,33 @@ fn changes(words: &[&[u8]]) -> bool
     words.iter().any(|word| word_changes(word))
 }
 
+/// Whether a word calls what changes a shared word.
+fn is_call(word: &[u8]) -> bool
+    ensures { result ≡ is_among spec.calling word.now }
+{
+    word == b"cas".as_slice()
+        || word == b"compare_exchange".as_slice()
+        || word == b"swap".as_slice()
+        || word == b"fetch_add".as_slice()
+        || word == b"fetch_sub".as_slice()
+        || word == b"fetch_max".as_slice()
+        || word == b"fetch_min".as_slice()
+}
+
+/// Whether the line begins with a call that changes a shared word.
+fn begins_call(words: &[&[u8]]) -> bool
+    ensures { result ≡ spec.begins_call (texts words.now) }
+{
+    words.split_first().is_some_and(|(word, _)| is_call(word))
+}
+
 /// Whether a line does what is sought.
 fn does(shared: &[&[u8]], sought: Sought, words: &[&[u8]]) -> bool
     ensures { result ≡ spec.does (texts shared.now) sought (texts words.now) }
 {
     match sought {
         Sought::Acts => acts(shared, words),
-        Sought::Changes => changes(words),
+        Sought::Changes => changes(words) || begins_call(words),
     }
 }
 
