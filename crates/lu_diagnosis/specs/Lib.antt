@@ -1,0 +1,4 @@
+pub mod SerialRuns
+pub mod NextSteps
+pub mod Laws
+pub mod Sentences
