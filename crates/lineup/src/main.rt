@@ -11,7 +11,7 @@ mod mistake;
 mod ticker;
 
 use head::Head;
-use lu_cli::{Counted, Display, Terminal, hint_on, run_with_progress};
+use lu_cli::{Counted, Display, Measure, Terminal, hint_on, run_with_progress};
 use memory::with_memory;
 use mistake::{mistake_in, parts_in};
 use std::io::{IsTerminal, Read, Write};
@@ -60,6 +60,15 @@ fn display_for(is_terminal: bool, words: &[String]) -> Display {
     }
 }
 
+/// By what it is shown how far the command of these words has come.
+fn measure_for(words: &[String]) -> Measure {
+    match words.first().map(|word| word.as_str()) {
+        Some("campaign") => Measure::Matrices,
+        Some("check") => Measure::Schedules,
+        _ => Measure::States,
+    }
+}
+
 /// Runs the program on these words, and shows meanwhile how far it has come.
 fn run_shown<X: AllocGlobal + Threads + Wait + Clock + Eprint + Sync, I: Read, W: Write>(
     rt: &X,
@@ -71,10 +80,7 @@ fn run_shown<X: AllocGlobal + Threads + Wait + Clock + Eprint + Sync, I: Read, W
     requires reads { input.old.failures < 2 ^ 64 - 1 }
     requires writes { output.old.failures < 2 ^ 64 - 1 }
 {
-    let is_campaign = words
-        .first()
-        .is_some_and(|word| word.as_str() == "campaign");
-    let terminal = Terminal::new(rt, display, is_campaign);
+    let terminal = Terminal::new(rt, display, measure_for(words));
     if display == Display::Nothing {
         return run_with_progress(rt, &terminal, words, input, output);
     }

@@ -5,6 +5,7 @@
 //! table of the serial histories.
 #![tactic(auto)]
 
+mod budget;
 mod clearing;
 mod following;
 mod given;
@@ -24,6 +25,7 @@ mod tables;
 mod verdicts;
 mod ways;
 
+pub use budget::Budget;
 pub use following::after_move;
 pub use judging::is_good;
 pub use laws::{

@@ -8,6 +8,7 @@ ghost use Rattle.lu_machine.specs.Steps.{IsFeasible};
 ghost use Rattle.lu_always.specs.Searching.{AddsByOf, AddsOnly, Grows, HasNextBy, IsCoveredOf, IsVerdict, MovesToBy, StoresAfterBy};
 ghost use Rattle.lu_always.specs.Stored.{ComesFromMonitor, StandsWhereItCan};
 
+use crate::budget::Budget;
 use crate::clearing::clear_dead;
 use crate::following::after_event;
 use crate::given::Given;
@@ -17,6 +18,7 @@ use crate::steps::search;
 use crate::stored::Arrival;
 use crate::verdicts::Verdict;
 use lu_answers::{AnswerTable, Rounds};
+use lu_certify::Progress;
 use lu_component::Component;
 use lu_horizon::DeadRegisters;
 use lu_linearization::Monitor;
@@ -137,21 +139,21 @@ pub(crate) fn store_next(
 
 /// Whether all matrices that are unrolled from this one are linearizable, and none has a livelock:
 /// each thread makes its line of calls this often, and may stop anywhere. `table` is the table of
-/// the serial histories; if it is not, only what the verdict says of livelocks is right. No more than
-/// `most` nodes are searched.
+/// the serial histories; if it is not, only what the verdict says of livelocks is right. No more nodes
+/// are looked at than the budget has.
 ///
 /// # Errors
 ///
 /// Out of memory.
-pub fn find_verdict(
+pub fn find_verdict<P: Progress>(
     alloc: Global,
     component: &Component,
     matrix: &Matrix,
     table: &AnswerTable,
     rounds: Rounds,
-    most: usize,
+    budget: Budget<'_, P>,
 ) -> Result<Verdict, AllocError>
-    requires { CanRun component.now matrix.now }
+    requires of { CanRun component.now matrix.now }
     ensures { IfOk result (IsVerdict component.now rounds matrix.now table.now) }
 {
     let dead = DeadRegisters::new(alloc, component)?;
@@ -161,5 +163,5 @@ pub fn find_verdict(
         dead: &dead,
         rounds,
     };
-    search(given, component, matrix, most)
+    search(given, component, matrix, budget)
 }

@@ -11,6 +11,7 @@ ghost use Rattle.lu_always.specs.StepSearch.{AddsMovesBy, AreExitsBy, AreExitsBy
 ghost use Rattle.lu_always.specs.Stored.{HasMonitorAt};
 ghost use Rattle.lu_always.specs.Ways.{HasParentsBefore, IsWayWith};
 
+use crate::budget::{Budget, show};
 use crate::following::after_move;
 use crate::given::Given;
 use crate::judging::{Judged, judge};
@@ -22,6 +23,7 @@ use crate::stepping::client_step;
 use crate::stored::Arrival;
 use crate::verdicts::Verdict;
 use crate::ways::way_to;
+use lu_certify::Progress;
 use lu_component::Component;
 use lu_graph::{Guards, turns_at};
 use lu_linearization::Monitor;
@@ -249,12 +251,12 @@ fn begin(given: Given<'_>, machine: &Machine<'_>, all: &mut Nodes) -> Result<(),
 }
 
 /// The verdict of the search of all nodes that are reached by steps, of which the first is stored. The
-/// machine is asked to be at the start of a run. No more than `most` nodes are searched.
-fn search_from(
+/// machine is asked to be at the start of a run.
+fn search_from<P: Progress>(
     given: Given<'_>,
     machine: &mut Machine<'_>,
     guards: &Guards,
-    most: usize,
+    budget: Budget<'_, P>,
     all: &mut Nodes,
 ) -> Result<Verdict, AllocError>
     requires starts { IsStart machine.old.component machine.old.matrix machine.old }
@@ -265,13 +267,14 @@ fn search_from(
         (IsVerdictBy given.entry machine.old.component machine.old.matrix) }
 {
     let mut exits = Vec::new(given.alloc);
-    for index in 0..most {
+    for index in 0..budget.most {
         if index >= all.len() {
             let Some(moves) = way_to_livelock(given.alloc, all, exits.as_slice())? else {
                 return Ok(Verdict::AlwaysLinearizable);
             };
             return Ok(Verdict::Livelock(moves));
         }
+        show(budget.progress, index, all);
         match visit(given, machine, guards, index, all)? {
             Visited::Exits(found) => exits.push(found)?,
             Visited::Fails(call) => {
@@ -283,13 +286,12 @@ fn search_from(
     Ok(Verdict::Undecided)
 }
 
-/// The verdict of the search of all nodes that are reached by steps. No more than `most` nodes are
-/// searched.
-pub(crate) fn search(
+/// The verdict of the search of all nodes that are reached by steps.
+pub(crate) fn search<P: Progress>(
     given: Given<'_>,
     component: &Component,
     matrix: &Matrix,
-    most: usize,
+    budget: Budget<'_, P>,
 ) -> Result<Verdict, AllocError>
     requires runs { CanRun component.now matrix.now }
     requires dead { IsDeadTable component.now given.dead.now }
@@ -299,5 +301,5 @@ pub(crate) fn search(
     let guards = Guards::new(given.alloc, component)?;
     let mut all = Nodes::new(given.alloc);
     begin(given, &machine, &mut all)?;
-    search_from(given, &mut machine, &guards, most, &mut all)
+    search_from(given, &mut machine, &guards, budget, &mut all)
 }

@@ -1,7 +1,8 @@
 //! That a verdict is found: no clause says so.
 
-use lu_always::{Verdict, find_verdict};
+use lu_always::{Budget, Verdict, find_verdict};
 use lu_answers::{AnswerTable, Rounds};
+use lu_certify::Silent;
 use lu_fixtures::fixture_of;
 use lu_history::SerialOutcome;
 use std::process::Abort;
@@ -95,7 +96,10 @@ fn verdict_on(
         &case.matrix,
         &table,
         Rounds::Any,
-        most,
+        Budget {
+            most,
+            progress: &Silent,
+        },
     )?)
 }
 
@@ -117,7 +121,10 @@ fn verdict_on_one_round(rt: &(impl AllocGlobal + Abort), matrix: &[u8]) -> Resul
         &case.matrix,
         &table,
         Rounds::One,
-        1000,
+        Budget {
+            most: 1000,
+            progress: &Silent,
+        },
     )?)
 }
 
@@ -134,7 +141,10 @@ fn verdict_on_flags(rt: &(impl AllocGlobal + Abort), matrix: &[u8]) -> Result<Ve
         &case.matrix,
         &table,
         Rounds::Any,
-        1000,
+        Budget {
+            most: 1000,
+            progress: &Silent,
+        },
     )?)
 }
 

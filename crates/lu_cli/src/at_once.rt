@@ -11,8 +11,8 @@ use crate::request::{CertifyOptions, Repetition};
 use crate::serial::MOST_LISTED;
 use crate::unrolled::certify_all;
 use lu_answers::Rounds;
-use lu_certify::Certificate;
-use lu_forever::{RoundsVerdict, certify_rounds};
+use lu_certify::{Certificate, Progress};
+use lu_forever::{Budget, RoundsVerdict, certify_rounds};
 use lu_machine::Test;
 use lu_replay::graph_or_offence;
 use lu_serial_graph::{SerialGraph, learn_graph};
@@ -44,19 +44,23 @@ fn show_prefixes(
 }
 
 /// The certificate, if all cuts are clear. This is the graph of the serial histories.
-fn certify_listed(
+fn certify_listed<P: Progress>(
     alloc: Global,
+    progress: &P,
     test: Test<'_>,
     asked: CertifyOptions,
     graph: &SerialGraph<Global>,
 ) -> Result<Option<Answer>, AllocError>
-    requires { IsSetFromStarts test asked.options.serial (members_of graph.now) }
+    requires set { IsSetFromStarts test asked.options.serial (members_of graph.now) }
     ensures { CertifiesAtOnce test.entry asked result }
 {
     let (component, matrix) = (test.component, test.matrix);
     let serial = asked.options.serial();
-    let most = in_one_search(asked).nodes as usize;
-    match certify_rounds(alloc, component, matrix, Rounds::One, serial, most)? {
+    let budget = Budget {
+        most: in_one_search(asked).nodes as usize,
+        progress,
+    };
+    match certify_rounds(alloc, component, matrix, Rounds::One, serial, budget)? {
         RoundsVerdict::Linearizable => {
             let answer = show_prefixes(alloc, test, graph)?;
             Ok(Some(answer))
@@ -70,8 +74,9 @@ fn certify_listed(
 
 /// The certificate of the matrix, if one search of all cuts decides it. If there are too many serial
 /// histories for a search of each cut, which lists them, it is the verdict on one round.
-pub(crate) fn certify_at_once(
+pub(crate) fn certify_at_once<P: Progress>(
     alloc: Global,
+    progress: &P,
     test: Test<'_>,
     asked: CertifyOptions,
 ) -> Result<Option<Answer>, AllocError>
@@ -89,8 +94,14 @@ pub(crate) fn certify_at_once(
         Err(_) => return Ok(None),
     };
     if graph.member_count() > MOST_LISTED {
-        let answer = certify_all(alloc, test, in_one_search(asked), Repetition::UpTo(1))?;
+        let answer = certify_all(
+            alloc,
+            progress,
+            test,
+            in_one_search(asked),
+            Repetition::UpTo(1),
+        )?;
         return Ok(Some(answer));
     }
-    certify_listed(alloc, test, asked, &graph)
+    certify_listed(alloc, progress, test, asked, &graph)
 }

@@ -12,7 +12,7 @@ use crate::at_once::certify_at_once;
 use crate::refusal::Refusal;
 use crate::request::CertifyOptions;
 use crate::texts::read_texts;
-use lu_certify::{Limits, Progress};
+use lu_certify::{Limits, Progress, Silent};
 use lu_component::{Component, MOST_LOCAL};
 use lu_grain::{certify_longer, certify_longer_with_progress};
 use lu_machine::Test;
@@ -41,7 +41,7 @@ fn certify_matrix<X: AllocGlobal + Threads + Wait, P: Progress>(
     ensures { Certifies test.entry asked result }
 {
     let (alloc, options) = (rt.alloc(), asked.options);
-    if let Some(answer) = certify_at_once(alloc, test, asked)? {
+    if let Some(answer) = certify_at_once(alloc, progress, test, asked)? {
         return Ok(answer);
     }
     let local = certified_local(asked, test.component);
@@ -86,7 +86,7 @@ fn certify_matrix_alone(
     ensures { Certifies test.entry asked result }
 {
     let (options, nodes) = (asked.options, asked.nodes);
-    if let Some(answer) = certify_at_once(alloc, test, asked)? {
+    if let Some(answer) = certify_at_once(alloc, &Silent, test, asked)? {
         return Ok(answer);
     }
     let local = certified_local(asked, test.component);

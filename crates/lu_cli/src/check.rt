@@ -7,9 +7,11 @@ ghost use Rattle.lu_cli.specs.Check.{Checks, ChecksAgainst};
 
 use crate::answer::{Answer, show_report};
 use crate::refusal::Refusal;
+use crate::shown_gate::ShownGate;
 use crate::texts::read_texts;
+use lu_certify::Progress;
 use lu_machine::Test;
-use lu_parallel::{OpenGate, Options, check, check_against, check_one, check_one_against};
+use lu_parallel::{Options, check, check_against, check_one, check_one_against};
 use lu_spec::{Marks, read_given_spec};
 use lu_text::{exactly_three, exactly_two};
 use std::alloc::Global;
@@ -17,8 +19,9 @@ use std::sync::Wait;
 use std::thread::Threads;
 
 /// The report of a test, by as many workers as the options say.
-fn check_test<X: AllocGlobal + Threads + Wait>(
+fn check_test<X: AllocGlobal + Threads + Wait, P: Progress>(
     rt: &X,
+    progress: &P,
     test: Test<'_>,
     options: Options,
 ) -> Result<Answer, Refusal>
@@ -27,7 +30,7 @@ fn check_test<X: AllocGlobal + Threads + Wait>(
     let report = check(
         rt,
         rt.alloc(),
-        &OpenGate,
+        &ShownGate { progress },
         test.component,
         test.matrix,
         options,
@@ -35,9 +38,10 @@ fn check_test<X: AllocGlobal + Threads + Wait>(
     Ok(show_report(rt.alloc(), &report)?)
 }
 
-/// `lineup check`: component and matrix.
-pub(crate) fn answer_check<X: AllocGlobal + Threads + Wait>(
+/// `lineup check`: component and matrix. It tells meanwhile how far it has come.
+pub(crate) fn answer_check<X: AllocGlobal + Threads + Wait, P: Progress>(
     rt: &X,
+    progress: &P,
     options: Options,
     parts: &[&[u8]],
 ) -> Result<Answer, Refusal>
@@ -49,13 +53,14 @@ pub(crate) fn answer_check<X: AllocGlobal + Threads + Wait>(
         component: &case.component,
         matrix: &case.matrix,
     };
-    check_test(rt, test, options)
+    check_test(rt, progress, test, options)
 }
 
 /// The report of a test against a specification of this text, by as many workers as the options
 /// say.
-fn check_test_against<X: AllocGlobal + Threads + Wait>(
+fn check_test_against<X: AllocGlobal + Threads + Wait, P: Progress>(
     rt: &X,
+    progress: &P,
     test: Test<'_>,
     options: Options,
     marks: Marks,
@@ -68,7 +73,7 @@ fn check_test_against<X: AllocGlobal + Threads + Wait>(
     let report = check_against(
         rt,
         rt.alloc(),
-        &OpenGate,
+        &ShownGate { progress },
         test.component,
         test.matrix,
         &tree,
@@ -77,9 +82,11 @@ fn check_test_against<X: AllocGlobal + Threads + Wait>(
     Ok(show_report(rt.alloc(), &report)?)
 }
 
-/// `lineup check --spec`: component, matrix and specification.
-pub(crate) fn answer_check_against<X: AllocGlobal + Threads + Wait>(
+/// `lineup check --spec`: component, matrix and specification. It tells meanwhile how far it has
+/// come.
+pub(crate) fn answer_check_against<X: AllocGlobal + Threads + Wait, P: Progress>(
     rt: &X,
+    progress: &P,
     options: Options,
     marks: Marks,
     parts: &[&[u8]],
@@ -92,7 +99,7 @@ pub(crate) fn answer_check_against<X: AllocGlobal + Threads + Wait>(
         component: &case.component,
         matrix: &case.matrix,
     };
-    check_test_against(rt, test, options, marks, specification)
+    check_test_against(rt, progress, test, options, marks, specification)
 }
 
 /// The report of a test, on the calling thread.

@@ -27,7 +27,7 @@ use crate::shrink::answer_shrink;
 use crate::spec::answer_spec;
 use crate::unrolled::answer_certify_unrolled;
 use crate::witness::{answer_witness, answer_witness_against};
-use lu_certify::Progress;
+use lu_certify::{Progress, Silent};
 use lu_refine::Unshown;
 use std::alloc::Global;
 use std::sync::Wait;
@@ -62,7 +62,7 @@ pub(crate) fn carry_out_alone(
         },
         BundleCommand::Certify(asked) => answer_certify_alone(alloc, asked, parts),
         BundleCommand::CertifyUnrolled(asked, repetition) => {
-            answer_certify_unrolled(alloc, asked, repetition, parts)
+            answer_certify_unrolled(alloc, &Silent, asked, repetition, parts)
         }
         BundleCommand::Refute => answer_refute(alloc, parts),
         BundleCommand::Shrink(bounds) => answer_shrink(alloc, bounds, parts),
@@ -74,8 +74,8 @@ pub(crate) fn carry_out_alone(
     }
 }
 
-/// The answer to a command and the parts of a bundle, or why it is refused. A certificate and a
-/// campaign tell meanwhile how far they have come.
+/// The answer to a command and the parts of a bundle, or why it is refused. Checks, certificates and
+/// campaigns tell meanwhile how far they have come.
 pub(crate) fn carry_out<X: AllocGlobal + Threads + Wait, P: Progress>(
     rt: &X,
     progress: &P,
@@ -85,11 +85,14 @@ pub(crate) fn carry_out<X: AllocGlobal + Threads + Wait, P: Progress>(
     ensures { Answered (spec.IsAnswerToCommand command (texts parts.now)) result }
 {
     match command {
-        BundleCommand::Check(options) => answer_check(rt, options, parts),
+        BundleCommand::Check(options) => answer_check(rt, progress, options, parts),
         BundleCommand::CheckAgainst(options, marks) => {
-            answer_check_against(rt, options, marks, parts)
+            answer_check_against(rt, progress, options, marks, parts)
         },
         BundleCommand::Certify(asked) => answer_certify(rt, progress, asked, parts),
+        BundleCommand::CertifyUnrolled(asked, repetition) => {
+            answer_certify_unrolled(rt.alloc(), progress, asked, repetition, parts)
+        }
         BundleCommand::Campaign(options) => {
             answer_campaign(rt.alloc(), &ByMatrix { progress }, options, parts)
         }

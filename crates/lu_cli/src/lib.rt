@@ -30,6 +30,7 @@ mod request;
 mod runs;
 mod serial;
 mod shown;
+mod shown_gate;
 mod shrink;
 mod sources;
 mod spec;
@@ -54,5 +55,5 @@ pub use request::{
     LintRequest, Repetition, Request, Showing, TraceStart, Tracing,
 };
 pub use table::{CommandRow, Kind, OptionRow, commands as command_rows, options as option_rows};
-pub use terminal::{Display, Terminal};
+pub use terminal::{Display, Measure, Terminal};
 pub use texts::{Case, Fault, check_texts, check_texts_against, read_texts};

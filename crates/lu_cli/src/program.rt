@@ -149,7 +149,7 @@ fn refuse_command(alloc: Global) -> Result<Answer, AllocError>
 /// memory, the start of a worker's thread or a device failed. No call of the reader or the writer
 /// that failed is tried again; both counts of failures have to be below 2^64 - 1. A check with two
 /// workers or more waits for them.
-/// A certificate tells `progress` meanwhile how far it has come.
+/// Checks, certificates and campaigns tell `progress` meanwhile how far they have come.
 pub fn run_with_progress<X: AllocGlobal + Threads + Wait, P: Progress, S: AsStr, R: Read, W: Write>(
     rt: &X,
     progress: &P,
@@ -181,7 +181,7 @@ pub fn run_with_progress<X: AllocGlobal + Threads + Wait, P: Progress, S: AsStr,
     }
 }
 
-/// As [`run_with_progress`], where nobody is shown how far a certificate has come.
+/// As [`run_with_progress`], where nobody is shown how far the command has come.
 pub fn run<X: AllocGlobal + Threads + Wait, S: AsStr, R: Read, W: Write>(
     rt: &X,
     words: &[S],

@@ -17,21 +17,42 @@ pub enum Display {
     Lines,
 }
 
-/// Shows on standard error how far a command has come: which matrix a campaign tries, how many cuts
-/// and nodes a certificate has, or the time alone. Whoever made it calls [`Terminal::show`] from
-/// time to time, and [`Terminal::erase`] at the end. If a component is undecided, a line stays that
-/// says how many nodes the largest cut had.
+/// What is shown of a command.
+#[derive(Clone, Copy, PartialEq, Eq)]
+pub enum Measure {
+    /// Which matrix is tried.
+    Matrices,
+
+    /// How many schedules are judged.
+    Schedules,
+
+    /// How many states are found.
+    States,
+}
+
+/// Shows on standard error how far a command has come: which matrix a campaign tries, how many
+/// schedules a check has judged, how many states a certificate has found, or the time alone. Whoever
+/// made it calls [`Terminal::show`] from time to time, and [`Terminal::erase`] at the end. If a
+/// component is undecided, a line stays that says how many nodes the largest cut had.
 #[derive(Drop)]
 pub struct Terminal<'a, R> {
     rt: &'a R,
     display: Display,
+    measure: Measure,
 
-    /// Whether matrices are counted, and not cuts.
-    is_campaign: bool,
-    cuts: AtomicU64,
+    /// How many matrices, cuts or pieces there are, and how many of them are done.
+    parts: AtomicU64,
     done: AtomicU64,
 
-    /// How many nodes are kept now, and the most of a cut that is done.
+    /// How many schedules are judged.
+    schedules: AtomicU64,
+
+    /// How many states are found, and how many of them were looked at. Of a cut, only how many are
+    /// found is known.
+    found: AtomicU64,
+    looked_at: AtomicU64,
+
+    /// How many nodes of cuts are kept now, and the most of a cut that is done.
     kept: AtomicU64,
     most: AtomicU64,
 
@@ -49,14 +70,17 @@ fn second_now(rt: &impl Clock) -> u64 {
 }
 
 impl<'a, R: Clock + Eprint> Terminal<'a, R> {
-    /// Shows how far a command has come, which is a campaign or another one.
-    pub fn new(rt: &'a R, display: Display, is_campaign: bool) -> Terminal<'a, R> {
+    /// Shows how far a command has come, by this measure.
+    pub fn new(rt: &'a R, display: Display, measure: Measure) -> Terminal<'a, R> {
         Terminal {
             rt,
             display,
-            is_campaign,
-            cuts: AtomicU64::new(0),
+            measure,
+            parts: AtomicU64::new(0),
             done: AtomicU64::new(0),
+            schedules: AtomicU64::new(0),
+            found: AtomicU64::new(0),
+            looked_at: AtomicU64::new(0),
             kept: AtomicU64::new(0),
             most: AtomicU64::new(0),
             began: AtomicU64::new(second_now(rt)),
@@ -91,29 +115,57 @@ impl<'a, R: Clock + Eprint> Terminal<'a, R> {
         }
     }
 
+    /// Shows the measure, if there is anything to count yet, and the time.
     fn show_words(&self) {
-        let cuts = self.cuts.load(Ordering::Relaxed);
-        if cuts == 0 {
-            let seconds = self.seconds();
-            drop(eprint!(self.rt; "{seconds} s"));
-        } else if self.is_campaign {
-            self.show_matrix(cuts);
-        } else {
-            self.show_cuts(cuts);
+        match self.measure {
+            Measure::Matrices => self.show_matrix(),
+            Measure::Schedules => self.show_schedules(),
+            Measure::States => self.show_states(),
         }
     }
 
-    fn show_cuts(&self, cuts: u64) {
-        let done = self.done.load(Ordering::Relaxed);
-        let kept = self.kept.load(Ordering::Relaxed);
+    /// Shows the time alone.
+    fn show_seconds(&self) {
         let seconds = self.seconds();
-        drop(eprint!(self.rt;
-            "{done} of {cuts} cuts are done, {kept} nodes are kept, {seconds} s"
-        ));
+        drop(eprint!(self.rt; "{seconds} s"));
+    }
+
+    /// Shows how many schedules are judged, and, once workers search them in pieces, how many of
+    /// these are done.
+    fn show_schedules(&self) {
+        let schedules = self.schedules.load(Ordering::Relaxed);
+        let pieces = self.parts.load(Ordering::Relaxed);
+        if schedules > 0 {
+            drop(eprint!(self.rt; "{schedules} schedules judged, "));
+        }
+        if pieces > 0 {
+            let done = self.done.load(Ordering::Relaxed);
+            drop(eprint!(self.rt; "{done} of {pieces} pieces done, "));
+        }
+        self.show_seconds();
+    }
+
+    /// Shows how many states are found, and how many of them are still to be looked at, if that is
+    /// known.
+    fn show_states(&self) {
+        let found = self.found.load(Ordering::Relaxed);
+        if found > 0 {
+            drop(eprint!(self.rt; "{found} states found, "));
+            if self.parts.load(Ordering::Relaxed) == 0 {
+                let left = found.saturating_sub(self.looked_at.load(Ordering::Relaxed));
+                drop(eprint!(self.rt; "{left} still to be looked at, "));
+            }
+        }
+        self.show_seconds();
     }
 
     /// Shows which matrix a campaign tries, with the rate and the time left once one is done.
-    fn show_matrix(&self, matrices: u64) {
+    fn show_matrix(&self) {
+        let matrices = self.parts.load(Ordering::Relaxed);
+        if matrices == 0 {
+            self.show_seconds();
+            return;
+        }
         let done = self.done.load(Ordering::Relaxed);
         let number = done.saturating_add(1).min(matrices);
         drop(eprint!(self.rt; "matrix {number} of {matrices}"));
@@ -146,12 +198,16 @@ impl<'a, R: Clock + Eprint> Terminal<'a, R> {
 }
 
 impl<'a, R: Clock + Eprint + Sync> Progress for Terminal<'a, R> {
-    fn begin(&self, cuts: u64) {
-        self.cuts.store(cuts, Ordering::Relaxed);
+    /// What was counted before is counted anew.
+    fn begin(&self, parts: u64) {
+        self.schedules.store(0, Ordering::Relaxed);
+        self.found.store(0, Ordering::Relaxed);
+        self.parts.store(parts, Ordering::Relaxed);
     }
 
     fn keep(&self) {
         if self.display != Display::Nothing {
+            self.found.fetch_add(1, Ordering::Relaxed);
             self.kept.fetch_add(1, Ordering::Relaxed);
         }
     }
@@ -164,6 +220,19 @@ impl<'a, R: Clock + Eprint + Sync> Progress for Terminal<'a, R> {
         self.kept.fetch_sub(nodes, Ordering::Relaxed);
         if nodes > self.most.load(Ordering::Relaxed) {
             self.most.store(nodes, Ordering::Relaxed);
+        }
+    }
+
+    fn nodes(&self, looked_at: u64, found: u64) {
+        if self.display != Display::Nothing {
+            self.looked_at.store(looked_at, Ordering::Relaxed);
+            self.found.store(found, Ordering::Relaxed);
+        }
+    }
+
+    fn judge(&self, schedules: u64) {
+        if self.display != Display::Nothing {
+            self.schedules.fetch_add(schedules, Ordering::Relaxed);
         }
     }
 

@@ -16,9 +16,9 @@ use crate::request::{CertifyOptions, Repetition};
 use crate::serial::MOST_LISTED;
 use crate::texts::read_texts;
 use lu_answers::Rounds;
-use lu_certify::{Certificate, Limits};
+use lu_certify::{Certificate, Limits, Progress};
 use lu_component::Component;
-use lu_forever::{RoundsVerdict, certify_rounds, unroll_for, with_rounds};
+use lu_forever::{Budget, RoundsVerdict, certify_rounds, unroll_for, with_rounds};
 use lu_grain::certify_longer;
 use lu_machine::Test;
 use lu_serial_graph::{LearntGraph, learn_graph};
@@ -222,8 +222,9 @@ fn show_verdict(
 
 /// The verdict on all matrices in which each thread makes its line of this one the number of times
 /// given by the repetition.
-pub(crate) fn certify_all(
+pub(crate) fn certify_all<P: Progress>(
     alloc: Global,
+    progress: &P,
     test: Test<'_>,
     asked: CertifyOptions,
     repetition: Repetition,
@@ -231,15 +232,19 @@ pub(crate) fn certify_all(
     ensures { CertifiesRounds test.entry asked repetition result }
 {
     let serial = asked.options.serial();
-    let most = asked.nodes as usize;
+    let budget = Budget {
+        most: asked.nodes as usize,
+        progress,
+    };
     let rounds = rounds_of(repetition);
-    let found = certify_rounds(alloc, test.component, test.matrix, rounds, serial, most)?;
+    let found = certify_rounds(alloc, test.component, test.matrix, rounds, serial, budget)?;
     show_verdict(alloc, test, asked, repetition, found)
 }
 
 /// The verdict on all matrices that are unrolled from this one.
-fn certify_unrolled(
+fn certify_unrolled<P: Progress>(
     alloc: Global,
+    progress: &P,
     test: Test<'_>,
     asked: CertifyOptions,
     repetition: Repetition,
@@ -247,7 +252,7 @@ fn certify_unrolled(
     ensures { CertifiesUnrolled test.entry asked repetition result }
 {
     match repetition {
-        Repetition::Forever => certify_all(alloc, test, asked, repetition),
+        Repetition::Forever => certify_all(alloc, progress, test, asked, repetition),
         Repetition::UpTo(many) => {
             match with_rounds(alloc, test.component, test.matrix, many)? {
                 None => show_too_many(alloc, many),
@@ -256,7 +261,7 @@ fn certify_unrolled(
                         component: test.component,
                         matrix: &matrix,
                     };
-                    certify_all(alloc, unrolled, asked, repetition)
+                    certify_all(alloc, progress, unrolled, asked, repetition)
                 }
             }
         }
@@ -264,9 +269,10 @@ fn certify_unrolled(
 }
 
 /// `lineup certify --rounds`, `lineup certify --forever`: component and matrix, on the calling
-/// thread.
-pub(crate) fn answer_certify_unrolled(
+/// thread. It tells meanwhile how far it has come.
+pub(crate) fn answer_certify_unrolled<P: Progress>(
     alloc: Global,
+    progress: &P,
     asked: CertifyOptions,
     repetition: Repetition,
     parts: &[&[u8]],
@@ -279,5 +285,5 @@ pub(crate) fn answer_certify_unrolled(
         component: &case.component,
         matrix: &case.matrix,
     };
-    Ok(certify_unrolled(alloc, test, asked, repetition)?)
+    Ok(certify_unrolled(alloc, progress, test, asked, repetition)?)
 }

@@ -5,8 +5,9 @@ ghost use Rattle.lu_machine.specs.declared.TheConstants.{MOST_MOVES};
 ghost use Rattle.lu_machine.specs.Starts.{CanRun};
 ghost use Rattle.lu_forever.specs.Certified.{IsRoundsVerdict};
 
-use lu_always::{Verdict, find_verdict};
+use lu_always::{Budget, Verdict, find_verdict};
 use lu_answers::{Rounds, Tabled, find_table};
+use lu_certify::Progress;
 use lu_component::Component;
 use lu_test::{Matrix, Move};
 use std::alloc::{AllocError, Global};
@@ -42,19 +43,19 @@ pub enum RoundsVerdict {
 /// `rounds` says how often each thread makes its line of calls; it may stop before any call.
 ///
 /// `serial_bound`, at most 256, is the number of moves that a call of a serial run may take after its
-/// first. The table of the serial histories has no more than `most` stages, and no more than 65,536.
-/// No more than `most` nodes and `most` states are searched.
+/// first. The table of the serial histories has no more stages than the budget has nodes, and no more
+/// than 65,536. No more nodes are looked at than the budget has.
 ///
 /// # Errors
 ///
 /// Out of memory.
-pub fn certify_rounds(
+pub fn certify_rounds<P: Progress>(
     alloc: Global,
     component: &Component,
     matrix: &Matrix,
     rounds: Rounds,
     serial_bound: u16,
-    most: usize,
+    budget: Budget<'_, P>,
 ) -> Result<RoundsVerdict, AllocError>
     requires of { CanRun component.now matrix.now }
     requires few { serial_bound ≤ MOST_MOVES }
@@ -66,13 +67,13 @@ pub fn certify_rounds(
         matrix,
         rounds,
         serial_bound,
-        most.min(MOST_STAGES),
+        budget.most.min(MOST_STAGES),
     )? {
         Tabled::Table(table) => table,
         Tabled::Offends => return Ok(RoundsVerdict::Offends),
         Tabled::TooMany => return Ok(RoundsVerdict::Undecided),
     };
-    match find_verdict(alloc, component, matrix, &table, rounds, most)? {
+    match find_verdict(alloc, component, matrix, &table, rounds, budget)? {
         Verdict::AlwaysLinearizable => Ok(RoundsVerdict::Linearizable),
         Verdict::Fails(moves) => Ok(RoundsVerdict::NotLinearizable(moves)),
         Verdict::Livelock(moves) => Ok(RoundsVerdict::Livelock(moves)),

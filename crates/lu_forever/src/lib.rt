@@ -2,7 +2,7 @@
 //! one are linearizable, and none has a livelock.
 //!
 //! ```text
-//! match certify_rounds(alloc, &component, &matrix, Rounds::Any, 40, 1 << 20)? {
+//! match certify_rounds(alloc, &component, &matrix, Rounds::Any, 40, budget)? {
 //!     RoundsVerdict::Linearizable => ..,
 //!     RoundsVerdict::NotLinearizable(moves) => ..,
 //!     RoundsVerdict::Livelock(moves) => ..,
@@ -21,5 +21,6 @@ mod unrolling;
 pub use certifying::{RoundsVerdict, certify_rounds};
 pub use counting::unroll_for;
 pub use laws::forever_laws;
+pub use lu_always::Budget;
 pub use repeating::with_rounds;
 pub use unrolling::unroll;

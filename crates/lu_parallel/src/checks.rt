@@ -61,6 +61,7 @@ where
         depth,
     )?;
     let workers = u64::from(check.options.workers());
+    check.gate.begin(pieces.len() as u64);
     let (board, seats) = Board::new(space.alloc, pieces.len() as u64, workers)?;
     let job = Job {
         space,
@@ -78,7 +79,7 @@ where
 
 /// What the calling thread finds alone against the set of a tree, with the head start: none where
 /// that is over before the search. The machine is at the start of a run.
-fn search_ahead<'a, R, G, T: SerialTree>(
+fn search_ahead<'a, R, G: Gate, T: SerialTree>(
     check: &Checking<'a, R, G>,
     machine: Machine<'a>,
     tree: &T,
@@ -95,7 +96,7 @@ fn search_ahead<'a, R, G, T: SerialTree>(
     let whole = Schedule::new(Vec::new(space.alloc));
     let mut searcher = Searcher::from_start(*space, machine, tree)?;
     let mut cache = Cache::new(space.alloc, tree, REMEMBERED)?;
-    let mut watch = HeadStart::new(looks);
+    let mut watch = HeadStart::new(check.gate, looks);
     let found = searcher.search(&mut cache, &whole, &mut watch)?;
     Ok(finding_of(found))
 }
@@ -116,7 +117,7 @@ where
     ensures alone { IfErr result (λ fault. check.now.options.workers ≡ 1 → fault ≡ Memory) }
 {
     if check.options.workers() == 1 {
-        let finding = search_all(&check.space, machine, tree)?;
+        let finding = search_all(&check.space, machine, tree, check.gate)?;
         return Ok(finding);
     }
     match search_ahead(check, machine, tree)? {
@@ -144,8 +145,8 @@ fn find<R: Threads + Wait, G: Gate>(check: &Checking<'_, R, G>) -> Result<Findin
 
 /// The report of a component and a matrix (Burckhardt, Dern, Musuvathi and Tan, 2010), by as many
 /// workers as the options say. It is the same for any number of workers, any depth and any head
-/// start. One worker searches on the calling thread, and no thread is started and the gate is not
-/// called. Before there are more of them, the calling thread searches alone while the head start
+/// start. One worker searches on the calling thread: no thread is started, and of the gate only
+/// `judge` is called. Before there are more of them, the calling thread searches alone while the head start
 /// lasts, and where it comes to the end, all is as with one. Else each of them has a thread, where
 /// they claim pieces: the schedules of `depth` moves, and the ended ones of fewer. The calling
 /// thread waits until they are done.

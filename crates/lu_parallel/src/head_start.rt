@@ -2,26 +2,30 @@
 
 ghost use Rattle.std.specs.Prelude.{◌≡◌, ◌<◌};
 
+use crate::counting::tell;
+use crate::gate::Gate;
 use lu_tree::Watch;
 
 /// A watch that stops at the last of this many looks.
-#[derive(Clone, Copy, Drop)]
-pub(crate) struct HeadStart {
+#[derive(Drop)]
+pub(crate) struct HeadStart<'g, G> {
+    gate: &'g G,
+
     /// How many looks are left: none where it has stopped.
     left: u64,
 }
 
-impl HeadStart {
+impl<'g, G: Gate> HeadStart<'g, G> {
     /// A watch that stops at the last of these looks.
-    pub(crate) fn new(looks: u64) -> HeadStart
-        requires { 0 < looks }
+    pub(crate) fn new(gate: &'g G, looks: u64) -> HeadStart<'g, G>
+        requires some { 0 < looks }
         ensures { result.left ≡ looks }
     {
-        HeadStart { left: looks }
+        HeadStart { gate, left: looks }
     }
 }
 
-impl Watch for HeadStart {
+impl<'g, G: Gate> Watch for HeadStart<'g, G> {
     ghost use Rattle.std.specs.Prelude.{nat_eq};
 
     type Base = ();
@@ -31,6 +35,7 @@ impl Watch for HeadStart {
     ghost is_stopped = { λ w. nat_eq w.left 0 };
 
     fn stop(&mut self) -> bool {
+        tell(self.gate, 1);
         self.left = self.left.saturating_sub(1);
         self.left == 0
     }
@@ -41,6 +46,7 @@ impl Watch for HeadStart {
 
     /// However many schedules are counted together, it is one look.
     fn stop_within(&mut self, times: u64) -> bool {
+        tell(self.gate, times.saturating_sub(1));
         times > 0 && self.stop()
     }
 }

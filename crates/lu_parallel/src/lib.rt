@@ -19,6 +19,7 @@
 
 mod checks;
 mod conclusion;
+mod counting;
 mod fault;
 mod gate;
 mod head_start;

@@ -8,6 +8,8 @@ ghost use Rattle.lu_report.specs.Limits.{IsSerialBound, most_moves};
 ghost use Rattle.lu_replay.specs.Reports.{IsReport};
 ghost use Rattle.lu_parallel.specs.Findings.{FindsFromStarts, FindsAgainst, ReportsAgainst, finding_of};
 
+use crate::counting::Counting;
+use crate::gate::{Gate, OpenGate};
 use crate::worker::REMEMBERED;
 use lu_component::Component;
 use lu_machine::{Machine, Test};
@@ -15,7 +17,7 @@ use lu_replay::graph_or_offence;
 use lu_report::{Finding, Report};
 use lu_serial_graph::learn_graph_from;
 use lu_test::{Matrix, Schedule};
-use lu_tree::{Found, SearchSpace, Searcher, Unwatched};
+use lu_tree::{Found, SearchSpace, Searcher};
 use lu_trie::SerialTree;
 use lu_witness::Cache;
 use std::alloc::{AllocError, Allocator, Global};
@@ -32,11 +34,12 @@ pub(crate) fn finding_of(found: Found) -> Option<Finding>
 }
 
 /// What a search of all schedules finds against the set of a tree. The machine is at the start of a
-/// run.
-pub(crate) fn search_all<'a, T: SerialTree>(
+/// run. The gate is told how many schedules are judged.
+pub(crate) fn search_all<'a, T: SerialTree, G: Gate>(
     space: &SearchSpace<'a>,
     machine: Machine<'a>,
     tree: &T,
+    gate: &G,
 ) -> Result<Finding, AllocError>
     requires few { space.now.bound ≤ most_moves }
     requires start { IsStartOf space.now.test machine }
@@ -46,7 +49,7 @@ pub(crate) fn search_all<'a, T: SerialTree>(
     let whole = Schedule::new(Vec::new(space.alloc));
     let mut searcher = Searcher::from_start(*space, machine, tree)?;
     let mut cache = Cache::new(space.alloc, tree, REMEMBERED)?;
-    let found = searcher.search(&mut cache, &whole, &mut Unwatched)?;
+    let found = searcher.search(&mut cache, &whole, &mut Counting { gate })?;
     Ok(finding_of(found).unwrap())
 }
 
@@ -65,7 +68,7 @@ fn find<A: Allocator + Clone>(
     let machine = Machine::start(alloc, test.component, test.matrix)?;
     let copy = machine.try_clone(alloc)?;
     match graph_or_offence(learn_graph_from(alloc, set_alloc, test, copy, serial)?) {
-        Ok(graph) => search_all(space, machine, &&graph),
+        Ok(graph) => search_all(space, machine, &&graph, &OpenGate),
         Err(offence) => Ok(offence),
     }
 }
@@ -124,6 +127,6 @@ pub fn check_one_against<T: SerialTree>(
         bound,
     };
     let machine = Machine::start(alloc, component, matrix)?;
-    let finding = search_all(&space, machine, tree)?;
+    let finding = search_all(&space, machine, tree, &OpenGate)?;
     Ok(Report::against(bound, component.local(), finding))
 }

@@ -4,6 +4,8 @@ ghost use Rattle.std.specs.Prelude.{◌≡◌, ◌∷◌, [], true, false};
 ghost use Rattle.lu_board.specs.Pieces.{is_in};
 ghost use Rattle.lu_parallel.specs.Watches.{held_piece, rest_of};
 
+use crate::counting::tell;
+use crate::gate::Gate;
 use lu_board::view::View;
 use lu_board::{Board, Look, Seat};
 use lu_tree::Watch;
@@ -20,8 +22,9 @@ pub(crate) struct SeatBase {
 /// was found bad. It owns the worker's seat meanwhile, which holds the piece, or has skipped it
 /// where the watch has stopped.
 #[derive(Drop)]
-pub(crate) struct SeatWatch<'b> {
+pub(crate) struct SeatWatch<'b, G> {
     pub(crate) board: &'b Board,
+    pub(crate) gate: &'b G,
     pub(crate) seat: Seat,
     pub(crate) piece: u64,
     pub(crate) stopped: bool,
@@ -30,9 +33,9 @@ pub(crate) struct SeatWatch<'b> {
     ghost skipped: { stopped ≡ true → is_in piece seat.view.skipped ≡ true },
 }
 
-impl<'b> SeatWatch<'b> {
+impl<'b, G: Gate> SeatWatch<'b, G> {
     /// A watch over a piece that the seat holds, and no other.
-    pub(crate) fn new(board: &'b Board, seat: Seat, piece: u64) -> SeatWatch<'b>
+    pub(crate) fn new(board: &'b Board, gate: &'b G, seat: Seat, piece: u64) -> SeatWatch<'b, G>
         requires board { seat.board ≡ board.now.board }
         requires held { seat.view.held ≡ piece ∷ [] }
         ensures board { result.board.now ≡ board.entry.now }
@@ -42,6 +45,7 @@ impl<'b> SeatWatch<'b> {
     {
         SeatWatch {
             board,
+            gate,
             seat,
             piece,
             stopped: false,
@@ -54,6 +58,7 @@ impl<'b> SeatWatch<'b> {
     {
         let SeatWatch {
             board: _,
+            gate: _,
             seat,
             piece: _,
             stopped: _,
@@ -62,7 +67,7 @@ impl<'b> SeatWatch<'b> {
     }
 }
 
-impl<'b> Watch for SeatWatch<'b> {
+impl<'b, G: Gate> Watch for SeatWatch<'b, G> {
     type Base = SeatBase;
 
     ghost base = { λ w. record {
@@ -74,6 +79,7 @@ impl<'b> Watch for SeatWatch<'b> {
     ghost is_stopped = { λ w. w.stopped };
 
     fn stop(&mut self) -> bool {
+        tell(self.gate, 1);
         match self.board.look(&mut self.seat, self.piece) {
             Look::Skip(_) => {
                 self.stopped = true;
@@ -89,6 +95,7 @@ impl<'b> Watch for SeatWatch<'b> {
 
     /// One look at the board tells as much as many in a row.
     fn stop_within(&mut self, times: u64) -> bool {
+        tell(self.gate, times.saturating_sub(1));
         times > 0 && self.stop()
     }
 }

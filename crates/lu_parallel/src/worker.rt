@@ -147,7 +147,7 @@ impl Worker {
             }
             Look::Go(_) => {
                 let from = &job.pieces[piece as usize];
-                let mut watch = SeatWatch::new(job.board, seat, piece);
+                let mut watch = SeatWatch::new(job.board, job.gate, seat, piece);
                 let found = searcher.search(cache, from, &mut watch);
                 let seat = self.note(job, found, watch.into_seat(), piece);
                 job.gate.done(self.number, piece);

@@ -18,7 +18,7 @@ use Rattle.lu_always.proofs.StepsTold.{fails, parents, steps_show_all}
 use Rattle.lu_always.proofs.steps.search_from.Goals as goal
 
 pub loop-index-init : goal.loop-index-init
-loop-index-init c =
+loop-index-init g c =
     let s = c.args.machine.now in
     record {
       stepped = c.requires.begun;
@@ -29,16 +29,16 @@ loop-index-init c =
     }
 
 pub way_to_livelock-requires-clause-many : goal.way_to_livelock-requires-clause-many
-way_to_livelock-requires-clause-many c =
+way_to_livelock-requires-clause-many g c =
     rw c.as_slice.ensures.value (omega (arith, c.if-index-len.true, c.len.ensures, c.loop-index.invariant.within, c.loop-index.invariant.many))
 
 pub way_to_livelock-requires-clause-parents : goal.way_to_livelock-requires-clause-parents
-way_to_livelock-requires-clause-parents c =
+way_to_livelock-requires-clause-parents g c =
     let (first, initial, are) = c.loop-index.invariant.stepped in
     parents_before c.args.given.dead.now c.args.given.rounds c.args.given.table.now first c.args.machine.now c.loop-index.all are.arrivals
 
 pub returns-in_default : goal.returns-in_default
-returns-in_default c =
+returns-in_default g c =
     let s = c.args.machine.now in
     let all = c.loop-index.all in
     let past : length all ≤ c.loop-index.index = omega (arith, c.if-index-len.true, c.len.ensures) in
@@ -50,7 +50,7 @@ returns-in_default c =
     )
 
 pub returns-then-index-len : goal.returns-then-index-len
-returns-then-index-len c =
+returns-then-index-len g c =
     let s = c.args.machine.now in
     let all = c.loop-index.all in
     let past : length all ≤ c.loop-index.index = omega (arith, c.if-index-len.true, c.len.ensures) in
@@ -62,11 +62,11 @@ returns-then-index-len c =
     )
 
 pub visit-requires-clause-guards : goal.visit-requires-clause-guards
-visit-requires-clause-guards c =
+visit-requires-clause-guards g c =
     subst (λ (x : Component). TellsGuarded x c.args.guards.now) (sym c.loop-index.invariant.same.component) c.requires.guards
 
 pub way_with-requires-clause-parents : goal.way_with-requires-clause-parents
-way_with-requires-clause-parents c =
+way_with-requires-clause-parents g c =
     let s = c.args.machine.now in
     let (first, initial, are) = c.loop-index.invariant.stepped in
     let same = c.loop-index.invariant.same in
@@ -75,7 +75,7 @@ way_with-requires-clause-parents c =
     (base_grows s c.loop-index.machine c.loop-index.all c.visit.new.all same c.in_ok-found.ensures.grows) c.in_ok-found.ensures.new
 
 pub returns-in-Fails : goal.returns-in-Fails
-returns-in-Fails c =
+returns-in-Fails g c =
     let s = c.args.machine.now in
     let call = c.in-Fails.call in
     let (first, initial, are) = c.loop-index.invariant.stepped in
@@ -87,7 +87,7 @@ returns-in-Fails c =
     (base_grows s c.loop-index.machine c.loop-index.all c.visit.new.all same c.in_ok-found.ensures.grows) c.in_ok-found.ensures.new call bad c.in_ok-moves-in-Fails.moves c.in_ok-moves-in-Fails.ensures
 
 pub loop-index-preserved : goal.loop-index-preserved
-loop-index-preserved c =
+loop-index-preserved g c =
     let dead = c.args.given.dead.now in
     let rounds = c.args.given.rounds in
     let rows = c.args.given.table.now in

@@ -8,7 +8,7 @@ use Rattle.lu_cli.specs.Unrolled.{IsVerdictOn}
 use Rattle.lu_cli.proofs.at_once.certify_at_once.Goals as goal
 
 pub returns-then-member_count-gt-MOST_LISTED : goal.returns-then-member_count-gt-MOST_LISTED
-returns-then-member_count-gt-MOST_LISTED c =
+returns-then-member_count-gt-MOST_LISTED g c =
     let component = c.args.test.component.now in
     let matrix = c.args.test.matrix.now in
     let there = start_there component matrix c.args.test.can_run.settles in
@@ -30,7 +30,7 @@ returns-then-member_count-gt-MOST_LISTED c =
       subst (λ (asked : CertifyOptions). IsVerdictOn component matrix asked (UpTo 1) c.in_ok-answer.answer) c.in_one_search.ensures c.in_ok-answer.ensures,
     )
 
-pub certify_listed-requires : goal.certify_listed-requires
-certify_listed-requires c = λ s start.
+pub certify_listed-requires-clause-set : goal.certify_listed-requires-clause-set
+certify_listed-requires-clause-set g c = λ s start.
     (let set = c.in-Ok.ensures.set s c.serial.result (c.in_ok-learnt.ensures.learnt s start) in
     subst (λ n. IsSetOf s n (members_of c.in-Ok.graph)) c.serial.ensures.serial set)

@@ -4,7 +4,7 @@ use Rattle.lu_forever.specs.Certified.{IsRoundsVerdict}
 use Rattle.lu_cli.proofs.at_once.certify_listed.Goals as goal
 
 pub returns-in-Linearizable : goal.returns-in-Linearizable
-returns-in-Linearizable c =
+returns-in-Linearizable g c =
     let component = c.args.test.component.now in
     let matrix = c.args.test.matrix.now in
     let found = subst (IsRoundsVerdict component One matrix c.serial-serial.result) c.in-Linearizable.is c.in_ok-certify_rounds.ensures in

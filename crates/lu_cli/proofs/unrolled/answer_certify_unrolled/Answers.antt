@@ -7,14 +7,14 @@ use Rattle.lu_cli.proofs.Refuted.{texts_answered, texts_refused}
 use Rattle.lu_cli.proofs.unrolled.answer_certify_unrolled.Goals as goal
 
 pub returns-in_err-case : goal.returns-in_err-case
-returns-in_err-case c =
+returns-in_err-case g c =
     let p = c.in_ok-component in
     let refused = err_from_is_err_and c.from_residual-in_err-case.result c.from_residual-in_err-case.ensures.1 in
     let parts : exactly_two (texts c.args.parts.now) ≡ Some (p.component.now, p.matrix.now) = search rules in
     rw (refused.1, refused.2, parts) (texts_refused p.component.now p.matrix.now c.in_err-case.field-0.0 (λ d m a. IsCertifiedUnrolled d m c.args.asked c.args.repetition a) c.in_err-case.ensures.fault)
 
 pub returns : goal.returns
-returns c =
+returns g c =
     let p = c.in_ok-component in
     let read = c.in_ok-case in
     let parts : exactly_two (texts c.args.parts.now) ≡ Some (p.component.now, p.matrix.now) = search rules in

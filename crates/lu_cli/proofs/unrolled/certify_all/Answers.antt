@@ -3,7 +3,7 @@ use Rattle.lu_cli.specs.Unrolled.{IsVerdictOn, ShowsVerdict}
 use Rattle.lu_cli.proofs.unrolled.certify_all.Goals as goal
 
 pub returns : goal.returns
-returns c =
+returns g c =
     let component = c.args.test.component.now in
     let matrix = c.args.test.matrix.now in
     let asked = c.args.asked in

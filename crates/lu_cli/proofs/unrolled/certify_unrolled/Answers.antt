@@ -9,14 +9,14 @@ use Rattle.lu_cli.specs.Unrolled.{IsCertifiedUnrolled, IsVerdictOn}
 use Rattle.lu_cli.proofs.unrolled.certify_unrolled.Goals as goal
 
 pub returns-in-Forever : goal.returns-in-Forever
-returns-in-Forever c =
+returns-in-Forever g c =
     let component = c.args.test.component.now in
     let matrix = c.args.test.matrix.now in
     let is = subst (λ (r : Repetition). IfOk c.certify_all.result (IsVerdictOn component matrix c.args.asked r)) c.in-Forever.is c.certify_all.ensures in
     subst (λ (r : Repetition). IfOk c.certify_all.result (λ answer. IsCertifiedUnrolled component matrix c.args.asked r answer)) (sym c.in-Forever.is) is
 
 pub returns-in-Some : goal.returns-in-Some
-returns-in-Some c =
+returns-in-Some g c =
     let component = c.args.test.component.now in
     let matrix = c.args.test.matrix.now in
     let n = c.in-UpTo.many in
