@@ -268,13 +268,13 @@ fn search_from<P: Progress>(
 {
     let mut exits = Vec::new(given.alloc);
     for index in 0..budget.most {
+        show(budget.progress, index, all);
         if index >= all.len() {
             let Some(moves) = way_to_livelock(given.alloc, all, exits.as_slice())? else {
                 return Ok(Verdict::AlwaysLinearizable);
             };
             return Ok(Verdict::Livelock(moves));
         }
-        show(budget.progress, index, all);
         match visit(given, machine, guards, index, all)? {
             Visited::Exits(found) => exits.push(found)?,
             Visited::Fails(call) => {

@@ -151,8 +151,8 @@ impl<'a, R: Clock + Eprint> Terminal<'a, R> {
         let found = self.found.load(Ordering::Relaxed);
         if found > 0 {
             drop(eprint!(self.rt; "{found} states found, "));
-            if self.parts.load(Ordering::Relaxed) == 0 {
-                let left = found.saturating_sub(self.looked_at.load(Ordering::Relaxed));
+            let left = found.saturating_sub(self.looked_at.load(Ordering::Relaxed));
+            if self.parts.load(Ordering::Relaxed) == 0 && left > 0 {
                 drop(eprint!(self.rt; "{left} still to be looked at, "));
             }
         }
