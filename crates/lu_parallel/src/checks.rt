@@ -61,8 +61,9 @@ where
         depth,
     )?;
     let workers = u64::from(check.options.workers());
-    check.gate.begin(pieces.len() as u64);
-    let (board, seats) = Board::new(space.alloc, pieces.len() as u64, workers)?;
+    let count = pieces.len() as u64;
+    check.gate.begin(count);
+    let (board, seats) = Board::new(space.alloc, count, workers)?;
     let job = Job {
         space,
         tree,

@@ -6,11 +6,9 @@ use lu_tree::Watch;
 /// How many schedules a search judges between two looks of its watch.
 const SCHEDULES_A_LOOK: u64 = 64;
 
-/// Tells the gate how many schedules are judged in this many looks.
-pub(crate) fn tell<G: Gate>(gate: &G, looks: u64) {
-    if looks > 0 {
-        gate.judge(looks.saturating_mul(SCHEDULES_A_LOOK));
-    }
+/// How many schedules a search judges in this many looks.
+pub(crate) fn schedules_in(looks: u64) -> u64 {
+    looks.saturating_mul(SCHEDULES_A_LOOK)
 }
 
 /// A watch that never stops.
@@ -29,7 +27,7 @@ impl<'g, G: Gate> Watch for Counting<'g, G> {
     ghost is_stopped = { λ _. false };
 
     fn stop(&mut self) -> bool {
-        tell(self.gate, 1);
+        self.gate.judge(schedules_in(1));
         false
     }
 
@@ -38,7 +36,7 @@ impl<'g, G: Gate> Watch for Counting<'g, G> {
     }
 
     fn stop_within(&mut self, times: u64) -> bool {
-        tell(self.gate, times);
+        self.gate.judge(schedules_in(times));
         false
     }
 }

@@ -2,7 +2,7 @@
 
 ghost use Rattle.std.specs.Prelude.{◌≡◌, ◌<◌};
 
-use crate::counting::tell;
+use crate::counting::schedules_in;
 use crate::gate::Gate;
 use lu_tree::Watch;
 
@@ -35,7 +35,7 @@ impl<'g, G: Gate> Watch for HeadStart<'g, G> {
     ghost is_stopped = { λ w. nat_eq w.left 0 };
 
     fn stop(&mut self) -> bool {
-        tell(self.gate, 1);
+        self.gate.judge(schedules_in(1));
         self.left = self.left.saturating_sub(1);
         self.left == 0
     }
@@ -46,7 +46,7 @@ impl<'g, G: Gate> Watch for HeadStart<'g, G> {
 
     /// However many schedules are counted together, it is one look.
     fn stop_within(&mut self, times: u64) -> bool {
-        tell(self.gate, times.saturating_sub(1));
+        self.gate.judge(schedules_in(times.saturating_sub(1)));
         times > 0 && self.stop()
     }
 }

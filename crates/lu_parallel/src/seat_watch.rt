@@ -4,7 +4,7 @@ ghost use Rattle.std.specs.Prelude.{◌≡◌, ◌∷◌, [], true, false};
 ghost use Rattle.lu_board.specs.Pieces.{is_in};
 ghost use Rattle.lu_parallel.specs.Watches.{held_piece, rest_of};
 
-use crate::counting::tell;
+use crate::counting::schedules_in;
 use crate::gate::Gate;
 use lu_board::view::View;
 use lu_board::{Board, Look, Seat};
@@ -79,7 +79,7 @@ impl<'b, G: Gate> Watch for SeatWatch<'b, G> {
     ghost is_stopped = { λ w. w.stopped };
 
     fn stop(&mut self) -> bool {
-        tell(self.gate, 1);
+        self.gate.judge(schedules_in(1));
         match self.board.look(&mut self.seat, self.piece) {
             Look::Skip(_) => {
                 self.stopped = true;
@@ -95,7 +95,7 @@ impl<'b, G: Gate> Watch for SeatWatch<'b, G> {
 
     /// One look at the board tells as much as many in a row.
     fn stop_within(&mut self, times: u64) -> bool {
-        tell(self.gate, times.saturating_sub(1));
+        self.gate.judge(schedules_in(times.saturating_sub(1)));
         times > 0 && self.stop()
     }
 }

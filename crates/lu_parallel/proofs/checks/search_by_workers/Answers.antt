@@ -20,7 +20,7 @@ new-requires-clause-pieces g c =
     let start = start_there c.args.check.now.space.test.component.now c.args.check.now.space.test.matrix.now c.args.check.now.space.test.can_run.settles in
     let few = (c.in_ok-pieces.ensures.frontier start.0 start.1).few in
     let long = c.in_ok-pieces.pieces.ok.0 in
-    let is = c.len.ensures in
+    let is = c.len-count.ensures in
     omega (arith, few, long, is)
 
 pub run_workers-requires-clause-job : goal.run_workers-requires-clause-job
@@ -30,7 +30,7 @@ run_workers-requires-clause-job g c κs within = record {
   schedules = λ s is.
       subst (λ (pieces : List (List Move)). All (IsPiece s c.args.check.now.space.bound) pieces) (sym c.deref.ensures.value)
       (frontier_pieces s c.args.check.now.space.bound c.depth-depth.result c.in_ok-pieces.pieces.items (c.in_ok-pieces.ensures.frontier s is));
-  numbered = c.in_ok-board.ensures.board.0 ∙ (c.len.ensures ∙ sym c.deref.ensures.len);
+  numbered = c.in_ok-board.ensures.board.0 ∙ (c.len-count.ensures ∙ sym c.deref.ensures.len);
 }
 
 pub unwrap-requires : goal.unwrap-requires
@@ -46,7 +46,7 @@ returns-in-Some-clause-found g c = λ s is.
     let works = c.in_ok-works.works.items in
     let found = c.in-Some.found in
     let cover = subst (λ (x : List (List Move)). IsCover s bound x) (sym c.deref.ensures.value) (c.in_ok-pieces.ensures.cover s is) in
-    let long : c.in_ok-board.board.pieces ≡ length pieces = c.in_ok-board.ensures.board.0 ∙ (c.len.ensures ∙ sym c.deref.ensures.len) in
+    let long : c.in_ok-board.board.pieces ≡ length pieces = c.in_ok-board.ensures.board.0 ∙ (c.len-count.ensures ∙ sym c.deref.ensures.len) in
     let shares = subst (λ n. SharesOut n (seats_of works)) long c.in_ok-found.ensures.pieces in
     let conclusion : IsConclusion works (Some found) = rw c.in-Some.is at c.in_ok-found.ensures.conclusion in
     let over : AreWorksOver members s bound works = record {

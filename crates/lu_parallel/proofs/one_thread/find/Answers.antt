@@ -6,7 +6,7 @@ use Rattle.lu_parallel.proofs.Answers.{against_serially}
 use Rattle.lu_parallel.proofs.one_thread.find.Goals as goal
 
 pub search_all-requires-clause-few : goal.search_all-requires-clause-few
-search_all-requires-clause-few g c = c.requires.few
+search_all-requires-clause-few g c κs within = c.requires.few
 
 pub returns-in-Ok-clause-found : goal.returns-in-Ok-clause-found
 returns-in-Ok-clause-found g c = λ s is.
