@@ -71,9 +71,9 @@ use Rattle.lu_cli.specs.Worded.{IsWordingOf}
 use Rattle.lu_cli.specs.declared.explanation.Presentation.{Presentation}
 use Rattle.lu_cli.specs.declared.explanation.Presenting.{Presenting}
 use Rattle.lu_cli.specs.declared.explanation.Presentation.TheVariants.{Words, Picture}
-use Rattle.lu_explain.specs.Explanations.{Explanation}
+use Rattle.lu_picture.specs.Pictures.{Why, nothing_said}
 use Rattle.lu_lint.specs.Said.{have_fault}
-use Rattle.lu_cli.specs.Pictures.{IsDrawnExplained}
+use Rattle.lu_cli.specs.Pictures.{IsDrawnWhy}
 use Rattle.lu_cli.specs.declared.explanation.Target.{Target}
 use Rattle.lu_cli.specs.declared.explanation.Target.TheVariants as target
 use Rattle.lu_cli.specs.Explain.{IsAnswerToExplainAgainst, IsExplainAfter, IsAnswerToExplain, IsExplainedAgainstText, IsExplainedText, ToTarget, is_report, limits_for, view_of}
@@ -202,7 +202,7 @@ traced_else : (start : Tracing) (how : Wording) (c : Component) (m : Matrix) (u 
 traced_else start how c m u answer (inl is) = status_else answer 0 (ap (λ (a : Answer). a.status) is.2) (λ e. omega arith)
 traced_else start how c m u answer (inr is) = status_else answer 1 (ap (λ (a : Answer). a.status) is.2) (λ e. omega arith)
 
-drawn_else : (how : Wording) (why : Option Explanation) (c : Component) (m : Matrix) (u : List Move) (answer : Answer) → IsDrawnExplained how why c m u answer → IsElse answer
+drawn_else : (how : Wording) (why : Why) (c : Component) (m : Matrix) (u : List Move) (answer : Answer) → IsDrawnWhy how why c m u answer → IsElse answer
 drawn_else how why c m u answer (inl is) = status_else answer 0 (ap (λ (a : Answer). a.status) is.2) (λ e. omega arith)
 drawn_else how why c m u answer (inr is) = status_else answer 1 (ap (λ (a : Answer). a.status) is.2) (λ e. omega arith)
 
@@ -419,7 +419,7 @@ ended_else Complete IsRunning IsEnded answer runs ended is = ended is
 ended_else Stuck IsRunning IsEnded answer runs ended is = ended is
 
 pictured_else : (how : Wording) (members : List (List SerialOp)) (c : Component) (m : Matrix) (u : List Move) (h : List Event) (answer : Answer) → IsPicturedHistory how members c m u h answer → IsElse answer
-pictured_else how members c m u h answer (e, shown, is) = drawn_else how (Some e) c m u answer is
+pictured_else how members c m u h answer (why, shown, is) = drawn_else how why c m u answer is
 
 presented_as_else : (by : Presentation) (how : Wording) (members : List (List SerialOp)) (c : Component) (m : Matrix) (u : List Move) (h : List Event) (answer : Answer) → IsPresentedAs by how members c m u h answer → IsElse answer
 presented_as_else Words how members c m u h answer is = by_else members c m u h answer is
@@ -665,7 +665,7 @@ compile_else (source ∷ parts) answer is =
 -- a run that is shown
 run_view_else : (view : RunView) (how : Wording) (c : Component) (m : Matrix) (u : List Move) (answer : Answer) → IsRunShown view how c m u answer → IsElse answer
 run_view_else (run.Trace start) how c m u answer is = traced_else start how c m u answer is
-run_view_else run.Picture how c m u answer is = drawn_else how None c m u answer is
+run_view_else run.Picture how c m u answer is = drawn_else how nothing_said c m u answer is
 
 view_else : (shown : RunView) (parts : List (List ℕ)) (answer : Answer) → IsAnswerToTraceOrDraw shown parts answer → IsElse answer
 view_else shown parts answer is = alone_or_else (view_of_failure shown) (IsShownAfter shown) parts answer (λ after. after_else parts (IsRunShown shown) answer (λ how c m u more. run_view_else shown how c m u answer more) after) is

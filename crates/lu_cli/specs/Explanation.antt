@@ -1,5 +1,5 @@
 -- How a schedule is explained, by serial histories: in words, or by marks in its picture.
-use Rattle.std.specs.Prelude.{◌≡◌, ◌⊎◌, ℕ, ◌<◌, true, false, List, ◌++◌, codes, Some, String, [], Result, IfOk, MatchResult}
+use Rattle.std.specs.Prelude.{◌≡◌, ◌⊎◌, ℕ, ◌<◌, true, false, List, ◌++◌, codes, Option, Some, None, MatchBool, String, [], Result, IfOk, MatchResult}
 use Rattle.lu_component.specs.Component.{Component}
 use Rattle.lu_test.specs.declared.schedule.Move.{Move}
 use Rattle.lu_test.specs.ScheduleText.{schedule_text}
@@ -32,10 +32,12 @@ use Rattle.lu_machine.specs.declared.event.Status.TheVariants.{Running, Complete
 use Rattle.lu_explain.specs.Blocks.{IsTextFor, run_of}
 use Rattle.lu_explain.specs.EventMoves.{AreEventMoves}
 use Rattle.lu_diagnosis.specs.NextSteps.{IsNextSteps, IsNextStepsText}
-use Rattle.lu_diagnosis.specs.Sentences.{IsWhatHappened}
+use Rattle.lu_explain.specs.declared.orders.Precedence.{Precedence}
+use Rattle.lu_diagnosis.specs.Sentences.{IsBroken, IsWhatHappened}
 use Rattle.lu_diagnosis.specs.SerialRuns.{EndsSerially, IsHistoryOf, conflict_text}
 use Rattle.lu_cli.specs.Outcomes.{Answer, infeasible}
-use Rattle.lu_cli.specs.Pictures.{IsDrawnExplained}
+use Rattle.lu_picture.specs.Pictures.{Why}
+use Rattle.lu_cli.specs.Pictures.{IsDrawnWhy}
 use Rattle.lu_cli.specs.declared.explanation.Presentation.{Presentation}
 use Rattle.lu_cli.specs.declared.explanation.Presentation.TheVariants.{Words, Picture}
 use Rattle.lu_cli.specs.declared.explanation.Presenting.{Presenting}
@@ -57,14 +59,26 @@ IsShownThread Good h t = IsLeastPending h t
 IsShownThread NoWitness h t = IsLeastPending h t
 IsShownThread (NoWitnessFor u) h t = t ≡ u
 
--- the explanation by these serial histories, without the pending calls of other threads
-pub record IsShownExplanation (members : List (List SerialOp)) (h : List Event)
-    (e : Explanation) : Type 0 where
-  pub verdict : Verdict
-  pub judged : IsVerdict (IsMember members) h verdict
-  pub thread : ℕ
-  pub shown : IsShownThread verdict h thread
-  pub explains : IsExplanation (IsMember members) (keep_pending thread h) e
+-- the history without the pending calls of other threads
+abbrev pub IsShownPart : List (List SerialOp) → List Event → List Event → Type 0
+IsShownPart members h part =
+    (verdict : Verdict) × (thread : ℕ) × IsVerdict (IsMember members) h verdict
+    × IsShownThread verdict h thread × (part ≡ keep_pending thread h)
+
+-- the precedence that is broken, if that has no witness
+abbrev pub IsShownBroken : List (List SerialOp) → List Event → Explanation → Option Precedence
+    → Type 0
+IsShownBroken members part e broken =
+    MatchBool e.witnessed (broken ≡ None) (IsBroken (IsMember members) part broken)
+
+-- why that fails, by these serial histories
+pub record IsShownWhy (members : List (List SerialOp)) (h : List Event) (why : Why) : Type 0 where
+  pub part : List Event
+  pub shown : IsShownPart members h part
+  pub explanation : Explanation
+  pub explains : IsExplanation (IsMember members) part explanation
+  pub breaks : IsShownBroken members part explanation why.broken
+  pub is : why.explanation ≡ Some explanation
 
 -- ---- what is explained, and what is not
 
@@ -121,7 +135,7 @@ pub record IsExplainedHistory (members : List (List SerialOp)) (c : Component) (
 abbrev pub IsPicturedHistory : Wording → List (List SerialOp) → Component → Matrix → List Move
     → List Event → Answer → Type 0
 IsPicturedHistory how members c m u h answer =
-    (e : Explanation) × IsShownExplanation members h e × IsDrawnExplained how (Some e) c m u answer
+    (why : Why) × IsShownWhy members h why × IsDrawnWhy how why c m u answer
 
 -- by an explanation, or as a picture in these words
 abbrev pub IsPresentedAs : Presentation → Wording → List (List SerialOp) → Component → Matrix

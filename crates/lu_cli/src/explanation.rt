@@ -8,14 +8,19 @@ ghost use Rattle.lu_test.specs.declared.matrix.TheConstants.{MOST_THREADS};
 ghost use Rattle.lu_cli.specs.Failing.{ExplainsFindingSerially};
 ghost use Rattle.lu_cli.specs.Trace.{RefusesTrace};
 ghost use Rattle.lu_cli.specs.Explanation as spec;
-ghost use Rattle.lu_cli.specs.Explanation.{EndsSeriallyIn, ExplainsFinding, ExplainsRun, ExplainsSchedule, ExplainsSerially, ExplainsTarget, IsLeastPending, IsPlayed, IsShownExplanation, IsShownThread, LearnsOrSays, PicturesRun, Presents, TellsConflict, TellsNext, WritesNext};
+ghost use Rattle.lu_cli.specs.Explanation.{EndsSeriallyIn, ExplainsFinding, ExplainsRun, ExplainsSchedule, ExplainsSerially, ExplainsTarget, IsLeastPending, IsPlayed, IsShownBroken, IsShownPart, IsShownThread, LearnsOrSays, PicturesRun, Presents, TellsConflict, TellsNext, WritesNext};
 
 use crate::answer::{Answer, infeasible};
-use crate::pictures::draw;
-use lu_diagnosis::{serial_history, write_conflict, write_next_steps, write_what_happened};
-use lu_explain::{Explanation, event_moves, explain as explain_history, write_explanations};
+use crate::pictures::draw_why;
+use lu_diagnosis::{
+    broken_precedence, serial_history, write_conflict, write_next_steps, write_what_happened,
+};
+use lu_explain::{
+    Explanation, Precedence, event_moves, explain as explain_history, write_explanations,
+};
 use lu_history::{History, HistoryFault, SerialOutcome};
 use lu_machine::{Status, Test};
+use lu_picture::Diagnosis;
 use lu_replay::{Replay, ReplayFault, replay};
 use lu_report::{Bounds, Finding, MOST_MOVES, Report};
 use lu_serial_graph::{LearntGraph, SerialGraph, learn_graph};
@@ -215,14 +220,29 @@ fn thread_shown(verdict: Verdict, history: &History) -> u8
     }
 }
 
-/// The explanation that a picture of the history shows.
-fn explanation_shown<T: SerialTree>(tree: &T, history: &History) -> Result<Explanation, AllocError>
-    ensures { IfOk result (λ e. IsShownExplanation (T.members tree.now) history.now e) }
+/// The history without the pending calls that its picture does not explain.
+fn part_shown<T: SerialTree>(tree: &T, history: &History) -> Result<History, AllocError>
+    ensures { IfOk result (IsShownPart (T.members tree.now) history.now) }
 {
     let thread = thread_shown(verdict(tree, history), history);
     match history.keep_pending(thread) {
-        Ok(part) => Ok(explain_history(tree, &part)),
+        Ok(part) => Ok(part),
         Err(HistoryFault::Memory) => Err(AllocError),
+    }
+}
+
+/// The precedence that is broken, if the history has no witness.
+fn broken_shown<T: SerialTree>(
+    tree: &T,
+    part: &History,
+    explanation: &Explanation,
+) -> Option<Precedence>
+    ensures { IsShownBroken (T.members tree.now) part.now explanation.now result }
+{
+    if explanation.is_witnessed() {
+        None
+    } else {
+        broken_precedence(tree, part)
     }
 }
 
@@ -237,8 +257,13 @@ fn picture_by<T: SerialTree>(
     ensures { PicturesRun how.entry T.members tree.now test.entry run.entry result }
 {
     let ShownSchedule { schedule, shown } = run;
-    let explanation = explanation_shown(tree, &shown.history)?;
-    draw(alloc, how, test, schedule, Some(&explanation))
+    let part = part_shown(tree, &shown.history)?;
+    let explanation = explain_history(tree, &part);
+    let why = Diagnosis {
+        explanation: Some(&explanation),
+        broken: broken_shown(tree, &part, &explanation),
+    };
+    draw_why(alloc, how, test, schedule, why)
 }
 
 /// The history of an ended schedule, explained in words or in a picture.

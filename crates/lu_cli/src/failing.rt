@@ -105,7 +105,7 @@ fn show_run(
             Ok(failure(below(text, &steps)?))
         }
         View::Picture | View::ExplainedPicture => {
-            let picture = draw(alloc, how, test, schedule, None)?;
+            let picture = draw(alloc, how, test, schedule)?;
             Ok(failure(picture.text))
         }
     }

@@ -198,8 +198,10 @@ fn write_sentence(
     }
 }
 
-/// The first precedence that the least order of the calls with these outcomes breaks.
-fn broken_precedence<T: SerialTree>(tree: &T, history: &History) -> Option<Precedence>
+/// The first precedence that the least order of the calls with these outcomes breaks; `None` where no
+/// order has them. The sentence about a history without a witness names it
+/// ([`write_what_happened`]).
+pub fn broken_precedence<T: SerialTree>(tree: &T, history: &History) -> Option<Precedence>
     ensures { TellsBroken (T.members tree.now) history.now result }
 {
     match any_order(tree, history) {
