@@ -20,7 +20,8 @@ fn write_returned(text: &mut String, machine: &Machine<'_>, op: OpId) -> Result<
 {
     write!(text, "T{} ", op.t)?;
     write_call(text, machine, op.t, op.k)?;
-    text.push_str(" had returned")
+    text.push_str(" had returned")?;
+    Ok(())
 }
 
 /// Where words with this many letters end that stand right of all columns.

@@ -12,4 +12,4 @@ returns c =
     let two = string_bytes c.write_in_column.new.text in
     let first : one ≡ old ++ title = search rules in
     let second : two ≡ one ++ shown = search rules in
-    three_pieces title shown (codes "</g>\n") old one two (string_bytes c.push_str.new.self) first second c.push_str.ensures.bytes
+    three_pieces title shown (codes "</g>\n") old one two (string_bytes c.push_str.new.self) first second c.in_ok-push_str.ensures.bytes
