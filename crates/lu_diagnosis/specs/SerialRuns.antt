@@ -1,5 +1,5 @@
 -- Two serial runs that make the same calls and differ in the outcome of the last.
-use Rattle.std.specs.Prelude.{◌≡◌, ℕ, Bool, true, false, ◌++◌, List, [], ◌∷◌, take, length, codes, Option, Some, None, MatchOption, slice_get, Result, IfOk, String, Vec}
+use Rattle.std.specs.Prelude.{ℕ, Bool, true, false, ◌++◌, List, [], ◌∷◌, take, length, codes, Option, Some, None, MatchOption, slice_get, Result, IfOk, String, Vec}
 use Rattle.std.specs.Option.{option_map_or}
 use Rattle.std.specs.Fmt.{decimal}
 use Rattle.lu_text.specs.Writing.{Writes}
