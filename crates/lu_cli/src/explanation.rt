@@ -117,7 +117,7 @@ fn say_conflict(
     before: usize,
     earlier: SerialOutcome,
 ) -> Result<Answer, AllocError>
-    requires ended { EndsSeriallyIn test schedule.now }
+    requires { EndsSeriallyIn test schedule.now }
     ensures { TellsConflict test.entry schedule.now before earlier result }
 {
     let Test { component, matrix } = test;

@@ -17,8 +17,8 @@ returns-in_ok-say_with-in-Cut c =
     let offends : IsOffenceOf c.args.test.component.now c.args.test.matrix.now c.args.serial found = (tt, λ bound s start. subst (IsLearntGraph s c.args.serial) c.in-Cut.is (c.in_ok-graph.ensures.learnt s start)) in
     (found, offends, c.in_ok-say_with-in-Cut.ensures)
 
-pub say_conflict-requires-clause-ended : goal.say_conflict-requires-clause-ended
-say_conflict-requires-clause-ended c = λ s start.
+pub say_conflict-requires : goal.say_conflict-requires
+say_conflict-requires c = λ s start.
     let conflict : IsFirstConflict s c.args.serial c.in-Conflict.schedule c.in-Conflict.before c.in-Conflict.earlier = subst (IsLearntGraph s c.args.serial) c.in-Conflict.is (c.in_ok-graph.ensures.learnt s start) in
     (conflict.1.history, conflict.1.ended)
 

@@ -1,6 +1,6 @@
-use Rattle.std.proofs.Common.{◌≡◌, List, ℕ, string_bytes, subst}
+use Rattle.std.proofs.Common.{List, ℕ, string_bytes, subst}
 use Rattle.std.proofs.lemmas.Result.{IfOk-weaker}
-use Rattle.lu_cli.specs.Failing.{ShowsRun, below}
+use Rattle.lu_cli.specs.Failing.{ShowsRun}
 use Rattle.lu_cli.specs.declared.failing.View.{View}
 use Rattle.lu_cli.specs.declared.failing.View.TheVariants.{Explanation}
 use Rattle.lu_cli.proofs.failing.show_livelock.Goals as goal
