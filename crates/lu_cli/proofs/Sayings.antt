@@ -26,6 +26,7 @@ use Rattle.lu_witness.specs.declared.judgement.Verdict.{Verdict}
 use Rattle.lu_witness.specs.declared.judgement.Verdict.TheVariants.{Good, NoWitness, NoWitnessFor}
 use Rattle.lu_test.specs.Matrix.{Matrix}
 use Rattle.lu_history.specs.declared.serial.SerialOp.{SerialOp}
+use Rattle.lu_history.specs.declared.serial.SerialOutcome.{SerialOutcome}
 use Rattle.lu_report.specs.declared.report.Finding.{Finding}
 use Rattle.lu_report.specs.declared.report.Finding.TheVariants.{SerialCut, Nondeterministic, Fail, Pass}
 use Rattle.lu_report.specs.Codes.{report_code_of}
@@ -51,7 +52,7 @@ use Rattle.lu_cli.specs.declared.request.CampaignTrial.TheVariants.{Checked, Cer
 use Rattle.lu_cli.specs.declared.failing.View.{View}
 use Rattle.lu_cli.specs.declared.failing.View.TheVariants as view
 use Rattle.lu_cli.specs.Args.{most_long}
-use Rattle.lu_cli.specs.Failing.{AloneOr, IsShownAlone, ShowsByView, ShowsFailing, ShowsRun, below, failure, in_words, view_of_failure}
+use Rattle.lu_cli.specs.Failing.{AloneOr, IsShownAlone, ShowsByView, ShowsFailing, ShowsLivelock, ShowsRun, below, failure, in_words, view_of_failure}
 use Rattle.lu_cli.specs.Shown.{IsRunShown, IsAnswerToTraceOrDraw, IsShownAfter, ToShown, or_schedule, shown_parts}
 use Rattle.lu_cli.specs.declared.request.CampaignPart.{CampaignPart}
 use Rattle.lu_cli.specs.declared.request.CampaignPart.TheVariants.{Whole, Slice, Count}
@@ -70,13 +71,14 @@ use Rattle.lu_cli.specs.Worded.{IsWordingOf}
 use Rattle.lu_cli.specs.declared.explanation.Presentation.{Presentation}
 use Rattle.lu_cli.specs.declared.explanation.Presenting.{Presenting}
 use Rattle.lu_cli.specs.declared.explanation.Presentation.TheVariants.{Words, Picture}
-use Rattle.lu_explain.specs.Explanations.{Explanation}
+use Rattle.lu_picture.specs.Pictures.{Why, nothing_said}
 use Rattle.lu_lint.specs.Said.{have_fault}
-use Rattle.lu_cli.specs.Pictures.{IsDrawnExplained}
+use Rattle.lu_cli.specs.Pictures.{IsDrawnWhy}
 use Rattle.lu_cli.specs.declared.explanation.Target.{Target}
 use Rattle.lu_cli.specs.declared.explanation.Target.TheVariants as target
 use Rattle.lu_cli.specs.Explain.{IsAnswerToExplainAgainst, IsExplainAfter, IsAnswerToExplain, IsExplainedAgainstText, IsExplainedText, ToTarget, is_report, limits_for, view_of}
-use Rattle.lu_cli.specs.Explanation.{difference, IsExplainedTarget, IsExplainedHistory, IsExplainedSchedule, IsExplainedSerially, IsPicturedHistory, IsPresentedAs, IsPresentedHistory, ToEnded, ToFinding, status_by, unexplained}
+use Rattle.lu_diagnosis.specs.SerialRuns.{conflict_text}
+use Rattle.lu_cli.specs.Explanation.{difference, IsExplainedTarget, IsExplainedHistory, IsExplainedSchedule, IsExplainedSerially, IsPicturedHistory, IsPresentedAs, IsPresentedHistory, SaysConflict, SaysFound, SaysNext, ToEnded, ToFinding, status_by, unexplained}
 use Rattle.lu_recorded.specs.declared.recorded.Recorded.{Recorded}
 use Rattle.lu_recorded.specs.Codes.{recorded_code_of}
 use Rattle.lu_run.specs.Codes.{run_code_of}
@@ -200,7 +202,7 @@ traced_else : (start : Tracing) (how : Wording) (c : Component) (m : Matrix) (u 
 traced_else start how c m u answer (inl is) = status_else answer 0 (ap (λ (a : Answer). a.status) is.2) (λ e. omega arith)
 traced_else start how c m u answer (inr is) = status_else answer 1 (ap (λ (a : Answer). a.status) is.2) (λ e. omega arith)
 
-drawn_else : (how : Wording) (why : Option Explanation) (c : Component) (m : Matrix) (u : List Move) (answer : Answer) → IsDrawnExplained how why c m u answer → IsElse answer
+drawn_else : (how : Wording) (why : Why) (c : Component) (m : Matrix) (u : List Move) (answer : Answer) → IsDrawnWhy how why c m u answer → IsElse answer
 drawn_else how why c m u answer (inl is) = status_else answer 0 (ap (λ (a : Answer). a.status) is.2) (λ e. omega arith)
 drawn_else how why c m u answer (inr is) = status_else answer 1 (ap (λ (a : Answer). a.status) is.2) (λ e. omega arith)
 
@@ -243,6 +245,19 @@ run_else (view.Trace start) how c cut u text answer (steps, made, is) = failure_
 run_else view.Picture how c cut u text answer (picture, made, is) = failure_else answer picture.text is
 run_else view.ExplainedPicture how c cut u text answer (picture, made, is) = failure_else answer picture.text is
 
+unexplained_else : (why schedule : List ℕ) (answer : Answer) → answer ≡ unexplained why schedule → IsElse answer
+unexplained_else why schedule answer is = status_else answer 1 (ap (λ (a : Answer). a.status) is) (λ e. omega arith)
+
+next_else : (why : List ℕ) (how : Wording) (c : Component) (m : Matrix) (u : List Move) (answer : Answer) → SaysNext why how c m u answer → IsElse answer
+next_else why how c m u answer (inl is) = unexplained_else why (codes "next\n" ++ is.0) answer is.2
+next_else why how c m u answer (inr is) = status_else answer 1 (ap (λ (a : Answer). a.status) is.2) (λ e. omega arith)
+
+livelock_else : (view : View) (how : Wording) (c : Component) (cut : Matrix) (u : List Move) (text : List ℕ) (answer : Answer) → ShowsLivelock view how c cut u text answer → IsElse answer
+livelock_else view.Explanation how c cut u text answer (why, says, is) = run_else view.Explanation how c cut u (below text why) answer is
+livelock_else (view.Trace start) how c cut u text answer is = run_else (view.Trace start) how c cut u text answer is
+livelock_else view.Picture how c cut u text answer is = run_else view.Picture how c cut u text answer is
+livelock_else view.ExplainedPicture how c cut u text answer is = run_else view.ExplainedPicture how c cut u text answer is
+
 failing_else : (view : View) (how : Wording) (c : Component) (cut : Matrix) (r : Report) (u : List Move) (answer : Answer) → ShowsFailing view how c cut r u answer → IsElse answer
 failing_else view.Explanation how c cut r u answer (why, explains, is) = run_else view.Explanation how c cut u (below (two_texts c cut r) why) answer is
 failing_else view.ExplainedPicture how c cut r u answer (picture, explains, is) = failure_else answer picture.text is
@@ -252,7 +267,7 @@ failing_else view.Picture how c cut r u answer is = run_else view.Picture how c 
 by_view_else : (view : View) (how : Wording) (c : Component) (certificate : Certificate) (answer : Answer) → ShowsByView view how c certificate answer → IsElse answer
 by_view_else view how c (Linearizable members) answer is = shown_else c (Linearizable members) answer is
 by_view_else view how c (Undecided cut r) answer is = shown_else c (Undecided cut r) answer is
-by_view_else view how c (Livelock cut u) answer is = run_else view how c cut u (with_schedule c (cut, u)).text answer is
+by_view_else view how c (Livelock cut u) answer is = livelock_else view how c cut u (with_schedule c (cut, u)).text answer is
 by_view_else view how c (NotLinearizable cut r) answer is = go (shown_schedule r.finding) is
   where
     go : (found : Option (List Move)) → MatchOption found (ShowsCertificate c (NotLinearizable cut r) answer) (λ u. ShowsFailing view how c cut r u answer) → IsElse answer
@@ -383,24 +398,28 @@ four_else parts answer is =
     parts_else (exactly_four parts) (λ p. ToTexts p.0 p.1 (λ c m. IsRefutedTexts c m p.2 p.3)) answer
     (λ p more. texts_else p.0 p.1 (λ c m. IsRefutedTexts c m p.2 p.3) answer (λ c m from. refute_else c m p.2 p.3 answer from) more) is
 
-unexplained_else : (why schedule : List ℕ) (answer : Answer) → answer ≡ unexplained why schedule → IsElse answer
-unexplained_else why schedule answer is = status_else answer 1 (ap (λ (a : Answer). a.status) is) (λ e. omega arith)
-
 status_by_else : (v : Verdict) → status_by v ≡ 4 → ⊥
 status_by_else Good e = omega arith
 status_by_else NoWitness e = omega arith
 status_by_else (NoWitnessFor t) e = omega arith
 
 by_else : (members : List (List SerialOp)) (c : Component) (m : Matrix) (u : List Move) (h : List Event) (answer : Answer) → IsExplainedHistory members c m u h answer → IsElse answer
-by_else members c m u h answer is = status_else answer (status_by is.2) (ap (λ (a : Answer). a.status) is.6) (status_by_else is.2)
+by_else members c m u h answer is = status_else answer (status_by is.verdict) (ap (λ (a : Answer). a.status) is.is) (status_by_else is.verdict)
 
-ended_else : (status : Status) (IsAnswer : Answer → Type 0) (answer : Answer) → (IsAnswer answer → IsElse answer) → ToEnded status IsAnswer answer → IsElse answer
-ended_else Running IsAnswer answer h is = unexplained_else (codes "running") [] answer is
-ended_else Complete IsAnswer answer h is = h is
-ended_else Stuck IsAnswer answer h is = h is
+conflict_else : (c : Component) (m : Matrix) (u : List Move) (before : ℕ) (earlier : SerialOutcome) (answer : Answer) → SaysConflict c m u before earlier answer → IsElse answer
+conflict_else c m u before earlier answer (q, of, is) = unexplained_else (codes "nondeterministic") (schedule_text u ++ conflict_text c m q before earlier) answer is
+
+offence_else : (c : Component) (m : Matrix) (f : Finding) (answer : Answer) → SaysFound c m f answer → IsElse answer
+offence_else c m (SerialCut u) answer is = unexplained_else (codes "serial-cut") (schedule_text u) answer is
+offence_else c m (Nondeterministic u before earlier) answer is = conflict_else c m u before earlier answer is
+
+ended_else : (status : Status) (IsRunning IsEnded : Answer → Type 0) (answer : Answer) → (IsRunning answer → IsElse answer) → (IsEnded answer → IsElse answer) → ToEnded status IsRunning IsEnded answer → IsElse answer
+ended_else Running IsRunning IsEnded answer runs ended is = runs is
+ended_else Complete IsRunning IsEnded answer runs ended is = ended is
+ended_else Stuck IsRunning IsEnded answer runs ended is = ended is
 
 pictured_else : (how : Wording) (members : List (List SerialOp)) (c : Component) (m : Matrix) (u : List Move) (h : List Event) (answer : Answer) → IsPicturedHistory how members c m u h answer → IsElse answer
-pictured_else how members c m u h answer (e, shown, is) = drawn_else how (Some e) c m u answer is
+pictured_else how members c m u h answer (why, shown, is) = drawn_else how why c m u answer is
 
 presented_as_else : (by : Presentation) (how : Wording) (members : List (List SerialOp)) (c : Component) (m : Matrix) (u : List Move) (h : List Event) (answer : Answer) → IsPresentedAs by how members c m u h answer → IsElse answer
 presented_as_else Words how members c m u h answer is = by_else members c m u h answer is
@@ -410,7 +429,7 @@ presented_else : (by : Presenting) (members : List (List SerialOp)) (c : Compone
 presented_else by members c m u h answer is = presented_as_else by.by by.how members c m u h answer is
 
 explained_else : (by : Presenting) (members : List (List SerialOp)) (c : Component) (m : Matrix) (u : List Move) (answer : Answer) → IsExplainedSchedule by members c m u answer → IsElse answer
-explained_else by members c m u answer (inl is) = ended_else is.1 (IsPresentedHistory by members c m u is.0) answer (presented_else by members c m u is.0 answer) is.3
+explained_else by members c m u answer (inl is) = ended_else is.1 (SaysNext (codes "running") by.how c m u) (IsPresentedHistory by members c m u is.0) answer (next_else (codes "running") by.how c m u answer) (presented_else by members c m u is.0 answer) is.3
 explained_else by members c m u answer (inr is) = status_else answer 1 (ap (λ (a : Answer). a.status) is.2) (λ e. omega arith)
 
 finding_else : (IsAnswer : List Move → Answer → Type 0) (f : Finding) (answer : Answer) → ((u : List Move) → IsAnswer u answer → IsElse answer) → ToFinding IsAnswer f answer → IsElse answer
@@ -425,7 +444,7 @@ explanation_else by members c m (target.Report r) answer is = finding_else (IsEx
 
 serially_else : (by : Presenting) (limits : Bounds) (c : Component) (m : Matrix) (t : Target) (answer : Answer) → IsExplainedSerially by limits c m t answer → IsElse answer
 serially_else by limits c m t answer (inl (members, are, is)) = explanation_else by members c m t answer is
-serially_else by limits c m t answer (inr is) = finding_else (λ v a. ⊥) is.0 answer (λ u never. absurd never) is.2
+serially_else by limits c m t answer (inr is) = offence_else c m is.0 answer is.2
 
 target_else : (text : List ℕ) (IsAnswer : Target → Answer → Type 0) (answer : Answer) → ((t : Target) → IsAnswer t answer → IsElse answer) → ToTarget text IsAnswer answer → IsElse answer
 target_else text IsAnswer answer h is = go (is_report text) is
@@ -646,7 +665,7 @@ compile_else (source ∷ parts) answer is =
 -- a run that is shown
 run_view_else : (view : RunView) (how : Wording) (c : Component) (m : Matrix) (u : List Move) (answer : Answer) → IsRunShown view how c m u answer → IsElse answer
 run_view_else (run.Trace start) how c m u answer is = traced_else start how c m u answer is
-run_view_else run.Picture how c m u answer is = drawn_else how None c m u answer is
+run_view_else run.Picture how c m u answer is = drawn_else how nothing_said c m u answer is
 
 view_else : (shown : RunView) (parts : List (List ℕ)) (answer : Answer) → IsAnswerToTraceOrDraw shown parts answer → IsElse answer
 view_else shown parts answer is = alone_or_else (view_of_failure shown) (IsShownAfter shown) parts answer (λ after. after_else parts (IsRunShown shown) answer (λ how c m u more. run_view_else shown how c m u answer more) after) is

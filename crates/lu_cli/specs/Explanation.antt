@@ -1,5 +1,5 @@
 -- How a schedule is explained, by serial histories: in words, or by marks in its picture.
-use Rattle.std.specs.Prelude.{◌≡◌, ◌⊎◌, ℕ, ◌<◌, true, false, List, ◌++◌, codes, Some, [], Result, IfOk, MatchResult}
+use Rattle.std.specs.Prelude.{◌≡◌, ◌⊎◌, ℕ, ◌<◌, true, false, List, ◌++◌, codes, Option, Some, None, MatchBool, String, [], Result, IfOk, MatchResult}
 use Rattle.lu_component.specs.Component.{Component}
 use Rattle.lu_test.specs.declared.schedule.Move.{Move}
 use Rattle.lu_test.specs.ScheduleText.{schedule_text}
@@ -31,8 +31,13 @@ use Rattle.lu_explain.specs.Explanations.{Explanation, IsExplanation}
 use Rattle.lu_machine.specs.declared.event.Status.TheVariants.{Running, Complete, Stuck}
 use Rattle.lu_explain.specs.Blocks.{IsTextFor, run_of}
 use Rattle.lu_explain.specs.EventMoves.{AreEventMoves}
+use Rattle.lu_diagnosis.specs.NextSteps.{IsNextSteps, IsNextStepsText}
+use Rattle.lu_explain.specs.declared.orders.Precedence.{Precedence}
+use Rattle.lu_diagnosis.specs.Sentences.{IsBroken, IsWhatHappened}
+use Rattle.lu_diagnosis.specs.SerialRuns.{EndsSerially, IsHistoryOf, conflict_text}
 use Rattle.lu_cli.specs.Outcomes.{Answer, infeasible}
-use Rattle.lu_cli.specs.Pictures.{IsDrawnExplained}
+use Rattle.lu_picture.specs.Pictures.{Why}
+use Rattle.lu_cli.specs.Pictures.{IsDrawnWhy}
 use Rattle.lu_cli.specs.declared.explanation.Presentation.{Presentation}
 use Rattle.lu_cli.specs.declared.explanation.Presentation.TheVariants.{Words, Picture}
 use Rattle.lu_cli.specs.declared.explanation.Presenting.{Presenting}
@@ -54,14 +59,26 @@ IsShownThread Good h t = IsLeastPending h t
 IsShownThread NoWitness h t = IsLeastPending h t
 IsShownThread (NoWitnessFor u) h t = t ≡ u
 
--- the explanation by these serial histories, without the pending calls of other threads
-pub record IsShownExplanation (members : List (List SerialOp)) (h : List Event)
-    (e : Explanation) : Type 0 where
-  pub verdict : Verdict
-  pub judged : IsVerdict (IsMember members) h verdict
-  pub thread : ℕ
-  pub shown : IsShownThread verdict h thread
-  pub explains : IsExplanation (IsMember members) (keep_pending thread h) e
+-- the history without the pending calls of other threads
+abbrev pub IsShownPart : List (List SerialOp) → List Event → List Event → Type 0
+IsShownPart members h part =
+    (verdict : Verdict) × (thread : ℕ) × IsVerdict (IsMember members) h verdict
+    × IsShownThread verdict h thread × (part ≡ keep_pending thread h)
+
+-- the precedence that is broken, if that has no witness
+abbrev pub IsShownBroken : List (List SerialOp) → List Event → Explanation → Option Precedence
+    → Type 0
+IsShownBroken members part e broken =
+    MatchBool e.witnessed (broken ≡ None) (IsBroken (IsMember members) part broken)
+
+-- why that fails, by these serial histories
+pub record IsShownWhy (members : List (List SerialOp)) (h : List Event) (why : Why) : Type 0 where
+  pub part : List Event
+  pub shown : IsShownPart members h part
+  pub explanation : Explanation
+  pub explains : IsExplanation (IsMember members) part explanation
+  pub breaks : IsShownBroken members part explanation why.broken
+  pub is : why.explanation ≡ Some explanation
 
 -- ---- what is explained, and what is not
 
@@ -70,6 +87,20 @@ abbrev pub unexplained : List ℕ → List ℕ → Answer
 unexplained why schedule =
     record { text = codes "explain " ++ why ++ codes "\n" ++ schedule; status = 1 }
 
+-- that, and what each thread can do next after the schedule; or where it is infeasible
+abbrev pub SaysNext : List ℕ → Wording → Component → Matrix → List Move → Answer → Type 0
+SaysNext why how c m u answer =
+    ((next : List ℕ) × IsNextSteps how c m u next
+    × (answer ≡ unexplained why (codes "next\n" ++ next)))
+    ⊎ ((i : ℕ) × IsInfeasibleAt c m u i × (answer ≡ infeasible i))
+
+-- that serial runs differ: the schedule of one, both runs, and what differs
+abbrev pub SaysConflict : Component → Matrix → List Move → ℕ → SerialOutcome → Answer → Type 0
+SaysConflict c m u before earlier answer =
+    (q : List SerialOp) × IsHistoryOf c m u q
+    × (answer ≡ unexplained (codes "nondeterministic")
+    (schedule_text u ++ conflict_text c m q before earlier))
+
 -- how another serial run differs from this one, which has the same operations before
 abbrev pub difference : ℕ → SerialOutcome → List ℕ
 difference before earlier =
@@ -77,7 +108,7 @@ difference before earlier =
     ++ codes " calls, and then the same call has the outcome " ++ serial_outcome_text earlier
     ++ codes ", unlike here\n"
 
--- that serial runs differ, and how, with the schedule of this one
+-- that serial runs differ, as a report says, with its schedule
 abbrev pub nondeterministic : List Move → ℕ → SerialOutcome → Answer
 nondeterministic u before earlier =
     unexplained (codes "nondeterministic") (schedule_text u ++ difference before earlier)
@@ -87,20 +118,24 @@ status_by Good = 0
 status_by NoWitness = 1
 status_by (NoWitnessFor t) = 1
 
--- the history of an ended schedule, explained by these serial histories
-abbrev pub IsExplainedHistory : List (List SerialOp) → Component → Matrix → List Move → List Event
-    → Answer → Type 0
-IsExplainedHistory members c m u h answer =
-    (moves : List ℕ) × (text : List ℕ) × (verdict : Verdict)
-    × AreEventMoves c m u moves × IsTextFor (IsMember members) (run_of c m h moves) text
-    × IsVerdict (IsMember members) h verdict
-    × (answer ≡ record { text = text; status = status_by verdict })
+-- what happened in the history of an ended schedule, and its explanation by these serial histories
+pub record IsExplainedHistory (members : List (List SerialOp)) (c : Component) (m : Matrix)
+    (u : List Move) (h : List Event) (answer : Answer) : Type 0 where
+  pub verdict : Verdict
+  pub judged : IsVerdict (IsMember members) h verdict
+  pub said : List ℕ
+  pub happened : IsWhatHappened (IsMember members) c m h verdict said
+  pub moves : List ℕ
+  pub of_events : AreEventMoves c m u moves
+  pub why : List ℕ
+  pub explains : IsTextFor (IsMember members) (run_of c m h moves) why
+  pub is : answer ≡ record { text = said ++ why; status = status_by verdict }
 
 -- the same as a picture
 abbrev pub IsPicturedHistory : Wording → List (List SerialOp) → Component → Matrix → List Move
     → List Event → Answer → Type 0
 IsPicturedHistory how members c m u h answer =
-    (e : Explanation) × IsShownExplanation members h e × IsDrawnExplained how (Some e) c m u answer
+    (why : Why) × IsShownWhy members h why × IsDrawnWhy how why c m u answer
 
 -- by an explanation, or as a picture in these words
 abbrev pub IsPresentedAs : Presentation → Wording → List (List SerialOp) → Component → Matrix
@@ -121,18 +156,20 @@ ToFinding IsAnswer (Nondeterministic u before earlier) answer =
 ToFinding IsAnswer (Fail u why) answer = IsAnswer u answer
 ToFinding IsAnswer (Pass counts) answer = answer ≡ unexplained (codes "pass") []
 
--- a schedule that has not ended explains nothing
-abbrev pub ToEnded : Status → (Answer → Type 0) → Answer → Type 0
-ToEnded Running IsAnswer answer = answer ≡ unexplained (codes "running") []
-ToEnded Complete IsAnswer answer = IsAnswer answer
-ToEnded Stuck IsAnswer answer = IsAnswer answer
+-- the answer to a schedule that has not ended, or to one that has
+abbrev pub ToEnded : Status → (Answer → Type 0) → (Answer → Type 0) → Answer → Type 0
+ToEnded Running IsRunning IsEnded answer = IsRunning answer
+ToEnded Complete IsRunning IsEnded answer = IsEnded answer
+ToEnded Stuck IsRunning IsEnded answer = IsEnded answer
 
--- a schedule, explained by these serial histories, or where it is infeasible
+-- a schedule, explained by these serial histories, or where it is infeasible; of one that has not
+-- ended it is said what each thread can do next
 abbrev pub IsExplainedSchedule : Presenting → List (List SerialOp) → Component → Matrix
     → List Move → Answer → Type 0
 IsExplainedSchedule by members c m u answer =
     ((h : List Event) × (status : Status) × PlaysToStatus c m u h status
-    × ToEnded status (IsPresentedHistory by members c m u h) answer)
+    × ToEnded status (SaysNext (codes "running") by.how c m u)
+    (IsPresentedHistory by members c m u h) answer)
     ⊎ ((i : ℕ) × IsInfeasibleAt c m u i × (answer ≡ infeasible i))
 
 -- a schedule, or that of a report
@@ -149,10 +186,17 @@ abbrev pub IsOffenceOf : Component → Matrix → ℕ → Finding → Type 0
 IsOffenceOf c m serial f =
     IsOfOffence f × ((bound : ℕ) → FromEachStart c m (λ s. IsFinding s bound serial f))
 
+-- what is said of a serial run that offends
+abbrev pub SaysFound : Component → Matrix → Finding → Answer → Type 0
+SaysFound c m (SerialCut u) answer = answer ≡ unexplained (codes "serial-cut") (schedule_text u)
+SaysFound c m (Nondeterministic u before earlier) answer = SaysConflict c m u before earlier answer
+SaysFound c m (Fail u why) answer = ⊥
+SaysFound c m (Pass counts) answer = ⊥
+
 -- a serial run offends, and that is said
 abbrev pub SaysOffence : Component → Matrix → ℕ → Answer → Type 0
 SaysOffence c m serial answer =
-    (f : Finding) × IsOffenceOf c m serial f × ToFinding (λ v a. ⊥) f answer
+    (f : Finding) × IsOffenceOf c m serial f × SaysFound c m f answer
 
 -- none offends, and these are the serial histories
 abbrev pub AreSerialHistories : Component → Matrix → ℕ → List (List SerialOp) → Type 0
@@ -188,6 +232,27 @@ abbrev pub ExplainsSerially : {E : Type 0} → Presenting → Bounds → Test �
     → Result Answer E → Type 0
 ExplainsSerially by limits test explained result =
     IfOk result (IsExplainedSerially by limits test.component.now test.matrix.now explained)
+
+-- ---- what the functions say of a test
+
+-- these are the next steps of its threads after the schedule
+abbrev pub WritesNext : {Z E : Type 0} → Wording → Test → List Move → Result (String Z) E → Type 0
+WritesNext how test u result =
+    IfOk result (IsNextStepsText how test.component.now test.matrix.now u)
+
+abbrev pub TellsNext : {E : Type 0} → List ℕ → Wording → Test → List Move → Result Answer E
+    → Type 0
+TellsNext why how test u result =
+    IfOk result (SaysNext why how test.component.now test.matrix.now u)
+
+-- the schedule is serially ended
+abbrev pub EndsSeriallyIn : Test → List Move → Type 0
+EndsSeriallyIn test u = FromEachStart test.component.now test.matrix.now (EndsSerially u)
+
+abbrev pub TellsConflict : {E : Type 0} → Test → List Move → ℕ → SerialOutcome → Result Answer E
+    → Type 0
+TellsConflict test u before earlier result =
+    IfOk result (SaysConflict test.component.now test.matrix.now u before earlier)
 
 -- ---- by the serial histories of a tree, which `members` gives
 

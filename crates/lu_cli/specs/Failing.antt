@@ -23,7 +23,7 @@ use Rattle.lu_cli.specs.declared.failing.RunView.TheVariants as run
 use Rattle.lu_cli.specs.Shows.{two_texts, ShowsCertificate, with_schedule}
 use Rattle.lu_cli.specs.Outcomes.{Answer}
 use Rattle.lu_cli.specs.Pictures.{IsDrawn}
-use Rattle.lu_cli.specs.Explanation.{BySerialRuns, IsExplainedSchedule, ToFinding}
+use Rattle.lu_cli.specs.Explanation.{BySerialRuns, IsExplainedSchedule, SaysNext, ToFinding}
 use Rattle.lu_cli.specs.Reading.{ToWorded}
 use Rattle.lu_cli.specs.Trace.{IsTraced, each_step}
 use Rattle.lu_cli.specs.declared.explanation.Presentation.{Presentation}
@@ -96,6 +96,25 @@ abbrev pub ShowsFailure : {E : Type 0} → View → Wording → Test → Report 
 ShowsFailure view how cut r u result =
     IfOk result (ShowsFailing view how cut.component.now cut.matrix.now r u)
 
+-- The cut and the schedule of its livelock, `text`, with what each thread can do next after the
+-- schedule, where it is explained; and the run.
+abbrev pub ShowsLivelock : View → Wording → Component → Matrix → List Move → List ℕ → Answer
+    → Type 0
+ShowsLivelock Explanation how c cut u text answer =
+    (why : Answer) × SaysNext (codes "livelock") how c cut u why
+    × ShowsRun Explanation how c cut u (below text why) answer
+ShowsLivelock (Trace tracing) how c cut u text answer =
+    ShowsRun (Trace tracing) how c cut u text answer
+ShowsLivelock Picture how c cut u text answer = ShowsRun Picture how c cut u text answer
+ShowsLivelock ExplainedPicture how c cut u text answer =
+    ShowsRun ExplainedPicture how c cut u text answer
+
+-- so it is of the result, where there is one
+abbrev pub ShowsLivelockBelow : {E Z : Type 0} → View → Wording → Test → List Move → String Z
+    → Result Answer E → Type 0
+ShowsLivelockBelow view how cut u text result =
+    IfOk result (ShowsLivelock view how cut.component.now cut.matrix.now u (string_bytes text))
+
 -- of a certificate the cut that fails or has a livelock is shown; another one as it is
 abbrev pub ShowsByView : View → Wording → Component → Certificate → Answer → Type 0
 ShowsByView view how c (Linearizable members) answer =
@@ -104,7 +123,7 @@ ShowsByView view how c (NotLinearizable cut r) answer =
     MatchOption (shown_schedule r.finding) (ShowsCertificate c (NotLinearizable cut r) answer)
     (λ u. ShowsFailing view how c cut r u answer)
 ShowsByView view how c (Livelock cut u) answer =
-    ShowsRun view how c cut u (with_schedule c (cut, u)).text answer
+    ShowsLivelock view how c cut u (with_schedule c (cut, u)).text answer
 ShowsByView view how c (Undecided cut r) answer = ShowsCertificate c (Undecided cut r) answer
 
 -- the cut that it names, if any, can be run

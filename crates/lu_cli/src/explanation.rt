@@ -1,24 +1,31 @@
 //! Why the history of a schedule has no serial witness.
 
-ghost use Rattle.std.specs.Prelude.{◌<◌, ◌≡◌, IfOk};
+ghost use Rattle.std.specs.Prelude.{◌<◌, ◌≡◌, IfErr, IfOk};
 ghost use Rattle.lu_text.specs.Writing.{Writes};
 ghost use Rattle.lu_report.specs.Limits.{IsSerialBound};
 ghost use Rattle.lu_test.specs.ScheduleText.{schedule_text};
 ghost use Rattle.lu_test.specs.declared.matrix.TheConstants.{MOST_THREADS};
 ghost use Rattle.lu_cli.specs.Failing.{ExplainsFindingSerially};
+ghost use Rattle.lu_cli.specs.Trace.{RefusesTrace};
 ghost use Rattle.lu_cli.specs.Explanation as spec;
-ghost use Rattle.lu_cli.specs.Explanation.{ExplainsFinding, ExplainsRun, ExplainsSchedule, ExplainsSerially, ExplainsTarget, IsLeastPending, IsPlayed, IsShownExplanation, IsShownThread, LearnsOrSays, PicturesRun, Presents};
+ghost use Rattle.lu_cli.specs.Explanation.{EndsSeriallyIn, ExplainsFinding, ExplainsRun, ExplainsSchedule, ExplainsSerially, ExplainsTarget, IsLeastPending, IsPlayed, IsShownBroken, IsShownPart, IsShownThread, LearnsOrSays, PicturesRun, Presents, TellsConflict, TellsNext, WritesNext};
 
 use crate::answer::{Answer, infeasible};
-use crate::pictures::draw;
-use lu_explain::{Explanation, event_moves, explain as explain_history, write_explanations};
+use crate::pictures::draw_why;
+use lu_diagnosis::{
+    broken_precedence, serial_history, write_conflict, write_next_steps, write_what_happened,
+};
+use lu_explain::{
+    Explanation, Precedence, event_moves, explain as explain_history, write_explanations,
+};
 use lu_history::{History, HistoryFault, SerialOutcome};
 use lu_machine::{Status, Test};
+use lu_picture::Diagnosis;
 use lu_replay::{Replay, ReplayFault, replay};
 use lu_report::{Bounds, Finding, MOST_MOVES, Report};
 use lu_serial_graph::{LearntGraph, SerialGraph, learn_graph};
 use lu_test::{Schedule, write_schedule};
-use lu_trace::Wording;
+use lu_trace::{TraceFault, Wording};
 use lu_trie::SerialTree;
 use lu_witness::{Verdict, verdict};
 use std::alloc::{AllocError, Global};
@@ -68,6 +75,58 @@ fn say_with(alloc: Global, why: &str, schedule: &Schedule) -> Result<Answer, All
     say(alloc, why, text.as_str())
 }
 
+/// What each thread can do next after a schedule, in these words.
+fn next_steps(
+    alloc: Global,
+    how: Wording<'_>,
+    test: Test<'_>,
+    schedule: &Schedule,
+) -> Result<String, TraceFault>
+    ensures next { WritesNext how.entry test.entry schedule.now result }
+    ensures fault { RefusesTrace test.entry schedule.now result }
+{
+    write_next_steps(alloc, &how, test.component, test.matrix, schedule)
+}
+
+/// Why nothing is explained, and what each thread can do next after the schedule; or where it is
+/// infeasible.
+pub(crate) fn say_next(
+    alloc: Global,
+    how: Wording<'_>,
+    test: Test<'_>,
+    schedule: &Schedule,
+    why: &str,
+) -> Result<Answer, AllocError>
+    ensures { TellsNext why.now how.entry test.entry schedule.now result }
+{
+    match next_steps(alloc, how, test, schedule) {
+        Ok(next) => {
+            let text = format!(in alloc; "next\n{next}")?;
+            say(alloc, why, text.as_str())
+        }
+        Err(TraceFault::Infeasible(index)) => infeasible(alloc, index),
+        Err(TraceFault::Memory) => Err(AllocError),
+    }
+}
+
+/// That serial runs differ: both of them up to the difference, with the schedule of this one.
+fn say_conflict(
+    alloc: Global,
+    test: Test<'_>,
+    schedule: &Schedule,
+    before: usize,
+    earlier: SerialOutcome,
+) -> Result<Answer, AllocError>
+    requires { EndsSeriallyIn test schedule.now }
+    ensures { TellsConflict test.entry schedule.now before earlier result }
+{
+    let Test { component, matrix } = test;
+    let history = serial_history(alloc, component, matrix, schedule)?;
+    let mut text = write_schedule(alloc, schedule)?;
+    write_conflict(&mut text, component, matrix, &history, before, earlier)?;
+    say(alloc, "nondeterministic", text.as_str())
+}
+
 /// Adds how another serial run differs from this one, which has the same operations before.
 fn write_difference(
     text: &mut String,
@@ -82,7 +141,7 @@ fn write_difference(
     )
 }
 
-/// That serial runs differ, and how, with the schedule of this one.
+/// That serial runs differ, as a report says, with its schedule.
 fn say_nondeterministic(
     alloc: Global,
     schedule: &Schedule,
@@ -113,7 +172,8 @@ struct ShownSchedule<'a> {
     shown: &'a Replay,
 }
 
-/// The history of an ended schedule, explained by the serial histories of a tree.
+/// What happened in the history of an ended schedule, and its explanation by the serial histories of
+/// a tree.
 fn explain_by<T: SerialTree>(
     alloc: Global,
     test: Test<'_>,
@@ -125,11 +185,15 @@ fn explain_by<T: SerialTree>(
 {
     let Test { component, matrix } = test;
     let ShownSchedule { schedule, shown } = run;
+    let history = &shown.history;
+    let judged = verdict(tree, history);
+    let mut text = write_what_happened(alloc, component, matrix, tree, history, judged)?;
     let moves = event_moves(alloc, component, matrix, schedule)?;
-    let text = write_explanations(alloc, component, matrix, tree, &shown.history, &moves)?;
+    let why = write_explanations(alloc, component, matrix, tree, history, &moves)?;
+    text.push_str(why.as_str())?;
     Ok(Answer {
         text,
-        status: status_by(verdict(tree, &shown.history)),
+        status: status_by(judged),
     })
 }
 
@@ -156,14 +220,29 @@ fn thread_shown(verdict: Verdict, history: &History) -> u8
     }
 }
 
-/// The explanation that a picture of the history shows.
-fn explanation_shown<T: SerialTree>(tree: &T, history: &History) -> Result<Explanation, AllocError>
-    ensures { IfOk result (λ e. IsShownExplanation (T.members tree.now) history.now e) }
+/// The history without the pending calls that its picture does not explain.
+fn part_shown<T: SerialTree>(tree: &T, history: &History) -> Result<History, AllocError>
+    ensures { IfOk result (IsShownPart (T.members tree.now) history.now) }
 {
     let thread = thread_shown(verdict(tree, history), history);
     match history.keep_pending(thread) {
-        Ok(part) => Ok(explain_history(tree, &part)),
+        Ok(part) => Ok(part),
         Err(HistoryFault::Memory) => Err(AllocError),
+    }
+}
+
+/// The precedence that is broken, if the history has no witness.
+fn broken_shown<T: SerialTree>(
+    tree: &T,
+    part: &History,
+    explanation: &Explanation,
+) -> Option<Precedence>
+    ensures { IsShownBroken (T.members tree.now) part.now explanation.now result }
+{
+    if explanation.is_witnessed() {
+        None
+    } else {
+        broken_precedence(tree, part)
     }
 }
 
@@ -178,8 +257,13 @@ fn picture_by<T: SerialTree>(
     ensures { PicturesRun how.entry T.members tree.now test.entry run.entry result }
 {
     let ShownSchedule { schedule, shown } = run;
-    let explanation = explanation_shown(tree, &shown.history)?;
-    draw(alloc, how, test, schedule, Some(&explanation))
+    let part = part_shown(tree, &shown.history)?;
+    let explanation = explain_history(tree, &part);
+    let why = Diagnosis {
+        explanation: Some(&explanation),
+        broken: broken_shown(tree, &part, &explanation),
+    };
+    draw_why(alloc, how, test, schedule, why)
 }
 
 /// The history of an ended schedule, explained in words or in a picture.
@@ -199,7 +283,8 @@ fn present<T: SerialTree>(
     }
 }
 
-/// A schedule, explained by the serial histories of a tree, or where it is infeasible.
+/// A schedule, explained by the serial histories of a tree, or where it is infeasible. Of one that has
+/// not ended it is said what each thread can do next.
 fn explain_schedule<T: SerialTree>(
     alloc: Global,
     test: Test<'_>,
@@ -211,7 +296,7 @@ fn explain_schedule<T: SerialTree>(
 {
     match replay(alloc, test.component, test.matrix, schedule) {
         Ok(shown) => match shown.status {
-            Status::Running => say(alloc, "running", ""),
+            Status::Running => say_next(alloc, by.how, test, schedule, "running"),
             Status::Complete | Status::Stuck => {
                 let shown = &shown;
                 present(alloc, test, tree, ShownSchedule { schedule, shown }, by)
@@ -276,7 +361,7 @@ fn learn_or_say(
             schedule,
             before,
             earlier,
-        } => Ok(Err(say_nondeterministic(alloc, &schedule, before, earlier)?)),
+        } => Ok(Err(say_conflict(alloc, test, &schedule, before, earlier)?)),
     }
 }
 

@@ -6,11 +6,11 @@ ghost use Rattle.lu_report.specs.Parts.{shown_schedule};
 ghost use Rattle.lu_cli.specs.Refusals.{Answered};
 ghost use Rattle.lu_cli.specs.Failing as spec;
 ghost use Rattle.lu_certify.specs.Certificates.{NamesCutOf};
-ghost use Rattle.lu_cli.specs.Failing.{CanRunCut, ShowsAlone, ShowsFailure, ShowsRunBelow};
+ghost use Rattle.lu_cli.specs.Failing.{CanRunCut, ShowsAlone, ShowsFailure, ShowsLivelockBelow, ShowsRunBelow};
 ghost use Rattle.lu_cli.specs.Reading.{ToWorded};
 
 use crate::answer::{Answer, show_certificate, show_schedule, write_both};
-use crate::explanation::{Presentation, Presenting, explain_finding_serially};
+use crate::explanation::{Presentation, Presenting, explain_finding_serially, say_next};
 use crate::pictures::draw;
 use crate::refusal::Refusal;
 use crate::request::{TraceStart, Tracing};
@@ -105,7 +105,7 @@ fn show_run(
             Ok(failure(below(text, &steps)?))
         }
         View::Picture | View::ExplainedPicture => {
-            let picture = draw(alloc, how, test, schedule, None)?;
+            let picture = draw(alloc, how, test, schedule)?;
             Ok(failure(picture.text))
         }
     }
@@ -160,6 +160,29 @@ fn show_failing(
     }
 }
 
+/// A cut with a livelock: its text, with what each thread can do next after the schedule where that
+/// is asked for, and the run.
+fn show_livelock(
+    alloc: Global,
+    how: Wording<'_>,
+    test: Test<'_>,
+    schedule: &Schedule,
+    text: String,
+    view: View,
+) -> Result<Answer, AllocError>
+    ensures { ShowsLivelockBelow view how.entry test.entry schedule.now text result }
+{
+    match view {
+        View::Explanation => {
+            let why = say_next(alloc, how, test, schedule, "livelock")?;
+            show_run(alloc, how, test, schedule, below(text, &why)?, view)
+        }
+        View::Trace(_) | View::Picture | View::ExplainedPicture => {
+            show_run(alloc, how, test, schedule, text, view)
+        }
+    }
+}
+
 /// Of a certificate the cut that fails or has a livelock, shown so; another one as it is.
 fn show_by_view(
     alloc: Global,
@@ -184,7 +207,7 @@ fn show_by_view(
         Certificate::Livelock { matrix, schedule } => {
             let shown = show_schedule(alloc, component, matrix, schedule)?;
             let test = Test { component, matrix };
-            show_run(alloc, how, test, schedule, shown.text, view)
+            show_livelock(alloc, how, test, schedule, shown.text, view)
         }
         Certificate::Undecided { .. } => show_certificate(alloc, component, certificate),
     }

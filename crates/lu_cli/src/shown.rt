@@ -82,7 +82,7 @@ fn show_run(
 {
     match view {
         RunView::Trace(tracing) => trace(alloc, tracing, how, test, schedule),
-        RunView::Picture => draw(alloc, how, test, schedule, None),
+        RunView::Picture => draw(alloc, how, test, schedule),
     }
 }
 

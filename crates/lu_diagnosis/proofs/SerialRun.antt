@@ -1,5 +1,5 @@
 -- The history of a serial schedule, move after move, and what is shown of two that differ.
-use Rattle.std.proofs.Common.{◌≡◌, ◌≢◌, Bool, true, false, codes, ℕ, zero, suc, ◌+◌, ◌<◌, ◌≤◌, List, [], ◌∷◌, ◌++◌, length, take, get_or, slice_get, Option, Some, None, MatchOption, refl, sym, ◌∙◌, ap, subst, inl, inr, append_assoc, append-nil, arith}
+use Rattle.std.proofs.Common.{◌≡◌, true, false, codes, ℕ, ◌+◌, ◌<◌, ◌≤◌, List, [], ◌∷◌, ◌++◌, length, take, get_or, slice_get, Option, Some, None, refl, sym, ◌∙◌, ap, subst, inl, inr, append_assoc, append-nil, arith}
 use Rattle.std.proofs.lemmas.List.{take_all, take_more}
 use Rattle.std.proofs.lemmas.Option.{get_or_from_slice_get, slice_get_within}
 use Rattle.lu_component.specs.Component.{Component}
@@ -18,12 +18,10 @@ use Rattle.lu_machine.specs.Starts.{IsStart}
 use Rattle.lu_machine.proofs.Paths.{child_leads, goes_on_feasible, leads_same}
 use Rattle.lu_machine.proofs.Starting.{start_same}
 use Rattle.lu_history.specs.declared.serial.SerialOp.{SerialOp}
-use Rattle.lu_history.specs.declared.serial.SerialOutcome.{SerialOutcome}
 use Rattle.lu_serial.specs.Serial.{HasOpen, EndsAs, IsSeriallyEnded, entries_of, entry_of, stuck_of}
 use Rattle.lu_serial.proofs.CallsLeft.{none_at_start}
 use Rattle.lu_serial.proofs.Opening.{complete_not_open}
 use Rattle.lu_serial.proofs.Single.{one_along}
-use Rattle.lu_trie.specs.Conflicts.{ConflictAt}
 use Rattle.lu_diagnosis.specs.SerialRuns.{EndsSerially, IsHistoryOf, TellsOpen, after_words, is_busy, is_open, stuck_entries, with_outcome}
 use Rattle.lu_diagnosis.specs.Sentences.{order_words}
 use Rattle.lu_diagnosis.specs.Laws.{ShownAreBoth}

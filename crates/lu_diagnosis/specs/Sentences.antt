@@ -2,10 +2,10 @@
 use Rattle.std.specs.Prelude.{◌≡◌, ℕ, ◌<◌, ◌++◌, Bool, true, false, MatchBool, List, [], ◌∷◌, codes, length, Option, Some, None, MatchOption, option_and_then, slice_get, String, string_bytes, Result, IfOk, OnOk}
 use Rattle.std.specs.Option.{option_map_or}
 use Rattle.std.specs.Fmt.{decimal}
+use Rattle.lu_text.specs.Writing.{Writes}
 use Rattle.lu_component.specs.Component.{Component}
 use Rattle.lu_test.specs.Matrix.{Matrix}
 use Rattle.lu_machine.specs.declared.event.Event.{Event}
-use Rattle.lu_history.specs.declared.operation.OpId.{OpId}
 use Rattle.lu_history.specs.declared.serial.SerialOp.{SerialOp}
 use Rattle.lu_history.specs.declared.serial.SerialOutcome.{SerialOutcome}
 use Rattle.lu_history.specs.declared.serial.SerialOutcome.TheVariants.{Ret, Trap, Stuck}
@@ -121,10 +121,18 @@ IsWhatHappened Set c matrix h (NoWitnessFor t) text = IsSentence Set c matrix (k
 
 -- ---- texts in memory, over the members of a set, unless memory ran out
 
--- the text grows by such a sentence
-abbrev pub Adds : {T E Z : Type 0} → Result T E → String Z → String Z → (List ℕ → Type 0) → Type 0
-Adds result old new Is =
-    OnOk result ((more : List ℕ) × Is more × (string_bytes new ≡ string_bytes old ++ more))
+-- the text grows by the sentence about thread t
+abbrev pub AddsThread : {T E Z : Type 0} → Result T E → String Z → String Z → Component → Matrix
+    → List Event → Explanation → ℕ → Type 0
+AddsThread result old new c matrix h e t =
+    Writes result old new (thread_sentence c matrix h e t)
+
+-- it grows by the sentence about what is broken, or else about the first such thread
+abbrev pub AddsBy : {T E Z : Type 0} → Result T E → String Z → String Z → Component → Matrix
+    → List Event → Explanation → Option Precedence → Type 0
+AddsBy result old new c matrix h e broken =
+    OnOk result ((more : List ℕ) × IsSentenceBy c matrix h e broken more
+    × (string_bytes new ≡ string_bytes old ++ more))
 
 abbrev pub TellsBroken : List (List SerialOp) → List Event → Option Precedence → Type 0
 TellsBroken members h broken = IsBroken (IsMember members) h broken
@@ -139,7 +147,7 @@ abbrev pub Says : {Z E : Type 0} → List (List SerialOp) → Component → Matr
 Says members c matrix h result =
     IfOk result (λ text. IsSentence (IsMember members) c matrix h (string_bytes text))
 
-abbrev pub SaysWhatHappened : {Z E : Type 0} → List (List SerialOp) → Component → Matrix
+abbrev pub SaysWhy : {Z E : Type 0} → List (List SerialOp) → Component → Matrix
     → List Event → Verdict → Result (String Z) E → Type 0
-SaysWhatHappened members c matrix h verdict result =
+SaysWhy members c matrix h verdict result =
     IfOk result (λ text. IsWhatHappened (IsMember members) c matrix h verdict (string_bytes text))

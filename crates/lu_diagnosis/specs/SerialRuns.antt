@@ -1,7 +1,8 @@
 -- Two serial runs that make the same calls and differ in the outcome of the last.
-use Rattle.std.specs.Prelude.{◌≡◌, ℕ, Bool, true, false, ◌++◌, List, [], ◌∷◌, take, length, codes, Option, Some, None, MatchOption, slice_get, Result, IfOk, Vec}
+use Rattle.std.specs.Prelude.{ℕ, Bool, true, false, ◌++◌, List, [], ◌∷◌, take, length, codes, Option, Some, None, MatchOption, slice_get, Result, IfOk, String, Vec}
 use Rattle.std.specs.Option.{option_map_or}
 use Rattle.std.specs.Fmt.{decimal}
+use Rattle.lu_text.specs.Writing.{Writes}
 use Rattle.lu_component.specs.Component.{Component}
 use Rattle.lu_test.specs.declared.schedule.Move.{Move}
 use Rattle.lu_test.specs.Matrix.{Matrix}
@@ -99,3 +100,22 @@ both_runs c matrix before o op =
 -- the run with the history q, and one that differs from it in the outcome of operation i
 abbrev pub conflict_text : Component → Matrix → List SerialOp → ℕ → SerialOutcome → List ℕ
 conflict_text c matrix q i o = option_map_or (both_runs c matrix (take i q) o) (slice_get q i) []
+
+-- ---- texts in memory, unless memory ran out
+
+-- the text grows by the line that says what differs
+abbrev pub AddsDifference : {T E Z : Type 0} → Result T E → String Z → String Z → Component
+    → Matrix → List SerialOp → SerialOp → SerialOutcome → Type 0
+AddsDifference result old new c matrix before op o =
+    Writes result old new (difference_line c matrix before op o)
+
+-- by both runs, and what differs
+abbrev pub AddsRuns : {T E Z : Type 0} → Result T E → String Z → String Z → Component → Matrix
+    → List SerialOp → SerialOp → SerialOutcome → Type 0
+AddsRuns result old new c matrix before op o =
+    Writes result old new (both_runs c matrix before o op)
+
+-- the same of operation i of the history q
+abbrev pub AddsConflict : {T E Z : Type 0} → Result T E → String Z → String Z → Component → Matrix
+    → List SerialOp → ℕ → SerialOutcome → Type 0
+AddsConflict result old new c matrix q i o = Writes result old new (conflict_text c matrix q i o)

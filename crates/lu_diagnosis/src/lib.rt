@@ -1,6 +1,7 @@
 //! What people are told of a fault, beside the explanation of its history.
 //!
-//! [`write_what_happened`] says in one sentence why no serial history explains a history.
+//! [`write_what_happened`] says in one sentence why no serial history explains a history. It names
+//! the precedence that [`broken_precedence`] gives, where some order has the outcomes.
 //! [`write_conflict`] shows two serial runs that make the same calls and differ in the outcome of
 //! the last. [`write_next_steps`] says what each thread can do next after a schedule.
 //!
@@ -23,5 +24,5 @@ mod writing;
 
 pub use laws::conflict_laws;
 pub use next_steps::write_next_steps;
-pub use sentences::write_what_happened;
+pub use sentences::{broken_precedence, write_what_happened};
 pub use serial_runs::{serial_history, write_conflict};

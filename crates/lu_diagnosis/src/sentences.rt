@@ -5,7 +5,7 @@ ghost use Rattle.lu_test.specs.declared.matrix.TheConstants.{MOST_THREADS};
 ghost use Rattle.lu_text.specs.Writing.{Writes};
 ghost use Rattle.lu_history.specs.Parts.{part};
 ghost use Rattle.lu_diagnosis.specs.Sentences as spec;
-ghost use Rattle.lu_diagnosis.specs.Sentences.{Adds, IsSentenceBy, Says, SaysOf, SaysWhatHappened, TellsBroken, TellsFirstOwn, happened, late, order_words, past_words, thread_sentence, why_left};
+ghost use Rattle.lu_diagnosis.specs.Sentences.{AddsBy, AddsThread, Says, SaysOf, SaysWhy, TellsBroken, TellsFirstOwn, happened, late, order_words, past_words, why_left};
 
 use crate::serial_runs::write_end;
 use crate::writing::write_operation;
@@ -160,17 +160,16 @@ fn write_thread(
     component: &Component,
     matrix: &Matrix,
     history: &History,
-    explanation: &Explanation,
+    why: &Explanation,
     t: u8,
 ) -> Result<(), AllocError>
     requires { t < MOST_THREADS }
-    ensures { Writes result text.old text.new
-        (thread_sentence component.now matrix.now history.now explanation.now t) }
+    ensures { AddsThread result text.old text.new component.now matrix.now history.now why.now t }
 {
-    let Some(reason) = explanation.reason(t) else {
+    let Some(reason) = why.reason(t) else {
         return Ok(());
     };
-    let order = explanation.order();
+    let order = why.order();
     write_happened(text, component, matrix, history, t, count(order, t))?;
     write_but(text, component, matrix, order, reason)?;
     text.push('\n')
@@ -183,23 +182,24 @@ fn write_sentence(
     component: &Component,
     matrix: &Matrix,
     history: &History,
-    explanation: &Explanation,
+    why: &Explanation,
     broken: Option<Precedence>,
 ) -> Result<(), AllocError>
-    ensures { Adds result text.old text.new
-        (IsSentenceBy component.now matrix.now history.now explanation.now broken) }
+    ensures { AddsBy result text.old text.new component.now matrix.now history.now why.now broken }
 {
     match broken {
         Some(broken) => write_late(text, component, matrix, history, broken),
-        None => match first_own(explanation) {
+        None => match first_own(why) {
             None => Ok(()),
-            Some(t) => write_thread(text, component, matrix, history, explanation, t),
+            Some(t) => write_thread(text, component, matrix, history, why, t),
         },
     }
 }
 
-/// The first precedence that the least order of the calls with these outcomes breaks.
-fn broken_precedence<T: SerialTree>(tree: &T, history: &History) -> Option<Precedence>
+/// The first precedence that the least order of the calls with these outcomes breaks; `None` where no
+/// order has them. The sentence about a history without a witness names it
+/// ([`write_what_happened`]).
+pub fn broken_precedence<T: SerialTree>(tree: &T, history: &History) -> Option<Precedence>
     ensures { TellsBroken (T.members tree.now) history.now result }
 {
     match any_order(tree, history) {
@@ -269,8 +269,7 @@ pub fn write_what_happened<T: SerialTree>(
     history: &History,
     verdict: Verdict,
 ) -> Result<String, AllocError>
-    ensures { SaysWhatHappened (T.members tree.now) component.now matrix.now history.now verdict
-        result }
+    ensures { SaysWhy (T.members tree.now) component.now matrix.now history.now verdict result }
 {
     match verdict {
         Verdict::Good => Ok(String::new(alloc)),

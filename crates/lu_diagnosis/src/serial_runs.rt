@@ -4,7 +4,7 @@ ghost use Rattle.std.specs.Prelude.{◌≡◌, ◌++◌, OnOk};
 ghost use Rattle.lu_text.specs.Writing.{Writes};
 ghost use Rattle.lu_machine.specs.Starts.{CanRun, FromEachStart};
 ghost use Rattle.lu_diagnosis.specs.SerialRuns as spec;
-ghost use Rattle.lu_diagnosis.specs.SerialRuns.{EndsSerially, TellsHistory, TellsOpen, after_words, both_runs, conflict_text, difference_line, ends_words, run_text};
+ghost use Rattle.lu_diagnosis.specs.SerialRuns.{AddsConflict, AddsDifference, AddsRuns, EndsSerially, TellsHistory, TellsOpen, after_words, ends_words, run_text};
 
 use crate::writing::{write_entry, write_operation, write_order};
 use lu_component::Component;
@@ -151,8 +151,7 @@ fn write_difference(
     op: SerialOp,
     other: SerialOutcome,
 ) -> Result<(), AllocError>
-    ensures { Writes result text.old text.new
-        (difference_line component.now matrix.now before.now op other) }
+    ensures { AddsDifference result text.old text.new component.now matrix.now before.now op other }
 {
     write_after(text, component, matrix, before)?;
     write_operation(text, component, matrix, op.thread, count(before, op.thread))?;
@@ -172,8 +171,7 @@ fn write_both_runs(
     op: SerialOp,
     other: SerialOutcome,
 ) -> Result<(), AllocError>
-    ensures { Writes result text.old text.new
-        (both_runs component.now matrix.now before.now other op) }
+    ensures { AddsRuns result text.old text.new component.now matrix.now before.now op other }
 {
     let thread = op.thread;
     let otherwise = SerialOp {
@@ -202,8 +200,7 @@ pub fn write_conflict(
     at: usize,
     other: SerialOutcome,
 ) -> Result<(), AllocError>
-    ensures { Writes result text.old text.new
-        (conflict_text component.now matrix.now history.now at other) }
+    ensures { AddsConflict result text.old text.new component.now matrix.now history.now at other }
 {
     match history.get(at) {
         None => Ok(()),

@@ -46,6 +46,7 @@ row_texts_part = record {
       let digits = length-decimal-le 2 n (omega arith) (omega (arith, small)) (omega (arith, small)) in
       omega (arith, digits);
   next = λ t. omega arith;
+  rule = λ threads t within. omega (arith, within);
 }
 
 pub one_line : (c : Component) (matrix : Matrix) (e : Explanation) (t k : ℕ) (end : Option End) → 0 < length (why_words c matrix (Some e) t k end) → (k ≡ length (entries t e.order)) × (has_reason (Some e) t ≡ true)

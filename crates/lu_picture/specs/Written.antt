@@ -18,7 +18,8 @@ use Rattle.lu_picture.specs.declared.bars.Bar.{Bar}
 use Rattle.lu_picture.specs.declared.head.PictureSize.{PictureSize}
 use Rattle.lu_picture.specs.declared.mark.End.{End}
 use Rattle.lu_picture.specs.declared.mark.Mark.{Mark}
-use Rattle.lu_picture.specs.Pictures.{Drawing, IsWordedPicture, body, picture, picture_size}
+use Rattle.lu_picture.specs.declared.diagnosis.Diagnosis.{Diagnosis}
+use Rattle.lu_picture.specs.Pictures.{Drawing, IsWordedPicture, Why, body, picture, picture_size}
 use Rattle.lu_picture.specs.Reasons.{reason_said, why_words}
 use Rattle.lu_picture.specs.Shapes.{bar, bar_by, bars, foot_head, foot_line, line_length, longest_line, reason_line, why_of}
 
@@ -64,11 +65,15 @@ abbrev pub IsLongestLine : {E : Type 0} → Result ℕ E → State → List Mark
 IsLongestLine result s marks why =
     IfOk result (λ long. long ≡ longest_line s marks (option_copied why) (length marks))
 
+-- what is lent, as a picture shows it
+abbrev pub said_by : Diagnosis → Why
+said_by why = record { explanation = option_copied why.explanation; broken = why.broken }
+
 -- how wide and how high a picture is
-abbrev pub IsPictureSize : {E : Type 0} → Result PictureSize E → State → Drawing
-    → Option (Bor Explanation) → ℕ → Type 0
+abbrev pub IsPictureSize : {E : Type 0} → Result PictureSize E → State → Drawing → Diagnosis → ℕ
+    → Type 0
 IsPictureSize result s d why heading =
-    IfOk result (λ size. size ≡ picture_size s d (option_copied why) heading)
+    IfOk result (λ size. size ≡ picture_size s d (said_by why) heading)
 
 -- a bar, and what stands at its call and in the foot
 abbrev pub WritesBar : {T E Z : Type 0} → Result T E → String Z → String Z → State → Drawing
@@ -90,18 +95,17 @@ WritesBars result old new s d why =
 
 -- all that stands below the head
 abbrev pub WritesBody : {T E Z : Type 0} → Result T E → String Z → String Z → Wording → State
-    → Drawing → Option (Bor Explanation) → Type 0
-WritesBody result old new how end d why =
-    Writes result old new (body how end d (option_copied why))
+    → Drawing → Diagnosis → Type 0
+WritesBody result old new how end d why = Writes result old new (body how end d (said_by why))
 
 -- the picture of a run of n moves, from what is drawn of them
 abbrev pub WritesWhole : {E Z : Type 0} → Result (String Z) E → Wording → ℕ → State → Status
-    → Drawing → Option (Bor Explanation) → Type 0
+    → Drawing → Diagnosis → Type 0
 WritesWhole result how n end status d why =
-    HasText result (picture how n end status d (option_copied why))
+    HasText result (picture how n end status d (said_by why))
 
 -- the picture of a schedule in these words
 abbrev pub Shows : {E Z : Type 0} → Result (String Z) E → Wording → Component → Matrix
-    → List Move → Option (Bor Explanation) → Type 0
+    → List Move → Diagnosis → Type 0
 Shows result how c matrix u why =
-    IfOk result (λ text. IsWordedPicture how c matrix u (option_copied why) (string_bytes text))
+    IfOk result (λ text. IsWordedPicture how c matrix u (said_by why) (string_bytes text))

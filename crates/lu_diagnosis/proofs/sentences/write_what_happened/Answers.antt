@@ -1,7 +1,6 @@
 use Rattle.std.proofs.Common.{List, subst}
 use Rattle.lu_machine.specs.declared.event.Event.{Event}
-use Rattle.lu_witness.specs.declared.judgement.Verdict.{Verdict}
-use Rattle.lu_diagnosis.specs.Sentences.{Says, SaysWhatHappened}
+use Rattle.lu_diagnosis.specs.Sentences.{Says}
 use Rattle.lu_diagnosis.proofs.sentences.write_what_happened.Goals as goal
 
 pub returns-in-Ok : goal.returns-in-Ok

@@ -1,4 +1,4 @@
-use Rattle.std.proofs.Common.{◌≡◌, false, sym, arith, ◌∙◌}
+use Rattle.std.proofs.Common.{◌≡◌, false, sym, arith}
 use borrow.Author.Count.{below_more}
 use Rattle.lu_diagnosis.specs.SerialRuns.{is_open}
 use Rattle.lu_diagnosis.proofs.SerialRun.{none_open, open_true}

@@ -1,8 +1,8 @@
 use Rattle.std.proofs.Common.{◌≡◌, length, rules, refl, get_or, ap, string_bytes}
-use Rattle.std.specs.Option.{option_copied}
 use Rattle.std.proofs.lemmas.List.{get_or_default}
 use Rattle.lu_test.specs.declared.schedule.Move.{Move}
 use Rattle.lu_machine.specs.Steps.{IsFeasible}
+use Rattle.lu_picture.specs.Written.{said_by}
 use Rattle.lu_picture.proofs.Drawn.{drawn_all, drawn_more, drawn_none, drawn_picture, drawn_to}
 use Rattle.lu_picture.proofs.drawing.write_worded_picture.Goals as goal
 
@@ -30,4 +30,4 @@ returns-clause-picture c =
     let d = c.loop-at.drawing in
     let long : n ≡ length c.args.schedule.now = ap length c.moves-moves.ensures.moves in
     let run = drawn_all c.args.how.now c.args.component.now c.args.matrix.now c.in_ok-machine.machine c.moves-next-items.result.now c.args.schedule.now c.loop-at.at end d c.status-status.result c.in_ok-machine.ensures.starts c.moves-next-items.ensures.moves c.loop-at-test.false c.loop-at.invariant c.status-status.ensures in
-    drawn_picture c.args.how.now c.args.component.now c.args.matrix.now n c.args.schedule.now end d c.status-status.result (option_copied c.args.explanation) (string_bytes c.in_ok-text.text) long run c.in_ok-text.ensures
+    drawn_picture c.args.how.now c.args.component.now c.args.matrix.now n c.args.schedule.now end d c.status-status.result (said_by c.args.why) (string_bytes c.in_ok-text.text) long run c.in_ok-text.ensures
