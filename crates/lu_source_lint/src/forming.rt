@@ -23,7 +23,7 @@ enum Place {
 }
 
 /// The word that begins a line, where such a line is allowed, and how it looks.
-const FORMS: [(&str, Place, &str); 18] = [
+const FORMS: [(&str, Place, &str); 19] = [
     ("let", Place::Operation, "`let NAME = EXPR`"),
     (
         "const",
@@ -57,6 +57,11 @@ const FORMS: [(&str, Place, &str); 18] = [
         "await",
         Place::Operation,
         "`await CELL == EXPR` or `await CELL != EXPR`",
+    ),
+    (
+        "assert",
+        Place::Operation,
+        "`assert EXPR`, in a source with a shared word",
     ),
     ("cas", Place::Operation, "`cas(CELL, OLD, NEW)`"),
     (
@@ -163,14 +168,8 @@ fn found_words(
     Ok(Some(format!(in alloc; "expected {expected}, found `{word}`{help}")?))
 }
 
-/// What follows the `{` of a line, which should be its end.
-fn after_brace<'a>(words: &[&'a [u8]]) -> Option<&'a [u8]> {
-    let brace = brace_in(words)?;
-    words.get(brace.saturating_add(1)).copied()
-}
-
-/// A line that begins with `op` in an operation, or `else` without `}`, or whose `{` is missing, on a
-/// line of its own, or not at its end.
+/// A line that begins with `op` in an operation, or `else` without `}`, or whose `{` is missing or on a
+/// line of its own.
 fn block_words(
     alloc: Global,
     scope: &Scope<'_>,
@@ -197,12 +196,7 @@ fn block_words(
     } else if lacks_brace(scope, words) {
         brace_words(scope, words)
     } else {
-        return found_words(
-            alloc,
-            "the end of the line after `{`",
-            after_brace(words),
-            "; help: write each statement, and the `}`, on a line of its own",
-        );
+        return Ok(None);
     };
     Ok(Some(String::from_str(alloc, said)?))
 }
@@ -651,10 +645,6 @@ pub(crate) fn number_words(
         return format!(in alloc; "expected a number or a constant, found `{said}`");
     }
     match no_operand(words) {
-        Some(word) if word == sign => String::from_str(
-            alloc,
-            "unexpected `-`: numbers are not negative; help: write `0 - N`, which is taken modulo 2^32",
-        ),
         Some(word) => {
             let word = shown(word);
             format!(in alloc; "expected an expression, found `{word}`")

@@ -20,7 +20,7 @@ use Rattle.lu_component.specs.Component.{AreDistinct, IsArray, IsComponent, IsIn
 use Rattle.lu_source.specs.declared.tree.Action.{Action}
 use Rattle.lu_source.specs.declared.tree.Action.TheVariants.{Set, Compute, Load, Store, Cas, Lock, Unlock, Await, AwaitNot, Pick, Return}
 use Rattle.lu_source.specs.Code.{instr_of, op_of, operation_code}
-use Rattle.lu_source_text.specs.Grammar.{Begun, Block, Drafted, Kind, all_read, aside, last_number, last_word, after_word, by_state, by_words, close_blocks, closes, end_block, constant_from, const_line, declaration, else_line, end_line, first_number, init_in, inside, is_free_name, is_operation, is_taken, is_too_long, is_whole, is_word, keeps_going, len_in, line_of, local_line, lock_line, names_from, names_in, name_of, new_name, nothing, nothing_left, object_line, on_first, on_ok, or_fault, op_line, other_side, position_from, program_of, shared_from, source_grammar, source_words, statement, whole_line, word_line}
+use Rattle.lu_source_text.specs.Grammar.{Begun, Block, Drafted, Kind, all_read, aside, last_number, last_word, after_word, by_state, by_statements, by_words, close_blocks, closes, end_block, constant_from, const_line, declaration, else_line, end_line, first_number, init_in, inside, is_free_name, is_operation, is_taken, is_too_long, is_whole, is_word, keeps_going, len_in, line_of, local_line, lock_line, names_from, names_in, name_of, new_name, nothing, nothing_left, object_line, on_first, on_ok, or_fault, op_line, other_side, position_from, program_of, shared_from, source_grammar, source_words, statements, statement, whole_line, word_line}
 use Rattle.lu_source.specs.Programs.{operation_of}
 use Rattle.lu_source_text.specs.Drafts.{begun_of, drafted_of}
 use Rattle.lu_source_text.specs.declared.draft.Begun.{Begun as HeldBegun}
@@ -397,11 +397,16 @@ module _ (d : Drafted) (h : IsDraft d) where
   words_kept [] = h
   words_kept (w ∷ ws) = state_kept d.name d.begun refl h.begun w ws
 
+statements_kept : (d : Drafted) → IsDraft d → (all : List (List Word)) → Holds IsDraft (by_statements d all)
+statements_kept d h [] = h
+statements_kept d h (words ∷ others) = then_holds IsDraft IsDraft (by_words d words) _ (words_kept d h words) (λ next k. statements_kept next k others)
+
+module _ (d : Drafted) (h : IsDraft d) where
   pub line_kept : (line : List ℕ) → Holds IsDraft (line_of d line)
   unfolding line_of
   line_kept line =
       unless_holds IsDraft (not (list_all is_allowed line)) Byte _ (λ allowed.
-      unless_holds IsDraft (is_too_long (source_words line)) Limit _ (λ few. words_kept (source_words line)))
+      unless_holds IsDraft (is_too_long (source_words line)) Limit _ (λ few. statements_kept d h (statements (source_words line))))
 
 -- ---- texts
 

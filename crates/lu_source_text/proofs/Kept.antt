@@ -1,22 +1,23 @@
 -- What is read of a source names what is there.
-use Rattle.std.proofs.Common.{◌≡◌, ℕ, zero, suc, ◌+◌, ◌<◌, ◌^◌, nat_lt, Bool, true, false, ◌||◌, if◌then◌else◌, List, [], ◌∷◌, length, Option, Some, None, MatchOption, refl, lit<, arith}
+use Rattle.std.proofs.Common.{◌≡◌, ℕ, zero, suc, ◌+◌, ◌-◌, ◌<◌, ◌^◌, nat_lt, Bool, true, false, ◌||◌, if◌then◌else◌, List, [], ◌∷◌, length, Option, Some, None, MatchOption, refl, lit<, arith}
 use Rattle.std.specs.Prelude.{Result, Ok, Err, codes}
 use Rattle.std.specs.List.{AllByRecursion}
 use Rattle.std.specs.Option.{option_map, unwrap_or}
 use Rattle.std.specs.Str.{bytes_eq}
+use Rattle.std.proofs.Math.Nat.{mod-lt}
 use Rattle.std.proofs.lemmas.Bool.{ltb-false, or_parts}
 use Rattle.lu_text.specs.Numbers.{value_in}
 use Rattle.lu_text.specs.Words.{Word}
 use Rattle.lu_text.proofs.NumberText.{value_small}
 use Rattle.lu_source.specs.Expressions.{Expr}
-use Rattle.lu_source.specs.Expressions.Expr.{Number, Local}
+use Rattle.lu_source.specs.Expressions.Expr.{Number, Local, Read, Swap, Fetch, Pick, Binary, Not, And, Or}
 use Rattle.lu_source.specs.declared.updating.Answer.{Answer}
 use Rattle.lu_source.specs.declared.updating.Update.{Update}
 use Rattle.lu_source_text.specs.declared.updates.CellCall.{CellCall}
 use Rattle.lu_source_text.specs.declared.updates.CellCall.TheVariants as called
 use Rattle.lu_source_text.specs.declared.infix.Infix.{Infix}
 use Rattle.lu_source_text.specs.declared.infix.Infix.TheVariants.{Or as Or', And as And', Joins}
-use Rattle.lu_source_text.specs.Grammar.{Inner, Kind, Read', Scope, all_read, after_word, binding, call_in, call_with, cell_with, closed_with, constant_from, either, expr_from, fetch_with, first_number, infix_from, infix_in, inner_by, is_free_name, is_word, joined, local_in, most_after, name_with, named_expr, number_of, on_first, on_ok, operands_with, or_fault, pick_from, plain_with, shared_from, steps_for, swap_with, unary_with, unless, where_some}
+use Rattle.lu_source_text.specs.Grammar.{Inner, Kind, Read', Scope, all_read, after_word, binding, call_in, call_with, cell_with, closed_with, constant_from, either, expr_from, fetch_with, first_number, infix_from, infix_in, inner_by, is_free_name, is_word, joined, local_in, most_after, name_with, negative, named_expr, number_of, on_first, on_ok, operands_with, or_fault, pick_from, plain_with, shared_from, steps_for, swap_with, unary_with, unless, where_some}
 use Rattle.lu_source_text.specs.Constants.{Constant}
 use Rattle.lu_source_text.specs.declared.draft.Shared.{Shared}
 use Rattle.lu_source_text.specs.declared.fault.SourceFaultKind.TheVariants.{Form, Number as Number', Limit, Name}
@@ -197,16 +198,29 @@ module _ (s : Scope) (values : AreValues s.constants) where
         let high = ltb-false 8 r.0 parts.1 in
         after_holds Fine (codes ")") r.1 _ (λ more. (low, high)))))
 
+    negative_fine : (e : Expr) → IsExpr (length s.words) e → IsExpr (length s.words) (negative e)
+    negative_fine (Number n) h = mod-lt (0 + (2 ^ 32 - n)) (lit< tt)
+    negative_fine (Local r) h = (lit< tt, h)
+    negative_fine (Read w i) h = (lit< tt, h)
+    negative_fine (Swap answer w i old new) h = (lit< tt, h)
+    negative_fine (Fetch by w i e) h = (lit< tt, h)
+    negative_fine (Pick n) h = (lit< tt, h)
+    negative_fine (Binary by a b) h = (lit< tt, h)
+    negative_fine (Not a) h = (lit< tt, h)
+    negative_fine (And a b) h = (lit< tt, h)
+    negative_fine (Or a b) h = (lit< tt, h)
+
     -- an expression that calls nothing of a cell
     plain_fine : (w : Word) (ws : List Word) → Holds Fine (plain_with w inner ws)
     plain_fine w ws =
         if_holds Fine (is_word w (codes "!")) _ _ (then_holds Fine Fine (read 6 ws) _ (inner_fine 6 ws) (λ r h. h))
+        (if_holds Fine (is_word w (codes "-")) _ _ (then_holds Fine Fine (read 6 ws) _ (inner_fine 6 ws) (λ r h. negative_fine r.0 h))
         (if_holds Fine (is_word w (codes "(")) _ _ (closed_fine (codes ")") ws)
         (if_holds Fine (is_word w (codes "pick")) _ _ (pick_fine ws)
         (if_holds Fine (is_word w (codes "true")) (Ok (Number 1, ws)) _ (lit< tt)
         (if_holds Fine (is_word w (codes "false")) (Ok (Number 0, ws)) _ (lit< tt)
         (if_holds Fine (is_free_name w) _ _ (name_fine w ws)
-        (literal_fine w ws))))))
+        (literal_fine w ws)))))))
 
     unary_fine : (w : Word) (ws : List Word) → Holds Fine (unary_with w inner ws)
     unary_fine w ws =
