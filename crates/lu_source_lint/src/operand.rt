@@ -45,8 +45,7 @@ fn ends_operand(word: &[u8]) -> bool {
 
 /// Whether an expression may continue with the word, or end before it.
 fn follows_operand(word: &[u8]) -> bool {
-    is_infix(word)
-        || is_one_of(word, &[")", "]", "[", ",", "{", "}", ";", "=", "+=", "-="])
+    is_infix(word) || is_one_of(word, &[")", "]", "[", ",", "{", "}", ";", "=", "+=", "-="])
 }
 
 /// The first word that is no operand where one must be.

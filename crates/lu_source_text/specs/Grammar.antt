@@ -21,7 +21,7 @@ use Rattle.lu_source_text.specs.declared.infix.Infix.TheVariants.{Or as Or', And
 use Rattle.lu_source.specs.declared.tree.Action.{Action}
 use Rattle.lu_source.specs.declared.tree.Action.TheVariants as action
 use Rattle.lu_source.specs.Code.{falls, operation_code}
-use Rattle.lu_source.specs.Expressions.{Coded, Expr, as_test, coded, needed, past, put_at, result}
+use Rattle.lu_source.specs.Expressions.{Coded, Expr, as_test, coded, needed, opposite, past, put_at, result}
 use Rattle.lu_source.specs.Expressions.Expr.{Number, Local, Read, Swap, Fetch, Pick, Binary, Not, And, Or}
 use Rattle.lu_source.specs.declared.updating.Answer.{Answer}
 use Rattle.lu_source.specs.declared.updating.Answer.TheVariants.{Success, Before}
@@ -431,9 +431,43 @@ inner_of s ws = inner_by (steps_for ws) s
 abbrev pub last_word : List ℕ → List Word → Result (Unit {0}) Kind
 last_word text ws = on_ok (after_word text ws) nothing_left
 
--- a number, after which no word is left
+-- ---- constant expressions
+
+-- what the operator gives of two values, where both are known
+abbrev pub of_both : Operator → Option ℕ → Option ℕ → Option ℕ
+of_both by None right = None
+of_both by (Some m) right = option_map (result by m) right
+
+-- the value of an expression that is made of numbers alone, by operators and `!`
+abbrev pub folded : Expr → Option ℕ
+folded (Number n) = Some n
+folded (Binary by a b) = of_both by (folded a) (folded b)
+folded (Not a) = option_map opposite (folded a)
+folded _ = None
+
+-- a name that is no constant is no number
+abbrev pub as_number : {A : Type 0} → Result A Kind → Result A Kind
+as_number (Ok x) = Ok x
+as_number (Err Name) = Err Number'
+as_number (Err kind) = Err kind
+
+-- what names mean where only constants do
+abbrev pub constants_alone : List Constant → Scope
+constants_alone constants = record { constants = constants; words = []; locals = [] }
+
+-- an expression in which only constants have names, and the words after it
+abbrev pub alone : List Constant → List Word → Read' Expr
+alone constants ws = as_number (expr_from (steps_for ws) (constants_alone constants) 1 ws)
+
+-- a constant expression, and the words after it
+abbrev pub first_constant : List Constant → List Word → Read' ℕ
+first_constant constants ws =
+    on_ok (alone constants ws) (λ (e, rest).
+    on_ok (or_fault Number' (folded e)) (λ n. Ok (n, rest)))
+
+-- a constant expression, after which no word is left
 abbrev pub last_number : List Constant → List Word → Result ℕ Kind
-last_number constants ws = on_ok (first_number constants ws) all_read
+last_number constants ws = on_ok (first_constant constants ws) all_read
 
 -- the name that a word is
 abbrev pub name_of : Word → Result Word Kind
@@ -458,7 +492,7 @@ local_line d ws =
     unless (is_some d.local || nat_lt 0 (length d.operations)) Form
     (unless (nat_lt 16 most) Limit (Ok (record d { local = Some most }))))
 
--- `const NAME = N`
+-- `const NAME = EXPR`, with a constant expression
 abbrev pub const_line : Drafted → List Word → Result Drafted Kind
 const_line d ws =
     on_first ws (λ w rest. on_ok (new_name d [] w) (λ name.
@@ -469,7 +503,7 @@ const_line d ws =
 abbrev pub len_in : Drafted → List Word → Read' (ℕ × Bool)
 len_in d [] = Ok ((1, false), [])
 len_in d (w ∷ ws) =
-    if is_word w (codes "[") then on_ok (first_number d.constants ws) (λ (n, rest).
+    if is_word w (codes "[") then on_ok (first_constant d.constants ws) (λ (n, rest).
     on_ok (after_word (codes "]") rest) (λ more. Ok ((n, true), more)))
     else Ok ((1, false), w ∷ ws)
 

@@ -1,4 +1,4 @@
-use Rattle.std.proofs.Common.{rules, ◌<◌, ◌≡◌, false, length, drop, take, ap, ◌∙◌}
+use Rattle.std.proofs.Common.{rules, ◌≡◌, false, drop, take, ap, ◌∙◌}
 use Rattle.lu_source_text.specs.Grammar.{is_at_end, item_len}
 use Rattle.lu_source_text.proofs.Worded.{word_more}
 use Rattle.lu_source_text.proofs.words.source_words.Goals as goal
