@@ -1,5 +1,6 @@
 //! What is said of a line, in words.
 
+use crate::faults::{mended_before, owned};
 use crate::forming::{form_words, number_words};
 use crate::limit::limit_words;
 use crate::meaning::{is_dashes, spelled, word_is};
@@ -202,35 +203,29 @@ fn separator_words(alloc: Global, line: &[u8], dashes: usize) -> Result<String, 
     String::from_str(alloc, said)
 }
 
-/// Whether a source of these lines, and then of some statements of the next, has a fault in those.
-fn is_faulty_after(
-    alloc: Global,
-    above: &[&[u8]],
-    statements: &[Vec<u8>],
-) -> Result<bool, AllocError> {
-    let mut lines = Vec::from_slice(alloc, above)?;
-    for statement in statements {
-        lines.push(statement.as_slice())?;
-    }
+/// Whether a source of these lines has a fault in one of them after the first `count`.
+fn is_faulty_after(alloc: Global, count: usize, lines: &[Vec<u8>]) -> Result<bool, AllocError> {
+    let lines: Vec<&[u8]> = lines.iter().map(|line| line.as_slice()).collect(alloc)?;
     match read_source_lines(alloc, &lines) {
         Err(Fault::At(SourceFaultKind::Missing, _)) | Ok(_) => Ok(false),
-        Err(Fault::At(_, line)) => Ok(line > above.len()),
+        Err(Fault::At(_, line)) => Ok(line > count),
         Err(Fault::Memory) => Err(AllocError),
     }
 }
 
-/// Which of the statements of a line has its fault: the first with which the lines above are refused
-/// there, or else the last that has words.
+/// Which of the statements of a line has its fault: the first with which the lines above, as they may
+/// have been meant, are refused; or else the last that has words.
 fn faulty_statement(
     alloc: Global,
     above: &[&[u8]],
     statements: &[Vec<&[u8]>],
 ) -> Result<usize, AllocError> {
-    let mut texts = Vec::new(alloc);
+    let count = above.len();
+    let mut lines = mended_before(alloc, owned(alloc, above)?, count.saturating_add(1))?;
     let mut last = 0;
     for (index, statement) in statements.iter().enumerate() {
-        texts.push(spelled(alloc, statement)?)?;
-        if is_faulty_after(alloc, above, &texts)? {
+        lines.push(spelled(alloc, statement)?)?;
+        if is_faulty_after(alloc, count, &lines)? {
             return Ok(index);
         }
         if !statement.is_empty() {
