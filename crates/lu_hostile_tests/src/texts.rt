@@ -270,8 +270,8 @@ fn sources_are_compiled_or_refused(rt: HostRuntime) -> Result<(), Fail> {
     assert_eq!(rt;
         all,
         ReadCounts {
-            read: 838,
-            refused: 8147
+            read: 1303,
+            refused: 9537
         }
     );
     Ok(())
