@@ -3,11 +3,7 @@
 use crate::meaning::word_is;
 
 /// Words of other languages.
-const FOREIGN: [(&str, &str); 40] = [
-    (
-        ";",
-        "unexpected `;`; help: remove it, since a statement ends with its line",
-    ),
+const FOREIGN: [(&str, &str); 38] = [
     (
         ":",
         "unexpected `:`; help: leave types out, since every value is a number from 0 to 4294967295",
@@ -104,10 +100,6 @@ const FOREIGN: [(&str, &str); 40] = [
         "there is no `store`; help: assign to the word, as in `x = 1`",
     ),
     (
-        "assert",
-        "there is no `assert`; help: return a value that no serial run returns",
-    ),
-    (
         "self",
         "there is no `self`; help: write the name of the word",
     ),
@@ -134,9 +126,12 @@ const FOREIGN: [(&str, &str); 40] = [
 ];
 
 /// Two signs of other languages, side by side.
-const FOREIGN_PAIRS: [(&str, &str, &str); 12] = [
-    ("/", "/", "unexpected `//`; help: a comment begins with `#`"),
-    ("/", "*", "unexpected `/*`; help: a comment begins with `#`"),
+const FOREIGN_PAIRS: [(&str, &str, &str); 9] = [
+    (
+        "/",
+        "*",
+        "unexpected `/*`; help: a comment begins with `//` or `#`",
+    ),
     (
         "-",
         ">",
@@ -165,22 +160,12 @@ const FOREIGN_PAIRS: [(&str, &str, &str); 12] = [
     (
         "+",
         "+",
-        "there is no `++` operator; help: write `NAME = NAME + 1`",
+        "there is no `++` operator; help: write `NAME += 1`",
     ),
     (
         "-",
         "-",
-        "there is no `--` operator; help: write `NAME = NAME - 1`",
-    ),
-    (
-        "+",
-        "=",
-        "there is no `+=` operator; help: write `NAME = NAME + EXPR`",
-    ),
-    (
-        "-",
-        "=",
-        "there is no `-=` operator; help: write `NAME = NAME - EXPR`",
+        "there is no `--` operator; help: write `NAME -= 1`",
     ),
     (
         "*",
