@@ -1,10 +1,11 @@
 # Completion of `lineup` for bash. The script passes --source and --hints by itself.
 _lineup() {
     local word="${COMP_WORDS[COMP_CWORD]}" before="${COMP_WORDS[COMP_CWORD-1]}" options
+    local commands='compile lint serial check certify witness conform explain draw trace replay shrink campaign spec refute
+        commands test findings help'
     COMPREPLY=()
     if [ "$COMP_CWORD" -eq 1 ]; then
-        COMPREPLY=($(compgen -W 'compile lint serial check certify witness conform explain draw trace replay shrink campaign spec refute
-            commands test findings --help --version --build --install' -- "$word"))
+        COMPREPLY=($(compgen -W "$commands --help --version --build --install" -- "$word"))
         return
     fi
     case "$before" in
@@ -24,6 +25,7 @@ _lineup() {
                 check) options='--bound --serial --workers --depth --spec --marks' ;;
                 certify | test) options='--bound --serial --workers --depth --local --nodes --memory --rounds --forever' ;;
                 findings) options='gcc junit sarif --check --lint --watch' ;;
+                help) options="$commands" ;;
                 serial | shrink) options='--bound --serial' ;;
                 witness) options='--bound --serial --spec --marks' ;;
                 conform) options='--show' ;;

@@ -26,6 +26,8 @@ complete -c lineup -n __lineup_first -a campaign -d 'the first small matrix of t
 complete -c lineup -n __lineup_first -a spec -d 'a specification in its canonical form'
 complete -c lineup -n __lineup_first -a refute -d 'a schedule that violates the specification'
 complete -c lineup -n __lineup_first -a commands -d 'the commands and their options'
+complete -c lineup -n __lineup_first -a help -d 'what one command takes'
+complete -c lineup -n '__lineup_says help' -a 'lint serial check certify test findings witness conform explain draw trace compile replay shrink campaign spec refute commands'
 complete -c lineup -n '__lineup_says check certify test serial witness shrink campaign' -l bound -x -a '40 256' -d 'maximum number of moves in a schedule, 0 to 256'
 complete -c lineup -n '__lineup_says check certify test serial witness shrink campaign lint explain draw' -l serial -x -a '40 256' -d 'maximum number of moves of an operation that runs alone, 1 to 256'
 complete -c lineup -n '__lineup_says check certify test' -l workers -x -a '(seq 16)' -d 'number of worker threads'

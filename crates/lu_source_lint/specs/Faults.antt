@@ -82,7 +82,7 @@ meant_end words =
 
 abbrev pub meant_op : List Word → ℕ × List ℕ
 meant_op words =
-    if nat_lt (arguments_end words) 3 then (2, codes "() {")
+    if nat_lt (arguments_end words) 3 || not (word_is words 2 (codes "(")) then (2, codes "() {")
     else (min (arguments_end words) 10, codes ") {")
 
 -- The same of any line, by its fault and its first word: a name that the line declares is declared,

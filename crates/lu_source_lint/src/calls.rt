@@ -41,6 +41,38 @@ pub(crate) fn called_cell<'a>(words: &[&'a [u8]]) -> Option<&'a [u8]> {
     None
 }
 
+/// The cell of the first call and the word after it, where that is not the `,` that must follow, and
+/// how the call looks.
+fn after_cell<'a>(words: &[&'a [u8]]) -> Option<(&'a [u8], &'a [u8], &'static str)> {
+    for index in 0..words.len() {
+        if !calls_at(words, index) {
+            continue;
+        }
+        let (_, operands) = words.split_at(index.saturating_add(2).min(words.len()));
+        let form = call_form(words[index])?;
+        return match operands {
+            [cell, next, ..] if *next != b",".as_slice() && *next != b"[".as_slice() => {
+                Some((*cell, *next, form))
+            }
+            _ => None,
+        };
+    }
+    None
+}
+
+/// A call whose cell is not followed by `,`.
+pub(crate) fn cell_words(alloc: Global, words: &[&[u8]]) -> Result<Option<String>, AllocError> {
+    match after_cell(words) {
+        Some((cell, next, form)) if next != b")".as_slice() => {
+            let (cell, next) = (shown(cell), shown(next));
+            Ok(Some(format!(in alloc;
+                "expected `,` after the cell `{cell}`, found `{next}`; help: write {form}"
+            )?))
+        }
+        _ => Ok(None),
+    }
+}
+
 /// How the first call of the line looks.
 pub(crate) fn first_call(words: &[&[u8]]) -> Option<&'static str> {
     for index in 0..words.len() {
@@ -97,7 +129,7 @@ pub(crate) fn unknown_call_words(
         .find(|(known, _, _)| is_near(name, known.as_bytes()));
     match near {
         Some((_, _, form)) if is_called => Ok(Some(format!(in alloc;
-            "cannot find operation `{said}`; help: write {form}"
+            "cannot find `{said}`; help: write {form}"
         )?)),
         _ => Ok(None),
     }

@@ -1,6 +1,6 @@
 //! What is said of a line that has no form of a source, or a word that is no number in it.
 
-use crate::calls::{call_count_words, first_call, method_words};
+use crate::calls::{call_count_words, calls_at, cell_words, first_call, method_words};
 use crate::foreign::foreign_words;
 use crate::keyword::{is_keyword, near_keyword};
 use crate::meaning::{begins_matrix, word_is};
@@ -175,7 +175,7 @@ fn block_words(
     scope: &Scope<'_>,
     words: &[&[u8]],
 ) -> Result<Option<String>, AllocError> {
-    if word_is(words, 0, b"op") {
+    if word_is(words, 0, b"op") && scope.other_block().is_none() {
         if let Some(line) = scope.unclosed() {
             return Ok(Some(format!(in alloc;
                 "`op` is not allowed in an operation; help: close the block that begins on line {line} with a `}}`"
@@ -243,16 +243,37 @@ fn after_name_words(
 ) -> Result<String, AllocError> {
     let (name, said) = (shown(name), shown(next));
     let is_lock = !word_is(words, 0, b"object");
-    match (said, words.get(3)) {
-        ("[", _) if is_lock => format!(in alloc;
+    match said {
+        "[" if is_lock => format!(in alloc;
             "a lock has no index; help: declare `word {name}[LEN]`, and lock with `cas({name}[EXPR], 0, 1)`"
         ),
-        ("=", _) if is_lock => format!(in alloc; "a lock has no value; help: write `lock {name}`"),
-        ("-", Some(rest)) if is_free_name(rest) => {
-            let rest = shown(rest);
-            format!(in alloc; "unexpected `-` in a name; help: write `{name}_{rest}`")
-        }
+        "=" if is_lock => format!(in alloc; "a lock has no value; help: write `lock {name}`"),
+        "{" if is_lock => format!(in alloc;
+            "unexpected `{{`, since a lock has no block; help: write `lock {name}` alone, and `unlock {name}` after the statements"
+        ),
+        "{" => format!(in alloc;
+            "unexpected `{{`, since an object has no braces; help: write `object {name}` alone on its line"
+        ),
+        "," => String::from_str(
+            alloc,
+            "unexpected `,`; help: write each name on a line of its own",
+        ),
         _ => format!(in alloc; "expected the end of the line after the name, found `{said}`"),
+    }
+}
+
+/// A name with `-` in it that a line declares, locks or unlocks.
+fn hyphen_words(alloc: Global, words: &[&[u8]]) -> Result<Option<String>, AllocError> {
+    match words {
+        [_, name, sign, rest, ..]
+            if (declares(words) || word_is(words, 0, b"unlock"))
+                && *sign == b"-".as_slice()
+                && is_free_name(name)
+                && is_free_name(rest) => {
+            let (name, rest) = (shown(name), shown(rest));
+            Ok(Some(format!(in alloc; "unexpected `-` in a name; help: write `{name}_{rest}`")?))
+        }
+        _ => Ok(None),
     }
 }
 
@@ -263,6 +284,11 @@ fn keyword_argument<'a>(words: &[&'a [u8]]) -> Option<&'a [u8]> {
     } else {
         None
     }
+}
+
+/// Whether a word is a name or a number.
+fn is_value(word: &[u8]) -> bool {
+    is_free_name(word) || value_in(word).is_some()
 }
 
 /// A word after the whole declaration of a shared word or a constant, and what to do.
@@ -280,12 +306,23 @@ fn after_declaration<'a>(
             "declare each name on a line of its own",
         )),
         [_, _, sign, value, next, ..]
-            if *sign == b"=".as_slice()
-                && is_constant(scope, value)
-                && (is_free_name(next) || value_in(next).is_some()) => Some((
+            if *sign == b"=".as_slice() && is_constant(scope, value) && is_value(next) => Some((
             *next,
             "a declaration takes one number or constant",
         )),
+        [_, _, opens, _, closes, _, _, next, ..]
+            if *opens == b"[".as_slice()
+                && *closes == b"]".as_slice()
+                && (*next == b",".as_slice() || is_value(next)) => Some((
+            *next,
+            "each cell of an array begins with the same number",
+        )),
+        [_, _, next, ..] if *next == b"=".as_slice() || *next == b"[".as_slice() => None,
+        [_, _, next, ..] if is_word => Some((
+            *next,
+            "write `word NAME = EXPR`, or `word NAME[LEN]` for an array",
+        )),
+        [_, _, next, ..] => Some((*next, "write `const NAME = EXPR`")),
         _ => None,
     }
 }
@@ -302,6 +339,9 @@ fn unassigned_words(alloc: Global, words: &[&[u8]]) -> Result<Option<String>, Al
     match words.get(2) {
         None => Ok(Some(format!(in alloc;
             "expected `=` after `{name}`; help: write `let {name} = EXPR`"
+        )?)),
+        Some(next) if *next == b"[".as_slice() => Ok(Some(format!(in alloc;
+            "unexpected `[`, since a local is not an array; help: declare `word {name}[LEN]` outside of the operations"
         )?)),
         Some(next) => {
             let next = shown(next);
@@ -331,26 +371,60 @@ fn declaration_words(
     Ok(Some(format!(in alloc; "unexpected `{next}`; help: {help}")?))
 }
 
+/// A `cas` or a `pick` without `(` after it.
+fn uncalled(words: &[&[u8]]) -> Option<&'static str> {
+    for (index, word) in words.iter().enumerate() {
+        if !word_is(words, index.saturating_add(1), b"(") {
+            if *word == b"cas".as_slice() {
+                return Some("expected `(` after `cas`; help: write `cas(CELL, OLD, NEW)`");
+            }
+            if *word == b"pick".as_slice() {
+                return Some("expected `(` after `pick`; help: write `pick(K)`");
+            }
+        }
+    }
+    None
+}
+
+/// A comma that separates nothing, by the first word of its line, or a second index.
+fn comma_words(words: &[&[u8]]) -> Option<&'static str> {
+    let has_comma = words.contains(&b",".as_slice()) && first_call(words).is_none();
+    if words
+        .windows(2)
+        .any(|pair| word_is(pair, 0, b"]") && word_is(pair, 1, b"["))
+    {
+        Some("unexpected `][`, since an array has one index; help: write `NAME[I * LEN + J]`")
+    } else if word_is(words, 0, b"let") && has_outer_comma(words) {
+        Some("unexpected `,`; help: declare each local on a line of its own")
+    } else if word_is(words, 0, b"return") && (has_comma || has_outer_comma(words)) {
+        Some("unexpected `,`; help: return one value")
+    } else if has_comma && words.contains(&b"[".as_slice()) {
+        Some("unexpected `,`, since an array has one index; help: write `NAME[I * LEN + J]`")
+    } else {
+        None
+    }
+}
+
 /// What is wrong with the expression of a line.
 fn expression_words(alloc: Global, words: &[&[u8]]) -> Result<Option<String>, AllocError> {
-    if let Some(said) = unbalanced(words) {
+    if let Some(said) = uncalled(words).or(unbalanced(words)) {
         return Ok(Some(String::from_str(alloc, said)?));
     }
     if chains_comparisons(words) {
         let said = "comparisons do not chain; help: write `A < B && B < C`";
         return Ok(Some(String::from_str(alloc, said)?));
     }
-    if word_is(words, 0, b"let") && has_outer_comma(words) {
-        let said = "unexpected `,`; help: declare each local on a line of its own";
-        return Ok(Some(String::from_str(alloc, said)?));
-    }
-    if word_is(words, 0, b"return") && has_outer_comma(words) {
-        let said = "unexpected `,`; help: return one value";
+    if let Some(said) = comma_words(words) {
         return Ok(Some(String::from_str(alloc, said)?));
     }
     if let Some(word) = last_operator(words) {
         let word = shown(word);
-        return Ok(Some(format!(in alloc; "expected an expression after `{word}`")?));
+        let expected = if word_is(words, 0, b"word") || word_is(words, 0, b"const") {
+            "a number or a constant"
+        } else {
+            "an expression"
+        };
+        return Ok(Some(format!(in alloc; "expected {expected} after `{word}`")?));
     }
     found_words(
         alloc,
@@ -366,6 +440,38 @@ fn slip_words(alloc: Global, word: &[u8], keyword: &str) -> Result<String, Alloc
     format!(in alloc; "unexpected `{word}`; help: a similar keyword exists: `{keyword}`")
 }
 
+/// What to do with a line outside of operations, where that can be told.
+fn outside_help(scope: &Scope<'_>, words: &[&[u8]], first: &[u8]) -> &'static str {
+    if first == b"component".as_slice() {
+        "; help: write a component and a source into files of their own"
+    } else if scope.declared(first) == Some(Declared::Operation) {
+        "; help: list the calls of each thread in the matrix, after a line `---`"
+    } else if word_is(words, 1, b"=") || scope.declared(first).is_some() {
+        "; help: statements belong in an operation"
+    } else {
+        ""
+    }
+}
+
+/// A line that begins with a name that may be assigned to, before this word.
+fn unfinished_words(alloc: Global, name: &str, next: Option<&[u8]>) -> Result<String, AllocError> {
+    match next {
+        None => format!(in alloc; "expected `=` after `{name}`; help: write `{name} = EXPR`"),
+        Some(next) if next == b",".as_slice() => String::from_str(
+            alloc,
+            "unexpected `,`; help: write each assignment on a line of its own",
+        ),
+        Some(next) if next == b"=".as_slice() => String::from_str(
+            alloc,
+            "expected an operator or the end of the line, found another `=`",
+        ),
+        Some(next) => {
+            let next = shown(next);
+            format!(in alloc; "expected `=` after `{name}`, found `{next}`")
+        }
+    }
+}
+
 /// What is expected in place of a line with this first word, which begins no form.
 fn no_form_words(
     alloc: Global,
@@ -378,8 +484,9 @@ fn no_form_words(
     }
     let said = shown(first);
     if !scope.is_in_operation() {
+        let help = outside_help(scope, words, first);
         return format!(in alloc;
-            "expected `word`, `lock`, `const`, `local` or `op`, found `{said}`; help: statements belong in an operation"
+            "expected `word`, `lock`, `const`, `local` or `op`, found `{said}`{help}"
         );
     }
     if word_is(words, 1, b"=") && !is_free_name(first) {
@@ -389,6 +496,9 @@ fn no_form_words(
         return format!(in alloc;
             "expected a statement, found a comparison of `{said}`; help: write `=` to assign"
         );
+    }
+    if scope.is_assigned(first) {
+        return unfinished_words(alloc, said, words.get(1).copied());
     }
     format!(in alloc; "expected a statement, such as `NAME = EXPR`, found `{said}`")
 }
@@ -406,6 +516,9 @@ fn call_words(words: &[&[u8]]) -> Option<&'static str> {
 
 /// A call with too few or too many operands.
 fn count_words(alloc: Global, words: &[&[u8]]) -> Result<Option<String>, AllocError> {
+    if let Some(said) = cell_words(alloc, words)? {
+        return Ok(Some(said));
+    }
     if let Some(said) = call_count_words(alloc, words)? {
         return Ok(Some(said));
     }
@@ -429,6 +542,9 @@ fn form_in(words: &[&[u8]]) -> Option<&'static (&'static str, Place, &'static st
 /// How a line that begins with this word looks.
 fn form_of(words: &[&[u8]]) -> Option<&'static str> {
     let form = form_in(words).map(|(_, _, looks)| *looks);
+    if word_is(words, 0, b"loop") {
+        return form;
+    }
     call_words(words).or(first_call(words)).or(form)
 }
 
@@ -438,13 +554,33 @@ fn place_words(
     scope: &Scope<'_>,
     words: &[&[u8]],
 ) -> Result<Option<String>, AllocError> {
+    if let Some(word) = words.first() {
+        if calls_at(words, 0) && !scope.is_in_operation() {
+            let word = shown(word);
+            return Ok(Some(format!(in alloc; "`{word}` is only allowed in an operation")?));
+        }
+    }
+    if let (Some((word, Place::Outside, _)), Some(line)) = (form_in(words), scope.other_block()) {
+        return Ok(Some(format!(in alloc;
+            "`{word}` is only allowed outside of blocks; help: remove line {line} and the `}}` of its block"
+        )?));
+    }
     match form_in(words) {
-        Some((word, Place::Operation, _)) if !scope.is_in_operation() => Ok(Some(format!(in alloc;
-            "`{word}` is only allowed in an operation"
-        )?)),
-        Some((word, Place::Outside, _)) if scope.is_in_operation() => Ok(Some(format!(in alloc;
-            "`{word}` is only allowed outside of operations"
-        )?)),
+        Some((word, Place::Operation, _)) if !scope.is_in_operation() => {
+            let help = if *word == "let" {
+                "; help: write `word NAME = N` for a shared word"
+            } else {
+                ""
+            };
+            Ok(Some(format!(in alloc; "`{word}` is only allowed in an operation{help}")?))
+        }
+        Some((word, Place::Outside, _)) if scope.is_in_operation() => {
+            let help = match *word {
+                "const" | "word" | "local" => "; help: write `let NAME = EXPR` for a local",
+                _ => "",
+            };
+            Ok(Some(format!(in alloc; "`{word}` is only allowed outside of operations{help}")?))
+        }
         _ => Ok(None),
     }
 }
@@ -481,15 +617,36 @@ fn lacks_comma(words: &[&[u8]]) -> bool {
         .any(|pair| { pair.iter().all(|word| is_free_name(word)) })
 }
 
+/// The first word in the place of the name of an argument.
+fn no_argument<'a>(words: &[&'a [u8]]) -> Option<&'a [u8]> {
+    let (_, arguments) = words.split_at(words.len().min(2));
+    for pair in arguments.windows(2) {
+        if let [before, word] = pair {
+            let opens = *before == b"(".as_slice() && *word != b")".as_slice();
+            if (opens || *before == b",".as_slice()) && !is_free_name(word) {
+                return Some(*word);
+            }
+        }
+    }
+    None
+}
+
 /// A line that begins an operation of a right name.
-fn operation_words(words: &[&[u8]]) -> Option<&'static str> {
+fn operation_words(alloc: Global, words: &[&[u8]]) -> Result<Option<String>, AllocError> {
     let is_named = words.get(1).is_some_and(|name| is_free_name(name));
     if !word_is(words, 0, b"op") || !is_named {
-        None
-    } else if lacks_comma(words) {
-        Some("expected `op NAME(A, B) {`; help: separate arguments by `,`")
-    } else {
-        unbalanced(words).or(Some("expected `op NAME(A, B) {`"))
+        return Ok(None);
+    }
+    if lacks_comma(words) {
+        let said = "expected `op NAME(A, B) {`; help: separate arguments by `,`";
+        return Ok(Some(String::from_str(alloc, said)?));
+    }
+    if let Some(said) = unbalanced(words) {
+        return Ok(Some(String::from_str(alloc, said)?));
+    }
+    match no_argument(words) {
+        Some(word) => found_words(alloc, "the name of an argument", Some(word), ""),
+        None => Ok(Some(String::from_str(alloc, "expected `op NAME(A, B) {`")?)),
     }
 }
 
@@ -514,11 +671,14 @@ fn keyword_words(
     if let Some(said) = late_words(scope, words) {
         return Ok(Some(String::from_str(alloc, said)?));
     }
+    if let Some(said) = hyphen_words(alloc, words)? {
+        return Ok(Some(said));
+    }
     if let Some(said) = declaration_words(alloc, scope, words)? {
         return Ok(Some(said));
     }
-    if let Some(said) = operation_words(words) {
-        return Ok(Some(String::from_str(alloc, said)?));
+    if let Some(said) = operation_words(alloc, words)? {
+        return Ok(Some(said));
     }
     if let Some(word) = slip_for_else(words) {
         return Ok(Some(slip_words(alloc, word, "else")?));
@@ -535,6 +695,9 @@ fn inner_words(
     scope: &Scope<'_>,
     words: &[&[u8]],
 ) -> Result<Option<String>, AllocError> {
+    if !scope.is_in_operation() && form_in(words).is_none() {
+        return Ok(None);
+    }
     let from = if declares(words) { 2 } else { 0 };
     if let Some(said) = misused_among(alloc, scope, words, from)? {
         return Ok(Some(said));
@@ -563,8 +726,8 @@ pub(crate) fn form_words(
     if let Some(said) = method_words(alloc, words)? {
         return Ok(said);
     }
-    if let Some(foreign) = foreign_words(words) {
-        return String::from_str(alloc, foreign);
+    if let Some(said) = foreign_words(alloc, scope, words)? {
+        return Ok(said);
     }
     if let Some(said) = line_words(alloc, scope, words)? {
         return Ok(said);
@@ -626,14 +789,34 @@ fn no_value<'a>(words: &[&'a [u8]]) -> Option<&'a [u8]> {
         .copied()
 }
 
+/// A word that is no operand where one must be.
+fn no_operand_words(alloc: Global, words: &[&[u8]], word: &[u8]) -> Result<String, AllocError> {
+    let said = shown(word);
+    let help = match said {
+        "if" => "; help: assign in each branch of an `if` statement",
+        "let" => "; help: declare the local on the line above",
+        "await" => "; help: write `await` on a line of its own",
+        _ => "",
+    };
+    let expected = if said == "{" && tests(words) {
+        "a condition"
+    } else {
+        "an expression"
+    };
+    if is_keyword(word) {
+        return format!(in alloc; "expected {expected}, found keyword `{said}`{help}");
+    }
+    format!(in alloc; "expected {expected}, found `{said}`")
+}
+
 /// A word where a number is expected that is none.
 pub(crate) fn number_words(
     alloc: Global,
     scope: &Scope<'_>,
     words: &[&[u8]],
 ) -> Result<String, AllocError> {
-    if let Some(foreign) = foreign_words(words) {
-        return String::from_str(alloc, foreign);
+    if let Some(said) = foreign_words(alloc, scope, words)? {
+        return Ok(said);
     }
     if let Some(word) = no_value(words) {
         let word = shown(word);
@@ -648,13 +831,15 @@ pub(crate) fn number_words(
                 "`{said}` is declared below, on line {line}; help: move that line above this one"
             );
         }
-        return format!(in alloc; "expected a number or a constant, found `{said}`");
+        let help = if said == "{" || said == "[" {
+            "; help: each cell of an array begins with the same number"
+        } else {
+            ""
+        };
+        return format!(in alloc; "expected a number or a constant, found `{said}`{help}");
     }
     match no_operand(words) {
-        Some(word) => {
-            let word = shown(word);
-            format!(in alloc; "expected an expression, found `{word}`")
-        }
+        Some(word) => no_operand_words(alloc, words, word),
         None => String::from_str(alloc, "expected a number (0 to 4294967295) or a constant"),
     }
 }

@@ -15,14 +15,23 @@ pub(crate) fn is_keyword(word: &[u8]) -> bool {
     has_name_form(word) && !is_free_name(word)
 }
 
-/// A keyword for which the word, which is none, may be a slip. A word of one or two bytes is near to
-/// too many.
+/// Whether a word may be a slip for this keyword. A word of one or two bytes is near to too many, so
+/// that only its capitals may differ.
+fn may_mean(word: &[u8], keyword: &[u8]) -> bool {
+    if word.len() < 3 {
+        word.eq_ignore_ascii_case(keyword)
+    } else {
+        is_near(word, keyword)
+    }
+}
+
+/// A keyword for which the word, which is none, may be a slip.
 pub(crate) fn near_keyword(word: &[u8]) -> Option<&'static str> {
-    if word.len() < 3 || is_keyword(word) {
+    if is_keyword(word) {
         return None;
     }
     KEYWORDS
         .iter()
-        .find(|keyword| is_near(word, keyword.as_bytes()))
+        .find(|keyword| may_mean(word, keyword.as_bytes()))
         .copied()
 }

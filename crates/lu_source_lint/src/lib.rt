@@ -4,6 +4,7 @@
 mod calls;
 mod faults;
 mod foreign;
+mod foreign_table;
 mod forming;
 mod keyword;
 mod limit;

@@ -126,12 +126,12 @@ fn arguments_end(words: &[&[u8]]) -> usize
         .unwrap_or(words.len())
 }
 
-/// A line that begins with `op`, of which the first 4 arguments stay.
+/// A line that begins with `op`, of which the first 4 arguments stay, where `(` is before them.
 fn meant_op(words: &[&[u8]]) -> Mending
     ensures { (result.kept, result.after.now) ≡ spec.meant_op (texts words.now) }
 {
     let end = arguments_end(words);
-    if end < 3 {
+    if end < 3 || !word_is(words, 2, b"(") {
         keep(2, b"() {")
     } else {
         keep(end.min(10), b") {")

@@ -1,7 +1,7 @@
 //! What is said of a name that is not declared, is declared twice, or is not used as what it is.
 
 use crate::calls::{called_cell, calls_at, method_words, unknown_call_words};
-use crate::foreign::{foreign_field, foreign_word};
+use crate::foreign::foreign_names;
 use crate::keyword::{is_keyword, near_keyword};
 use crate::meaning::word_is;
 use crate::scope::{Declared, Scope};
@@ -102,7 +102,7 @@ fn unknown_words(
     }
     if is_called(words, name) {
         return format!(in alloc;
-            "cannot find operation `{said}`; help: an operation cannot call another one"
+            "cannot call `{said}`; help: there are no functions, and an operation cannot call another one"
         );
     }
     if let Some(near) = scope.near(name) {
@@ -187,10 +187,10 @@ pub(crate) fn misused_among(
 /// A word after `lock` or `unlock` in an operation that is not a lock.
 fn no_lock<'a>(scope: &Scope<'_>, words: &[&'a [u8]]) -> Option<&'a [u8]> {
     let name = *words.get(1)?;
-    if locks(words) && scope.is_in_operation() && scope.declared(name) != Some(Declared::Lock) {
-        Some(name)
-    } else {
-        None
+    match scope.declared(name) {
+        Some(Declared::Lock | Declared::Lost) => None,
+        _ if locks(words) && scope.is_in_operation() => Some(name),
+        _ => None,
     }
 }
 
@@ -234,16 +234,36 @@ fn other_kind_words(
     Ok(Some(format!(in alloc; "expected {expected}, found `{said}`, which is {kind}")?))
 }
 
+/// What a method of this name, or a function, does with a lock.
+fn lock_verb(word: &[u8]) -> Option<&'static str> {
+    if word.eq_ignore_ascii_case(b"lock") {
+        Some("lock")
+    } else if word.eq_ignore_ascii_case(b"unlock") {
+        Some("unlock")
+    } else {
+        None
+    }
+}
+
+/// Whether the word may name a lock, and is not the object of a method.
+fn names_lock(word: &[u8]) -> bool {
+    is_free_name(word) && word != b"self".as_slice() && word != b"this".as_slice()
+}
+
 /// A lock that is called as in other languages, `m.lock()` or `lock(m)`: the sign, and the words that
 /// lock it.
-fn called_lock<'a>(words: &[&'a [u8]]) -> Option<(&'a [u8], &'a [u8], &'a [u8])> {
+fn called_lock<'a>(words: &[&'a [u8]]) -> Option<(&'a [u8], &'static str, &'a [u8])> {
     for three in words.windows(3) {
         if let [first, sign, last] = three {
-            if *sign == b".".as_slice() && locks(&[*last]) && is_free_name(first) {
-                return Some((*sign, *last, *first));
+            if *sign == b".".as_slice() && names_lock(first) {
+                if let Some(verb) = lock_verb(last) {
+                    return Some((*sign, verb, *first));
+                }
             }
-            if *sign == b"(".as_slice() && locks(&[*first]) && is_free_name(last) {
-                return Some((*sign, *first, *last));
+            if *sign == b"(".as_slice() && names_lock(last) {
+                if let Some(verb) = lock_verb(first) {
+                    return Some((*sign, verb, *last));
+                }
             }
         }
     }
@@ -258,7 +278,7 @@ pub(crate) fn called_lock_words(
     let Some((sign, verb, name)) = called_lock(words) else {
         return Ok(None);
     };
-    let (sign, verb, name) = (shown(sign), shown(verb), shown(name));
+    let (sign, name) = (shown(sign), shown(name));
     Ok(Some(format!(in alloc; "unexpected `{sign}`; help: write `{verb} {name}`")?))
 }
 
@@ -352,14 +372,10 @@ pub(crate) fn name_words(
     }
     let from = if declares { 2 } else { 0 };
     let (_, read) = words.split_at(from.min(words.len()));
-    let unknown = unknown_among(scope, read);
-    if let Some(foreign) = unknown
-        .and_then(|name| foreign_word(name))
-        .or(foreign_field(words))
-    {
-        return String::from_str(alloc, foreign);
+    if let Some(said) = foreign_names(alloc, scope, words)? {
+        return Ok(said);
     }
-    if let Some(name) = unknown {
+    if let Some(name) = unknown_among(scope, read) {
         return unknown_words(alloc, scope, words, name);
     }
     if let Some(said) = other_kind_words(alloc, scope, words)? {

@@ -43,6 +43,15 @@ fn ends_operand(word: &[u8]) -> bool {
     is_free_name(word) || value_in(word).is_some() || is_one_of(word, &[")", "]", "true", "false"])
 }
 
+/// Whether no operand ends before this word, so that it is none between two operands.
+pub(crate) fn is_prefix(words: &[&[u8]], index: usize) -> bool {
+    let (before, _) = words.split_at(index.min(words.len()));
+    match before.last() {
+        Some(word) => !ends_operand(word),
+        None => true,
+    }
+}
+
 /// Whether an expression may continue with the word, or end before it.
 fn follows_operand(word: &[u8]) -> bool {
     is_infix(word) || is_one_of(word, &[")", "]", "[", ",", "{", "}", ";", "=", "+=", "-="])

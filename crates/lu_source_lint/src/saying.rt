@@ -41,14 +41,21 @@ fn unreachable_words(alloc: Global, scope: &Scope<'_>) -> Result<String, AllocEr
     }
 }
 
+/// Whether there is `&&` or `||` among the words.
+fn joins_conditions(words: &[&[u8]]) -> bool {
+    words.contains(&b"&&".as_slice()) || words.contains(&b"||".as_slice())
+}
+
 /// Why a line is not allowed at its place, by its first word.
 fn flow_words(alloc: Global, scope: &Scope<'_>, words: &[&[u8]]) -> Result<String, AllocError> {
     let said = if word_is(words, 0, b"break") && !scope.is_in_loop() {
         "`break` outside of a loop"
     } else if word_is(words, 0, b"continue") && !scope.is_in_loop() {
         "`continue` outside of a loop"
+    } else if word_is(words, 0, b"await") && !is_left(scope) && joins_conditions(words) {
+        "`await` waits for one comparison, and may read no other shared word; help: test the rest in an `if`"
     } else if word_is(words, 0, b"await") && !is_left(scope) {
-        "`await` may read only its own cell; help: read other cells into locals first"
+        "the index and the value of an `await` may not read shared words; help: read them into locals first"
     } else {
         return unreachable_words(alloc, scope);
     };

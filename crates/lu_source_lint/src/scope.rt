@@ -1,5 +1,6 @@
 //! What the names of a source are, for its messages.
 
+use crate::foreign_table::declares_name;
 use crate::meaning::{is_inline, opens, word_is};
 use crate::spelling::is_near;
 use indexmap::IndexMap;
@@ -18,6 +19,9 @@ pub(crate) enum Declared {
     Operation,
     Argument,
     Local,
+
+    /// A name that a line in the words of another language declares.
+    Lost,
 }
 
 impl Declared {
@@ -37,6 +41,7 @@ impl Declared {
             Declared::Operation => "an operation",
             Declared::Argument => "an argument",
             Declared::Local => "a local",
+            Declared::Lost => "a name",
         }
     }
 }
@@ -133,6 +138,7 @@ fn kind_of(words: &[&[u8]]) -> Option<Declared> {
         b"lock" => Some(Declared::Lock),
         b"op" => Some(Declared::Operation),
         b"let" => Some(Declared::Local),
+        word if declares_name(word) => Some(Declared::Lost),
         _ => None,
     }
 }
@@ -273,6 +279,18 @@ impl<'a> Scope<'a> {
         }
     }
 
+    /// Adds the name that these words declare in another language.
+    fn declare_lost(&mut self, words: &[&'a [u8]], depth: usize) -> Result<(), AllocError> {
+        let (_, named) = words.split_at(words.len().min(1));
+        let name = named.iter().find(|word| {
+            is_free_name(word) && !declares_name(word) && **word != b"mut".as_slice()
+        });
+        match name {
+            Some(name) => self.add(name, Declared::Lost, depth),
+            None => Ok(()),
+        }
+    }
+
     /// Notes the number that a constant stands for, which is declared by these words.
     fn note_constant(&mut self, alloc: Global, words: &[&'a [u8]]) -> Result<(), AllocError> {
         let (Some(name), Some(word)) = (words.get(1), words.get(3)) else {
@@ -306,8 +324,12 @@ impl<'a> Scope<'a> {
         if kind == Declared::Lock && depth > 0 {
             return Ok(());
         }
+        if kind == Declared::Lost {
+            return self.declare_lost(words, depth);
+        }
         self.declare_named(words, kind, depth)?;
         match kind {
+            Declared::Local if word_is(words, 1, b"mut") => self.declare_lost(words, depth),
             Declared::Constant => self.note_constant(alloc, words),
             Declared::Operation => self.declare_arguments(words, depth.saturating_add(1)),
             _ => Ok(()),
@@ -376,6 +398,14 @@ impl<'a> Scope<'a> {
         !self.open.is_empty()
     }
 
+    /// The line of the first open block, where that is not one of an operation.
+    pub(crate) fn other_block(&self) -> Option<usize> {
+        match self.open.first() {
+            Some(block) if block.word != "op" => Some(block.line),
+            _ => None,
+        }
+    }
+
     /// The word that began the innermost block that is open, and its line.
     pub(crate) fn innermost(&self) -> Option<(&'static str, usize)> {
         self.open.last().map(|block| (block.word, block.line))
@@ -414,6 +444,14 @@ impl<'a> Scope<'a> {
     /// Whether a name is that of an argument.
     pub(crate) fn is_argument(&self, name: &[u8]) -> bool {
         self.value_declared(name) == Some(Declared::Argument)
+    }
+
+    /// Whether a name may be assigned to, without an index.
+    pub(crate) fn is_assigned(&self, name: &[u8]) -> bool {
+        matches!(
+            self.value_declared(name),
+            Some(Declared::Word | Declared::Argument | Declared::Local)
+        )
     }
 
     /// Whether a name is that of a shared word.
@@ -493,6 +531,7 @@ impl<'a> Scope<'a> {
             Some(Declared::Word | Declared::Array) => {
                 self.count_before(name, &[Declared::Word, Declared::Array]) >= 16
             }
+            Some(Declared::Lost) => true,
             Some(Declared::Lock) => self.count_before(name, &[Declared::Lock]) >= 8,
             Some(Declared::Argument) => self.count_before(name, &[Declared::Argument]) >= 4,
             Some(Declared::Local) => {
