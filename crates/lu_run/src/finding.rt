@@ -12,6 +12,7 @@ ghost use Rattle.lu_run.specs.Tables.{AreCallsOf, IsTable};
 use crate::automaton::{ThreadCall, is_allowed};
 use crate::following::{FollowFault, SerialRuns, question_at};
 use crate::judging::next_return;
+use crate::likely::{NEVER, likely_events};
 use crate::run::RunEvent;
 use crate::table::{Table, learn, recall};
 use indexmap::IndexSet;
@@ -33,6 +34,12 @@ pub(crate) struct Attempt {
     pub(crate) returns: [Option<SerialOutcome>; 8],
 
     pub(crate) configuration: Configuration,
+
+    /// For each thread, the event at which its pending operation is likely to have taken effect.
+    likely: [usize; 8],
+
+    /// The threads in the order in which their operations are likely to take effect, the last first.
+    order: [u8; 8],
 
     /// The number of the last operation that took effect, from 1, in the order in which they were
     /// noted; 0 if there is none, or if they are not noted.
@@ -61,6 +68,9 @@ struct Noted {
 /// The attempts that were gone on from.
 #[derive(Drop)]
 pub(crate) struct Past {
+    /// For each event that is a call, the event at which its operation is likely to have taken effect.
+    likely: Vec<usize>,
+
     seen: IndexSet<Seen>,
 
     /// The operations that took effect in attempts.
@@ -100,6 +110,8 @@ pub(crate) fn first_attempt() -> Attempt
             state: 0,
             effects: [None; 8],
         },
+        likely: [NEVER; 8],
+        order: [0, 1, 2, 3, 4, 5, 6, 7],
         last: 0,
     }
 }
@@ -224,6 +236,57 @@ fn with_last(attempt: &Attempt, last: u32) -> Attempt
     to
 }
 
+/// Puts the thread at this place, and says which place comes next.
+fn put(order: &mut [u8; 8], place: usize, thread: u8) -> usize {
+    if let Some(slot) = order.get_mut(place) {
+        *slot = thread;
+    }
+    place.saturating_add(1)
+}
+
+/// When the thread's pending operation is likely to take effect.
+fn likely_of(attempt: &Attempt, thread: u8) -> usize {
+    attempt
+        .likely
+        .get(usize::from(thread))
+        .copied()
+        .unwrap_or(NEVER)
+}
+
+/// The threads of the attempt in the order in which their operations are likely to take effect, the
+/// last first. That was so before for all but this one.
+fn reordered(attempt: &Attempt, thread: u8) -> [u8; 8] {
+    let mut order = attempt.order;
+    let mut place = 0usize;
+    let mut is_in = false;
+    for at in 0..8 {
+        let other = attempt.order[at];
+        if other != thread {
+            if !is_in && likely_of(attempt, other) < likely_of(attempt, thread) {
+                place = put(&mut order, place, thread);
+                is_in = true;
+            }
+            place = put(&mut order, place, other);
+        }
+    }
+    if !is_in {
+        put(&mut order, place, thread);
+    }
+    order
+}
+
+/// The attempt after a call of the thread, which is likely to take effect at this event.
+fn with_likely(attempt: &Attempt, thread: u8, event: usize) -> Attempt
+    ensures { IsAlike attempt.now result }
+{
+    let mut to = *attempt;
+    if let Some(slot) = to.likely.get_mut(usize::from(thread)) {
+        *slot = event;
+    }
+    to.order = reordered(&to, thread);
+    to
+}
+
 /// Adds the attempt in which the thread's pending operation takes effect, if it can.
 fn open_effect(
     runs: SerialRuns<'_>,
@@ -250,33 +313,87 @@ fn open_effect(
     Ok(())
 }
 
-/// Adds each attempt in which one more pending operation takes effect. That of the last thread is
-/// the first to go on from.
-fn open_effects(
+/// Whether the thread's pending operation can take effect, and the state then stays as it is. `false`
+/// where the table does not have that yet.
+fn changes_nothing(table: &Table, from: &Attempt, thread: usize) -> bool
+    requires { thread < 8 }
+{
+    let Some(question) = question_at(&from.pending, &from.configuration, thread) else {
+        return false;
+    };
+    match recall(table, question) {
+        Some(Some((outcome, state))) => {
+            state == from.configuration.state && is_allowed(&from.returns, question.thread, outcome)
+        }
+        _ => false,
+    }
+}
+
+/// A thread whose pending operation can take effect without a change of the state.
+fn first_unchanged(table: &Table, from: &Attempt) -> Option<usize>
+    ensures { IfSome result (λ thread. thread < 8) }
+{
+    for thread in 0..8 {
+        if changes_nothing(table, from, thread) {
+            return Some(thread);
+        }
+    }
+    None
+}
+
+/// Adds each attempt in which one more pending operation takes effect. The one that is likely to take
+/// effect before the others is the first to go on from.
+fn open_each_effect(
     runs: SerialRuns<'_>,
     table: &mut Table,
     from: &Attempt,
-    last: usize,
     past: &mut Past,
     open: &mut Vec<Attempt>,
 ) -> Result<(), FollowFault>
     requires table { IsTable runs.component.now runs.calls.now table.old }
     requires calls { AreCallsOf runs.component.now runs.calls.now }
     requires from { IsAttempt runs.calls.now table.old from.now }
-    requires last { last < 8 }
     requires few { runs.bound ≤ MOST_MOVES }
     ensures learns { OnOk result (LearnsBy runs.entry table.old table.new) }
     ensures opens { OnOk result
         (Opens runs.entry from.now table.old open.old table.new open.new) }
     ensures offends { IfErr result (IsFollowFaultOf runs.entry table.old) }
 {
-    for thread in 0..8 {
-        if thread != last {
+    for place in 0..8 {
+        let thread = usize::from(from.order[place]);
+        if thread < 8 {
             open_effect(runs, table, from, thread, past, open)?;
         }
     }
-    open_effect(runs, table, from, last, past, open)?;
     Ok(())
+}
+
+/// Adds each attempt in which one more pending operation takes effect. If there is one that changes
+/// nothing, it is the first to go on from. It is added twice then, and gone on from once.
+fn open_effects(
+    runs: SerialRuns<'_>,
+    table: &mut Table,
+    from: &Attempt,
+    past: &mut Past,
+    open: &mut Vec<Attempt>,
+) -> Result<(), FollowFault>
+    requires table { IsTable runs.component.now runs.calls.now table.old }
+    requires calls { AreCallsOf runs.component.now runs.calls.now }
+    requires from { IsAttempt runs.calls.now table.old from.now }
+    requires few { runs.bound ≤ MOST_MOVES }
+    ensures learns { OnOk result (LearnsBy runs.entry table.old table.new) }
+    ensures opens { OnOk result
+        (Opens runs.entry from.now table.old open.old table.new open.new) }
+    ensures offends { IfErr result (IsFollowFaultOf runs.entry table.old) }
+{
+    open_each_effect(runs, table, from, past, open)?;
+    match first_unchanged(table, from) {
+        None => Ok(()),
+        Some(thread) => {
+            open_effect(runs, table, from, thread, past, open)?;
+            Ok(())
+        }
+    }
 }
 
 /// Whether the operation took effect with this outcome.
@@ -312,16 +429,15 @@ fn go_on(
     match events[from.events] {
         RunEvent::Call { thread, call } => {
             let returns = next_return(thread, &events[next..]);
-            add(
-                open,
-                after_call(from, next, ThreadCall { thread, call }, returns),
-            )?;
+            let to = after_call(from, next, ThreadCall { thread, call }, returns);
+            let event = past.likely.get(from.events).copied().unwrap_or(NEVER);
+            add(open, with_likely(&to, thread, event))?;
             Ok(())
         }
         RunEvent::Return { thread, outcome } => {
             match from.configuration.effects[usize::from(thread)] {
                 None => {
-                    open_effects(runs, table, from, usize::from(thread), past, open)?;
+                    open_effects(runs, table, from, past, open)?;
                     Ok(())
                 }
                 Some(effect) => {
@@ -380,21 +496,27 @@ fn forget_earlier(alloc: Global, open: &mut Vec<Attempt>) -> Result<(), AllocErr
 }
 
 /// Nothing that was gone on from yet. `notes` says whether operations are noted.
-fn no_past(alloc: Global, notes: bool) -> Past {
-    Past {
-        seen: IndexSet::new(alloc),
-        noted: Vec::new(alloc),
+///
+/// # Errors
+///
+/// Out of memory.
+fn no_past(runs: SerialRuns<'_>, events: &[RunEvent], notes: bool) -> Result<Past, AllocError> {
+    Ok(Past {
+        likely: likely_events(runs.alloc, runs.calls, events)?,
+        seen: IndexSet::new(runs.alloc),
+        noted: Vec::new(runs.alloc),
         notes,
         furthest: 0,
         idle: 0,
-    }
+    })
 }
 
 /// The attempt at all events of a run, if one is found. None says nothing: the search gives up after
 /// some time, and forgets what it has not gone on from where that is too much.
 ///
 /// The search is that of Wing and Gong (1993) with the memo of Lowe (2017): a depth-first search, in
-/// which operations take effect where the next return needs it.
+/// which operations take effect where the next return needs it. One that changes nothing goes first,
+/// and else the one that is likely to take effect before the others.
 fn search(
     runs: SerialRuns<'_>,
     table: &mut Table,
@@ -454,7 +576,7 @@ pub(crate) fn find_linearization(
     ensures finds { Finds runs.entry table.old events.now result }
     ensures offends { IfErr result (IsFollowFaultOf runs.entry table.old) }
 {
-    let mut past = no_past(runs.alloc, false);
+    let mut past = no_past(runs, events, false)?;
     match search(runs, table, events, &mut past)? {
         None => Ok(false),
         Some(_) => Ok(true),
@@ -498,7 +620,7 @@ pub(crate) fn find_threads(
     ensures learns { OnOk result (LearnsBy runs.entry table.old table.new) }
     ensures offends { IfErr result (IsFollowFaultOf runs.entry table.old) }
 {
-    let mut past = no_past(runs.alloc, true);
+    let mut past = no_past(runs, events, true)?;
     match search(runs, table, events, &mut past)? {
         None => Ok(None),
         Some(attempt) => Ok(Some(threads_back(runs.alloc, &past.noted, attempt.last)?)),

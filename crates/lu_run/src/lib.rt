@@ -11,6 +11,7 @@ mod finding;
 mod first_word;
 mod following;
 mod judging;
+mod likely;
 mod ordering;
 mod reading;
 mod run;

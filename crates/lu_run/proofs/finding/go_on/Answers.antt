@@ -4,11 +4,11 @@ use Rattle.lu_history.specs.Parts.{as_serial}
 use Rattle.lu_linearization.specs.Monitors.{by_thread}
 use Rattle.lu_run.specs.declared.run.RunEvent.TheVariants.{Call as Calls, Return as Back}
 use Rattle.lu_run.specs.Finding.{AreSound}
-use Rattle.lu_run.proofs.Found.{sound_call, sound_pushed, sound_return}
+use Rattle.lu_run.proofs.Found.{sound_alike, sound_call, sound_pushed, sound_return}
 use Rattle.lu_run.proofs.finding.go_on.Goals as goal
 
-pub after_call-requires-clause-thread : goal.after_call-requires-clause-thread
-after_call-requires-clause-thread c =
+pub after_call-to-requires-clause-thread : goal.after_call-to-requires-clause-thread
+after_call-to-requires-clause-thread c =
     let events = c.args.events.now in
     let i = c.args.from.now.events in
     let at : slice_get events i ≡ Some (Calls c.in-Call.thread c.in-Call.call) = slice_get-get_or events i _ c.requires.next ∙ ap Some c.in-Call.is in
@@ -20,13 +20,6 @@ bounds-in-Return c =
     let i = c.args.from.now.events in
     let at : slice_get events i ≡ Some (Back c.in-Return.thread c.in-Return.outcome) = slice_get-get_or events i _ c.requires.next ∙ ap Some c.in-Return.is in
     subst (λ x. x < 8) (sym c.from.ensures) (c.requires.events i (Back c.in-Return.thread c.in-Return.outcome) at)
-
-pub open_effects-requires-clause-last : goal.open_effects-requires-clause-last
-open_effects-requires-clause-last c =
-    let events = c.args.events.now in
-    let i = c.args.from.now.events in
-    let at : slice_get events i ≡ Some (Back c.in-Return.thread c.in-Return.outcome) = slice_get-get_or events i _ c.requires.next ∙ ap Some c.in-Return.is in
-    subst (λ x. x < 8) (sym c.from-in-None.ensures) (c.requires.events i (Back c.in-Return.thread c.in-Return.outcome) at)
 
 pub returns-in_ok-add-in-Call-clause-opens : goal.returns-in_ok-add-in-Call-clause-opens
 returns-in_ok-add-in-Call-clause-opens c = λ first is all.
@@ -40,8 +33,9 @@ returns-in_ok-add-in-Call-clause-opens c = λ first is all.
     let at : slice_get events i ≡ Some (Calls t n) = slice_get-get_or events i _ c.requires.next ∙ ap Some c.in-Call.is in
     let seat = c.requires.events i (Calls t n) at in
     subst (AreSound component calls events first table) (sym c.in_ok-add-in-Call.ensures)
-    (sound_pushed component calls events first table c.args.open.now.items c.after_call.result all
-    (sound_call component calls events first table c.args.from.now c.after_call.result is t n at seat.0 seat.1 c.after_call.ensures))
+    (sound_pushed component calls events first table c.args.open.now.items c.with_likely.result all
+    (sound_alike component calls events first table c.after_call-to.result c.with_likely.result c.with_likely.ensures
+    (sound_call component calls events first table c.args.from.now c.after_call-to.result is t n at seat.0 seat.1 c.after_call-to.ensures)))
 
 pub returns-in_ok-open_effects-in-None-clause-opens : goal.returns-in_ok-open_effects-in-None-clause-opens
 returns-in_ok-open_effects-in-None-clause-opens c = c.in_ok-open_effects-in-None.ensures.opens c.args.events.now
