@@ -37,6 +37,21 @@ fn is_option(name: &str) -> bool {
     option_rows().iter().any(|row| row.name == name)
 }
 
+/// The commands that take an option with this name, each in quotes, with commas between them.
+fn commands_with(alloc: Global, name: &str) -> Result<String, AllocError> {
+    let mut text = String::new(alloc);
+    for row in option_rows() {
+        if row.name == name {
+            for command in row.commands {
+                text.push_str(if text.is_empty() { "`" } else { ", `" })?;
+                text.push_str(command)?;
+                text.push_str("`")?;
+            }
+        }
+    }
+    Ok(text)
+}
+
 /// The least and the greatest number that an option takes, where it takes one.
 fn range_of(kind: Kind) -> Option<(u64, u64)> {
     match kind {
@@ -70,13 +85,18 @@ fn unknown_option(alloc: Global, command: &str, name: &str) -> Result<String, Al
             "unknown option `--{name}`; help: an option with a similar name exists: `--{near}`"
         );
     }
+    if name == "source" {
+        return format!(in alloc; "`{command}` takes no `--source`; help: leave it out");
+    }
     if is_option(name) {
+        let commands = commands_with(alloc, name)?;
+        let commands = commands.as_str();
         return format!(in alloc;
-            "`{command}` has no option `--{name}`; help: `lineup commands` lists the commands that have it"
+            "`{command}` has no option `--{name}`; commands that have it: {commands}"
         );
     }
     format!(in alloc;
-        "unknown option `--{name}`; help: `lineup commands` lists the options of `{command}`"
+        "unknown option `--{name}`; help: `lineup help {command}` lists the options of `{command}`"
     )
 }
 
@@ -108,6 +128,11 @@ fn value_fault(
             "expected a number from {least} to {most} after `--{name}`"
         )?));
     };
+    if value.is_empty() {
+        return Ok(Some(format!(in alloc;
+            "expected a number from {least} to {most} after `--{name}=`"
+        )?));
+    }
     match value.parse::<u64>() {
         Ok(number) if least <= number && number <= most => Ok(None),
         _ => Ok(Some(format!(in alloc;
@@ -160,9 +185,29 @@ fn combination_fault(words: &[String]) -> Option<&'static str> {
     }
 }
 
-/// A word that is not an option.
-fn unexpected(alloc: Global, word: &str) -> Result<String, AllocError> {
-    format!(in alloc; "unexpected `{word}`; help: write `< {word}`")
+/// The word without `-` before it.
+fn without_dash(word: &str) -> &str {
+    word.strip_prefix("-").unwrap_or(word)
+}
+
+/// A word that is not an option of the command.
+fn unexpected(alloc: Global, command: &str, word: &str) -> Result<String, AllocError> {
+    let (name, _) = split_value(without_dash(word));
+    if option_of(command, name).is_some() {
+        return format!(in alloc; "unexpected `{word}`; help: write `--{name}`");
+    }
+    if word.starts_with("-") {
+        return format!(in alloc;
+            "unknown option `{word}`; help: `lineup help {command}` lists the options of `{command}`"
+        );
+    }
+    if is_command(word) {
+        return format!(in alloc; "unexpected `{word}`; help: write one command");
+    }
+    if word.is_empty() || word.parse::<u64>().is_ok() {
+        return format!(in alloc; "unexpected `{word}`; help: leave it out");
+    }
+    format!(in alloc; "unexpected `{word}`; help: write `< {word}` to read a file")
 }
 
 /// What is wrong with the words after the command, where one of them alone is wrong.
@@ -183,7 +228,7 @@ fn option_fault(
             continue;
         }
         let Some((name, value)) = option_in(word) else {
-            return Ok(Some(unexpected(alloc, word)?));
+            return Ok(Some(unexpected(alloc, command, word)?));
         };
         let Some(row) = option_of(command, name) else {
             return Ok(Some(unknown_option(alloc, command, name)?));
@@ -204,8 +249,19 @@ fn option_fault(
     }
 }
 
+/// The part that a command takes after its others with `--spec`.
+fn part_for_spec(command: &str, words: &[String]) -> &'static str {
+    if !is_given(words, "spec") {
+        ""
+    } else if command == "campaign" {
+        ", trusted component"
+    } else {
+        ", specification"
+    }
+}
+
 /// Which parts the command of these words takes, where this answer refuses others. None for any other
-/// answer, and with `--spec`, which takes one more part.
+/// answer, and for runs that `--spec` judges.
 ///
 /// # Errors
 ///
@@ -218,21 +274,22 @@ pub fn parts_in(
     let Some((first, rest)) = words.split_first() else {
         return Ok(None);
     };
-    if answer != b"refused B1\n".as_slice() || is_given(rest, "spec") {
+    let command = first.as_str();
+    let is_judged = is_given(rest, "spec") && (command == "witness" || command == "explain");
+    if answer != b"refused B1\n".as_slice() || is_judged {
         return Ok(None);
     }
-    let command = first.as_str();
     let Some(row) = command_rows().iter().find(|row| row.name == command) else {
         return Ok(None);
     };
-    let parts = row.parts;
+    let (parts, spec) = (row.parts, part_for_spec(command, rest));
     let runs = if command == "witness" {
         "; recorded runs begin with a line `run`"
     } else {
         ""
     };
     Ok(Some(format!(in alloc;
-        "`{command}` takes {parts}; help: separate parts by lines that are exactly `---`{runs}"
+        "wrong number of parts; `{command}` takes: {parts}{spec}; help: separate parts by lines that are exactly `---`{runs}"
     )?))
 }
 

@@ -314,7 +314,7 @@ fn member_words(
         return row_words(alloc, member, row);
     }
     let (object, name) = (shown(before), shown(member));
-    if value_in(before).is_some() {
+    if sign == "." && value_in(before).is_some() {
         return format!(in alloc;
             "invalid number `{object}.{name}`; expected 0 to 4294967295, without a fraction"
         );

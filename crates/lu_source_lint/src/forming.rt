@@ -80,7 +80,9 @@ fn brace_in(words: &[&[u8]]) -> Option<usize> {
 
 /// Whether the line begins with `if`, `while` or `} else if`.
 fn tests(words: &[&[u8]]) -> bool {
-    word_is(words, 0, b"if") || word_is(words, 0, b"while") || word_is(words, 2, b"if")
+    word_is(words, 0, b"if")
+        || word_is(words, 0, b"while")
+        || (word_is(words, 1, b"else") && word_is(words, 2, b"if"))
 }
 
 /// Whether the condition of a line assigns: up to its `{`, or else before any comparison.
@@ -453,17 +455,17 @@ fn outside_help(scope: &Scope<'_>, words: &[&[u8]], first: &[u8]) -> &'static st
     }
 }
 
-/// A line that begins with a name that may be assigned to, before this word.
-fn unfinished_words(alloc: Global, name: &str, next: Option<&[u8]>) -> Result<String, AllocError> {
-    match next {
+/// A line that begins with a name that may be assigned to.
+fn unfinished_words(alloc: Global, name: &str, words: &[&[u8]]) -> Result<String, AllocError> {
+    if has_outer_comma(words) {
+        let said = "unexpected `,`; help: write each assignment on a line of its own";
+        return String::from_str(alloc, said);
+    }
+    match words.get(1) {
         None => format!(in alloc; "expected `=` after `{name}`; help: write `{name} = EXPR`"),
-        Some(next) if next == b",".as_slice() => String::from_str(
+        Some(next) if *next == b"=".as_slice() => String::from_str(
             alloc,
-            "unexpected `,`; help: write each assignment on a line of its own",
-        ),
-        Some(next) if next == b"=".as_slice() => String::from_str(
-            alloc,
-            "expected an operator or the end of the line, found another `=`",
+            "expected `NAME = EXPR`; help: assign to one name on a line",
         ),
         Some(next) => {
             let next = shown(next);
@@ -498,7 +500,7 @@ fn no_form_words(
         );
     }
     if scope.is_assigned(first) {
-        return unfinished_words(alloc, said, words.get(1).copied());
+        return unfinished_words(alloc, said, words);
     }
     format!(in alloc; "expected a statement, such as `NAME = EXPR`, found `{said}`")
 }

@@ -1,6 +1,8 @@
 //! The words for a fault of a component's line: what was found, and what was expected.
 
-use crate::shape::{Shape, declaration, instruction, near_declaration, near_instruction};
+use crate::shape::{
+    Shape, declaration, foreign_instruction, instruction, near_declaration, near_instruction,
+};
 use crate::spelling::near;
 use lu_lang::{ComponentDraft, LangFaultKind, OpenOp, Statement};
 use lu_source_lint::is_near;
@@ -117,6 +119,11 @@ fn no_name(alloc: Global, words: &[&[u8]]) -> Result<String, AllocError> {
     }
 }
 
+/// Whether a word is a brace, or has parentheses in it, as in a source.
+fn is_of_source(word: &[u8]) -> bool {
+    word == b"{".as_slice() || word.contains(&b'(')
+}
+
 /// Outside an operation, a line of no form that begins as a declaration.
 fn form_declaration(
     alloc: Global,
@@ -128,6 +135,12 @@ fn form_declaration(
         return String::from_str(
             alloc,
             "`component` is given twice; a text has one component",
+        );
+    }
+    if shape.word == "op" && rest.iter().any(|word| is_of_source(word)) {
+        return String::from_str(
+            alloc,
+            "expected `op NAME N`, found the `op NAME(A, B) {` of a source; help: a source begins with `object NAME`",
         );
     }
     if rest.len() != shape.count {
@@ -142,12 +155,22 @@ fn form_declaration(
     no_name(alloc, rest)
 }
 
+/// Whether a line of a matrix may begin with the word.
+fn begins_matrix(word: &[u8]) -> bool {
+    word == b"thread".as_slice() || word == b"setup".as_slice()
+}
+
 /// Outside an operation, a line that begins with no declaration.
 fn no_declaration(alloc: Global, word: &[u8]) -> Result<String, AllocError> {
     let said = shown(word);
     if instruction(word).is_some() {
         return format!(in alloc;
             "`{said}` is only allowed inside an operation; help: begin one with `op NAME N`, where N is the number of arguments"
+        );
+    }
+    if begins_matrix(word) {
+        return format!(in alloc;
+            "expected a line `---` before the matrix, found `{said}`; help: end the component with a line `---`"
         );
     }
     let slip = Slip {
@@ -169,9 +192,47 @@ fn form_outside(
     }
 }
 
+/// Inside an operation, a line that begins with no instruction, by the word after the first.
+fn no_instruction_before(
+    alloc: Global,
+    said: &str,
+    next: &[u8],
+) -> Result<Option<String>, AllocError> {
+    match shown(next) {
+        "=" => Ok(Some(format!(in alloc;
+            "unknown instruction `{said}`; help: write `set rD v`, `load rD W i` or `store W i v` to assign"
+        )?)),
+        ":" => Ok(Some(format!(in alloc;
+            "unknown instruction `{said}`; help: write the label `{said}:` as one word"
+        )?)),
+        _ => Ok(None),
+    }
+}
+
 /// Inside an operation, a line that begins with no instruction.
-fn no_instruction(alloc: Global, op: &OpenOp, word: &[u8]) -> Result<String, AllocError> {
+fn no_instruction(
+    alloc: Global,
+    op: &OpenOp,
+    word: &[u8],
+    rest: &[&[u8]],
+) -> Result<String, AllocError> {
     let said = shown(word);
+    if let Some(next) = rest.first() {
+        if let Some(said) = no_instruction_before(alloc, said, next)? {
+            return Ok(said);
+        }
+    }
+    if word == b"}".as_slice() {
+        return String::from_str(alloc, "unexpected `}`; help: an operation ends with `end`");
+    }
+    if begins_matrix(word) {
+        return format!(in alloc;
+            "unexpected `{said}` in an operation; help: write `end` and a line `---` before the matrix"
+        );
+    }
+    if let Some(form) = foreign_instruction(word) {
+        return format!(in alloc; "unknown instruction `{said}`; help: write `{form}`");
+    }
     if declaration(word).is_some() {
         let name = operation_title(op);
         return format!(in alloc;
@@ -222,7 +283,7 @@ fn form_instruction(
     rest: &[&[u8]],
 ) -> Result<String, AllocError> {
     let Some(shape) = instruction(word) else {
-        return no_instruction(alloc, op, word);
+        return no_instruction(alloc, op, word, rest);
     };
     if rest.len() != shape.count {
         return count_of(alloc, shape, rest.len());
@@ -239,9 +300,12 @@ fn no_number(alloc: Global, words: &[&[u8]]) -> Result<String, AllocError> {
     match first_no_number(words) {
         None => String::from_str(alloc, "expected a number (0 to 4294967295)"),
         Some(word) => {
-            let word = shown(word);
+            let said = shown(word);
+            if has_name_form(word) {
+                return format!(in alloc; "expected a number (0 to 4294967295), found `{said}`");
+            }
             format!(in alloc;
-                "invalid number `{word}`; expected 0 to 4294967295, without leading zeros"
+                "invalid number `{said}`; expected 0 to 4294967295, without leading zeros"
             )
         }
     }
@@ -257,24 +321,44 @@ fn operands<'a, 'b>(word: &[u8], rest: &'b [&'a [u8]]) -> &'b [&'a [u8]] {
     rest.split_at(others.min(rest.len())).1
 }
 
+/// A word in the place of an operand of an instruction of this form.
+fn other_operand(alloc: Global, form: &str, other: &[u8]) -> Result<String, AllocError> {
+    let said = shown(other);
+    let expected = "expected a register (`r0` to `r7`) or a number (0 to 4294967295)";
+    match other {
+        [b'0'..=b'9' | b'-', ..] | [b'r', b'0'..=b'9', ..] => {
+            format!(in alloc; "{expected}, found `{said}`")
+        }
+        // A name in place of an operand is mostly an array.
+        _ if has_name_form(other) && form != "jz v LABEL" => {
+            format!(in alloc; "{expected}, found `{said}`; help: read a cell with `load`")
+        }
+        _ => format!(in alloc; "{expected}, found `{said}`; help: write `{form}`"),
+    }
+}
+
+/// The word in place of the number of a `pick`.
+fn no_pick(alloc: Global, rest: &[&[u8]]) -> Result<String, AllocError> {
+    let count = second(rest);
+    format!(in alloc; "expected a number (1 to 8), found `{count}`; help: write `pick rD K`")
+}
+
+/// Whether an array comes first after the word of an instruction.
+fn is_array_first(word: &[u8]) -> bool {
+    word == b"store".as_slice() || word == b"await".as_slice() || word == b"awaitne".as_slice()
+}
+
 fn no_operand(alloc: Global, word: &[u8], rest: &[&[u8]]) -> Result<String, AllocError> {
     if word == b"pick".as_slice() {
-        return no_number(alloc, operands(word, rest));
+        return no_pick(alloc, rest);
+    }
+    let form = instruction(word).map_or("return v", |shape| shape.form);
+    if is_array_first(word) && rest.first().is_some_and(|first| is_register(first)) {
+        return format!(in alloc; "expected the name of an array; help: write `{form}`");
     }
     match operands(word, rest).iter().find(|word| !is_operand(word)) {
         None => String::from_str(alloc, "expected a register or a number"),
-        Some(other) => {
-            // A name in place of an operand is mostly an array.
-            let load = if has_name_form(other) && !matches!(other, [b'r', b'0'..=b'9', ..]) {
-                "; help: read a cell with `load`"
-            } else {
-                ""
-            };
-            let other = shown(other);
-            format!(in alloc;
-                "expected a register (`r0` to `r7`) or a number (0 to 4294967295), found `{other}`{load}"
-            )
-        }
+        Some(other) => other_operand(alloc, form, other),
     }
 }
 
@@ -461,10 +545,20 @@ fn after_label<'a, 'b>(
 }
 
 fn comma(alloc: Global, word: &[u8]) -> Result<String, AllocError> {
+    if let Some(before) = word.strip_suffix(b";") {
+        let before = shown(before);
+        return format!(in alloc;
+            "unexpected `;` after `{before}`; help: write each instruction on a line of its own"
+        );
+    }
+    let before = shown(word.strip_suffix(b",").unwrap_or(word));
+    format!(in alloc; "unexpected `,` after `{before}`; help: separate words by spaces")
+}
+
+/// A word that begins a comment in other languages.
+fn comment(alloc: Global, word: &[u8]) -> Result<String, AllocError> {
     let word = shown(word);
-    format!(in alloc;
-        "unexpected punctuation at the end of `{word}`; help: separate words only by spaces"
-    )
+    format!(in alloc; "unexpected `{word}`; help: a comment begins with `#`")
 }
 
 /// The first word of a component or a source for which this may be a slip.
@@ -479,7 +573,7 @@ fn near_first(word: &[u8]) -> Option<&'static str> {
 }
 
 /// Whether a word begins a comment in other languages.
-fn begins_comment(word: &[u8]) -> bool {
+pub(crate) fn begins_comment(word: &[u8]) -> bool {
     word.starts_with(b"//") || word.starts_with(b"/*") || word.starts_with(b"--")
 }
 
@@ -548,6 +642,10 @@ fn number(
     }
     match rest {
         [_, count] if word == b"op".as_slice() => no_count(alloc, count),
+        [name, sign, ..] if *sign == b"=".as_slice() => {
+            let name = shown(name);
+            format!(in alloc; "unexpected `=`; help: write `word {name} LEN INIT`")
+        }
         [_, numbers @ ..] if word != b"local".as_slice() => no_number(alloc, numbers),
         _ => no_number(alloc, rest),
     }
@@ -611,6 +709,11 @@ pub(crate) fn component_wording(
         return unknown_byte(alloc, text);
     }
     let words = words_of(alloc, text)?;
+    if kind != LangFaultKind::Missing {
+        if let Some(word) = words.iter().find(|word| begins_comment(word)) {
+            return comment(alloc, word);
+        }
+    }
     match comma_in(kind, &words) {
         Some(word) => comma(alloc, word),
         None => wording_of_words(alloc, draft, kind, text, &words),

@@ -15,14 +15,14 @@ fn meaning_of_case(code: &str) -> Option<&'static str> {
         "L5" => "a limit is exceeded (docs/LANGUAGE.md, Limits); `lineup lint` says which",
         "L6" => "an operation must end with `return` or `jump`",
         "L7" =>
-            "expected `component NAME` first, or `object NAME` for a source (with `--source`), and `end` after each operation",
+            "expected `component NAME` first, or `object NAME` for a source (with `--source`, as the first part), and `end` after each operation",
         "M2" => "expected `thread` or, on the first line, `setup`, and calls separated by `;`",
         "M3" => "the component has no such operation",
         "M4" => "wrong number of arguments",
         "M6" => "no thread, or too many threads or calls",
         "C1" =>
             "neither a schedule nor a report with one; help: `lineup lint` says what is expected",
-        "C3" => "the schedule is too long, or a thread or a pick is above 7",
+        "C3" => "the schedule has more than 4112 moves, or a thread or a pick is above 7",
         _ => return None,
     })
 }
@@ -77,7 +77,7 @@ fn meaning_of_request(code: &str) -> Option<&'static str> {
             "wrong number of parts; help: `lineup commands` lists the parts of each command, which are separated by lines that are exactly `---`",
         "B2" => "the input is longer than 1,048,576 bytes",
         "B3" => "a part after the source is not UTF-8",
-        "F2" => "expected a report of a failure that a run of its schedule confirms",
+        "F2" => "the report does not show a failure, or its schedule does not lead to that failure",
         "U1" => "this call of the setup does not end",
         "G2" =>
             "a campaign takes one `thread` line with 1 to 8 calls, or with `--by-thread` one for each thread",

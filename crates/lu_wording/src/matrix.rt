@@ -1,6 +1,8 @@
 //! The words for a fault of a matrix's line: what was found, and what was expected.
 
-use crate::component::{Slip, counted, first_no_number, is_register, shown, unknown_byte};
+use crate::component::{
+    Slip, begins_comment, counted, first_no_number, is_register, shown, unknown_byte,
+};
 use crate::spelling::near;
 use lu_source_lint::is_near;
 use lu_test::{MatrixDraft, MatrixFaultKind, Signature};
@@ -38,13 +40,63 @@ fn near_first(word: &[u8]) -> Option<&'static str> {
     }
 }
 
+/// What to write in place of a line that begins with this word, where that can be told.
+fn first_help(
+    alloc: Global,
+    signatures: &[Signature<'_>],
+    first: &[u8],
+) -> Result<String, AllocError> {
+    if begins_comment(first) {
+        return String::from_str(alloc, "; help: a comment begins with `#`");
+    }
+    let said = shown(first);
+    if signature(signatures, first).is_some() {
+        return format!(in alloc; "; help: write `thread {said}`");
+    }
+    if first == b"call".as_slice() || first == b"return".as_slice() {
+        return String::from_str(alloc, "; help: recorded runs begin with a line `run`");
+    }
+    match first.strip_suffix(b":") {
+        Some(before) if before == b"thread".as_slice() || before == b"setup".as_slice() => {
+            let before = shown(before);
+            format!(in alloc; "; help: write `{before}` without the `:`")
+        }
+        _ => {
+            let slip = Slip {
+                name: near_first(first),
+            };
+            format!(in alloc; "{slip}")
+        }
+    }
+}
+
+/// A line that begins with none of the words of a matrix.
+fn no_first(
+    alloc: Global,
+    signatures: &[Signature<'_>],
+    first: &[u8],
+) -> Result<String, AllocError> {
+    if first == b"run".as_slice() {
+        return String::from_str(
+            alloc,
+            "recorded runs are not read by `lint`; help: write `lineup witness`",
+        );
+    }
+    let help = first_help(alloc, signatures, first)?;
+    let (first, help) = (shown(first), help.as_str());
+    format!(in alloc;
+        "expected `thread CALL; CALL ..`, or on the first line `setup CALL; CALL ..`, found `{first}`{help}"
+    )
+}
+
 /// The first words of a line that are none of a matrix's.
 fn form(
     alloc: Global,
+    signatures: &[Signature<'_>],
     draft: &MatrixDraft,
-    first: &[u8],
-    is_empty: bool,
+    words: &[&[u8]],
 ) -> Result<String, AllocError> {
+    let first = first_word(words);
     let setup = first == b"setup".as_slice();
     if setup && (draft.setup.is_some() || !draft.threads.is_empty()) {
         return String::from_str(
@@ -52,25 +104,13 @@ fn form(
             "`setup` may appear only once, as the first line of the matrix",
         );
     }
-    if is_empty || setup || first == b"thread".as_slice() {
+    if words.is_empty() || setup || first == b"thread".as_slice() {
         return String::from_str(
             alloc,
             "empty call next to `;`; help: `;` separates two calls, and does not end a call",
         );
     }
-    if first == b"run".as_slice() {
-        return String::from_str(
-            alloc,
-            "recorded runs are not read by `lint`; help: write `lineup witness`",
-        );
-    }
-    let slip = Slip {
-        name: near_first(first),
-    };
-    let first = shown(first);
-    format!(in alloc;
-        "expected `thread CALL; CALL ..`, or on the first line `setup CALL; CALL ..`, found `{first}`{slip}"
-    )
+    no_first(alloc, signatures, first)
 }
 
 /// The operations that there are, each in quotes, separated by commas; not `_`, as which an
@@ -148,6 +188,11 @@ fn misplaced(
             "cannot find operation `{said}`; help: leave the number out, since threads are numbered by their lines"
         )?));
     }
+    if name.strip_suffix(b":").is_some() {
+        return Ok(Some(format!(in alloc;
+            "cannot find operation `{said}`; help: leave it out, since threads are numbered by their lines"
+        )?));
+    }
     match name.strip_suffix(b",") {
         Some(before) if signature(signatures, before).is_some() => Ok(Some(format!(in alloc;
             "cannot find operation `{said}`; help: separate calls with `;`"
@@ -193,7 +238,9 @@ fn arguments(
 ) -> Result<String, AllocError> {
     let (name, count) = (name.as_str(), given.len());
     let many = counted(usize::from(takes), "argument", "arguments");
-    let help = if has_call(signatures, given) {
+    let help = if given.iter().any(|word| begins_comment(word)) {
+        "; help: a comment begins with `#`"
+    } else if has_call(signatures, given) {
         "; help: separate calls with `;`"
     } else {
         ""
@@ -321,7 +368,7 @@ pub(crate) fn matrix_wording(
     let word = first_word(&first);
     match kind {
         MatrixFaultKind::Byte => unknown_byte(alloc, text),
-        MatrixFaultKind::Form => form(alloc, draft, word, first.is_empty()),
+        MatrixFaultKind::Form => form(alloc, signatures, draft, &first),
         MatrixFaultKind::Limit => limit(alloc, draft, word, parts.len()),
         _ => of_calls(alloc, signatures, kind, &parts),
     }
