@@ -412,6 +412,8 @@ conflict_else c m u before earlier answer (q, of, is) = unexplained_else (codes 
 offence_else : (c : Component) (m : Matrix) (f : Finding) (answer : Answer) → SaysFound c m f answer → IsElse answer
 offence_else c m (SerialCut u) answer is = unexplained_else (codes "serial-cut") (schedule_text u) answer is
 offence_else c m (Nondeterministic u before earlier) answer is = conflict_else c m u before earlier answer is
+offence_else c m (Fail u why) answer is = absurd is
+offence_else c m (Pass counts) answer is = absurd is
 
 ended_else : (status : Status) (IsRunning IsEnded : Answer → Type 0) (answer : Answer) → (IsRunning answer → IsElse answer) → (IsEnded answer → IsElse answer) → ToEnded status IsRunning IsEnded answer → IsElse answer
 ended_else Running IsRunning IsEnded answer runs ended is = runs is
