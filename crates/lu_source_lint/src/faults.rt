@@ -319,7 +319,7 @@ pub(crate) fn mended_before(
     line: usize,
 ) -> Result<Vec<Vec<u8>>, AllocError> {
     let mut first = first_fault(alloc, &lines)?;
-    for _round in 0..MOST_FAULTS {
+    for _fault in 0..MOST_FAULTS {
         match first {
             Some(fault) if fault.line < line => first = mend(alloc, &mut lines, fault)?,
             _ => return Ok(lines),
