@@ -240,8 +240,9 @@ fn components_are_read_or_refused(rt: HostRuntime) -> Result<(), Fail> {
     Ok(())
 }
 
-/// Loops and compare-and-swap; locks, conditions and expressions; waits, exchanges and choices.
-const SOURCES: [&[u8]; 3] = [
+/// Loops and compare-and-swap; locks, conditions and expressions; waits, exchanges and choices; and
+/// several statements on a line.
+const SOURCES: [&[u8]; 4] = [
     b"object stack # of nodes\nconst NONE = 0\nword top = NONE\nword next[4] = NONE\n\nop push(node) {\n\
 loop {\nlet head = top\nnext[node] = head\nif cas(top, head, node) {\nreturn 0\n}\n}\n}\n",
     b"object account\nlocal 2\nword left = 7\nlock m\nop take(n) {\nlock m\nif n <= left && !(n == 0) {\n\
@@ -250,6 +251,8 @@ return left\n}\n",
     b"object turn\nword now\nword seen[2] = 4294967295\nop next(me) {\nawait now == me\nlet i = 0\n\
 while i < 2 {\nseen[i] = me\ni = i + 1\nif seen[0] != me {\ncontinue\n}\nbreak\n}\nnow = 1 - me\n\
 await seen[1] != 0\nreturn i\n}\n",
+    b"object few // of all\nconst N = 2 * -1\nword x[3 - 1] = N\nop f(n) {\nx[n] += 1; n -= 3\nif n { assert x[0] }\n\
+loop { break }\n}\n",
 ];
 
 #[test]
@@ -267,8 +270,8 @@ fn sources_are_compiled_or_refused(rt: HostRuntime) -> Result<(), Fail> {
     assert_eq!(rt;
         all,
         ReadCounts {
-            read: 838,
-            refused: 8147
+            read: 1303,
+            refused: 9537
         }
     );
     Ok(())

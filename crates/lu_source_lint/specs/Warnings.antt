@@ -6,14 +6,14 @@ use Rattle.std.specs.Option.{unwrap_or}
 use denote.Ref.{Bor}
 use Rattle.lu_text.specs.Lines.{lines_of, texts}
 use Rattle.lu_text.specs.Words.{Word}
-use Rattle.lu_source_text.specs.Grammar.{is_among, source_words, where_some}
+use Rattle.lu_source_text.specs.Grammar.{is_among, is_word, source_words, where_some}
 use Rattle.lu_source_lint.specs.declared.message.SourceMessage.{SourceMessage}
 use Rattle.lu_source_lint.specs.declared.message.Warning.{Warning}
-use Rattle.lu_source_lint.specs.declared.message.Warning.TheVariants.{UnusedLocal, UnusedWord, EndlessLoop, SpinningLoop, AwaitedCondition}
+use Rattle.lu_source_lint.specs.declared.message.Warning.TheVariants.{UnusedLocal, UnusedWord, EndlessLoop, SpinningLoop, AwaitedCondition, PlainUpdate}
 use Rattle.lu_source_lint.specs.declared.message.What.TheVariants.{Warning as AWarning}
 use Rattle.lu_source_lint.specs.declared.warnings.Sought.{Sought}
 use Rattle.lu_source_lint.specs.declared.warnings.Sought.TheVariants.{Acts, Changes}
-use Rattle.lu_source_lint.specs.Faults.{opens, word_is}
+use Rattle.lu_source_lint.specs.Faults.{is_whole_block, opens, word_is}
 
 -- a line, by its words
 abbrev pub Line : Type 0
@@ -62,7 +62,8 @@ depth_after depth words =
 
 -- what changes the thread's own values or a shared word, or waits
 abbrev pub changing : List Word
-changing = codes "=" ∷ codes "lock" ∷ codes "unlock" ∷ codes "await" ∷ []
+changing =
+    codes "=" ∷ codes "+=" ∷ codes "-=" ∷ codes "lock" ∷ codes "unlock" ∷ codes "await" ∷ []
 
 abbrev pub word_changes : Word → Bool
 word_changes word = is_among changing word
@@ -112,11 +113,53 @@ tests_shared shared words below =
     (word_is words 0 (codes "while") && names_shared shared words)
     || (word_is words 0 (codes "loop") && first_names_shared shared below)
 
+abbrev pub is_brace : Word → Bool
+is_brace word = is_word word (codes "{")
+
+-- where the first `{` is
+abbrev pub brace : Line → ℕ
+brace words = unwrap_or (position is_brace words) (length words)
+
+-- the words from there on
+abbrev pub from_brace : Line → Line
+from_brace words = drop (brace words) words
+
+-- whether a line begins a loop that is whole on this line, tests a shared word, and changes nothing
+abbrev pub spins_here : List Word → Line → Bool
+spins_here shared words =
+    (word_is words 0 (codes "while") || word_is words 0 (codes "loop"))
+    && (names_shared shared words && not (does shared Changes (drop 1 (from_brace words))))
+
 -- Whether a line begins a loop that can only end when another thread changes a shared word: it tests
 -- one, and none of its lines assigns, locks, waits, or begins with a call that changes a word.
 abbrev pub spins : List Word → Line → List Line → Bool
 spins shared words below =
-    tests_shared shared words below && ends_without shared Changes 1 below
+    if is_whole_block words then spins_here shared words
+    else tests_shared shared words below && ends_without shared Changes 1 below
+
+-- whether a line begins a `loop` that never ends, and that others see nothing of
+abbrev pub is_endless : List Word → Line → List Line → Bool
+is_endless shared words below =
+    word_is words 0 (codes "loop")
+    && (if is_whole_block words then not (acts shared words)
+    else ends_without shared Acts 1 below)
+
+-- ---- updates
+
+-- whether a line calls something that changes this word
+abbrev pub calls_on : Word → Line → Bool
+calls_on name words = list_any (is_among calling) words && is_among words name
+
+-- the word that a line begins with
+abbrev pub first_of : Line → Word
+first_of words = unwrap_or (slice_get words 0) []
+
+-- whether a line changes a shared word by `+=` or `-=`, and another one by such a call
+abbrev pub is_plain_update : List Word → List Line → Line → List Line → Bool
+is_plain_update shared above words below =
+    is_among shared (first_of words)
+    && ((is_among words (codes "+=") || is_among words (codes "-="))
+    && list_any (calls_on (first_of words)) (above ++ below))
 
 -- ---- what is awaited
 
@@ -153,11 +196,11 @@ warning_of shared above words below =
     then Some UnusedLocal
     else (if word_is words 0 (codes "word") && is_unused (name_of words) above below
     then Some UnusedWord
-    else (if word_is words 0 (codes "loop") && ends_without shared Acts 1 below
-    then Some EndlessLoop
+    else (if is_endless shared words below then Some EndlessLoop
     else (if spins shared words below then Some SpinningLoop
     else (if awaits_condition words then Some AwaitedCondition
-    else None))))
+    else (if is_plain_update shared above words below then Some PlainUpdate
+    else None)))))
 
 -- what is said of line n
 abbrev pub said_of : ℕ → Option Warning → List SourceMessage
@@ -185,3 +228,8 @@ abbrev pub warning_at : {Y Z : Type 0} → List (Bor Word) → List (Vec (Bor Wo
     → List (Vec (Bor Word) Z) → Option Warning
 warning_at shared above words below =
     warning_of (texts shared) (lines_in above) (texts words) (lines_in below)
+
+abbrev pub plain_update_at : {Y Z : Type 0} → List (Bor Word) → List (Vec (Bor Word) Y)
+    → List (Bor Word) → List (Vec (Bor Word) Z) → Bool
+plain_update_at shared above words below =
+    is_plain_update (texts shared) (lines_in above) (texts words) (lines_in below)

@@ -302,7 +302,7 @@ fn faults_of_lines(alloc: Global, mut lines: Vec<Vec<u8>>) -> Result<Vec<SourceM
 }
 
 /// The lines, in memory of their own.
-fn owned(alloc: Global, lines: &[&[u8]]) -> Result<Vec<Vec<u8>>, AllocError>
+pub(crate) fn owned(alloc: Global, lines: &[&[u8]]) -> Result<Vec<Vec<u8>>, AllocError>
     ensures { IfOk result (λ owned. bytes_of owned.items ≡ texts lines.now) }
 {
     let mut owned = Vec::new(alloc);
@@ -310,6 +310,22 @@ fn owned(alloc: Global, lines: &[&[u8]]) -> Result<Vec<Vec<u8>>, AllocError>
         owned.push(Vec::from_slice(alloc, line)?)?;
     }
     Ok(owned)
+}
+
+/// The lines as they may have been meant where the first faults are before this line.
+pub(crate) fn mended_before(
+    alloc: Global,
+    mut lines: Vec<Vec<u8>>,
+    line: usize,
+) -> Result<Vec<Vec<u8>>, AllocError> {
+    let mut first = first_fault(alloc, &lines)?;
+    for _round in 0..MOST_FAULTS {
+        match first {
+            Some(fault) if fault.line < line => first = mend(alloc, &mut lines, fault)?,
+            _ => return Ok(lines),
+        }
+    }
+    Ok(lines)
 }
 
 /// The faults of a source's text, at most 20: the first one, and then each that is left where the

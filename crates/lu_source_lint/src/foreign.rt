@@ -12,11 +12,7 @@ use lu_text::{has_name_form, value_in};
 use std::alloc::{AllocError, Global};
 
 /// Signs of other languages.
-const SIGNS: [(&str, &str); 10] = [
-    (
-        ";",
-        "unexpected `;`; help: remove it, since a statement ends with its line",
-    ),
+const SIGNS: [(&str, &str); 9] = [
     (
         "?",
         "unexpected `?`; help: there is no conditional operator, so write `if EXPR {`",
@@ -50,9 +46,12 @@ const SIGNS: [(&str, &str); 10] = [
 ];
 
 /// Signs of other languages for comments, ranges and the like, as two words.
-const PAIRS: [(&str, &str, &str); 6] = [
-    ("/", "/", "unexpected `//`; help: a comment begins with `#`"),
-    ("/", "*", "unexpected `/*`; help: a comment begins with `#`"),
+const PAIRS: [(&str, &str, &str); 5] = [
+    (
+        "/",
+        "*",
+        "unexpected `/*`; help: a comment begins with `//` or `#`",
+    ),
     ("\\", "/", "there is no `\\/` operator; help: write `||`"),
     ("/", "\\", "there is no `/\\` operator; help: write `&&`"),
     (
@@ -106,26 +105,16 @@ const OPERATORS: [(&str, &str, &str); 10] = [
 ];
 
 /// Operators of other languages that assign, as two words.
-const ASSIGNMENTS: [(&str, &str, &str); 7] = [
+const ASSIGNMENTS: [(&str, &str, &str); 5] = [
     (
         "+",
         "+",
-        "there is no `++` operator; help: write `NAME = NAME + 1`",
+        "there is no `++` operator; help: write `NAME += 1`",
     ),
     (
         "-",
         "-",
-        "there is no `--` operator; help: write `NAME = NAME - 1`, or `#` before a comment",
-    ),
-    (
-        "+",
-        "=",
-        "there is no `+=` operator; help: write `NAME = NAME + EXPR`",
-    ),
-    (
-        "-",
-        "=",
-        "there is no `-=` operator; help: write `NAME = NAME - EXPR`",
+        "there is no `--` operator; help: write `NAME -= 1`, or `//` before a comment",
     ),
     (
         "*",
@@ -163,6 +152,8 @@ fn row_words(alloc: Global, word: &[u8], row: &Foreign) -> Result<String, AllocE
 /// Whether a word before these is assigned to, or has an index, a field or a path after it.
 fn is_accessed(rest: &[&[u8]]) -> bool {
     word_is(rest, 0, b"=")
+        || word_is(rest, 0, b"+=")
+        || word_is(rest, 0, b"-=")
         || word_is(rest, 0, b"[")
         || word_is(rest, 0, b".")
         || (word_is(rest, 0, b":") && !rest.is_empty() && word_is(rest, 1, b":"))
@@ -258,7 +249,7 @@ fn pair_among(
 /// What is said of two signs that are one in other languages.
 fn pair_words(words: &[&[u8]]) -> Option<&'static str> {
     if word_is(words, 0, b"(") && word_is(words, 1, b"*") {
-        return Some("unexpected `(*`; help: a comment begins with `#`");
+        return Some("unexpected `(*`; help: a comment begins with `//` or `#`");
     }
     pair_among(&PAIRS, words)
         .or(pair_among(&OPERATORS, words))

@@ -69,7 +69,7 @@ static STATEMENTS: [Foreign; 9] = [
     },
     Foreign {
         words: &["begin"],
-        help: "begin a block with `{` at the end of a line",
+        help: "begin a block with `{`",
     },
     Foreign {
         words: &["end", "endif", "endwhile", "fi", "done", "od"],
@@ -316,7 +316,6 @@ static FUNCTIONS: [Foreign; 7] = [
     },
     Foreign {
         words: &[
-            "assert",
             "assert_eq",
             "debug_assert",
             "panic",
@@ -324,7 +323,7 @@ static FUNCTIONS: [Foreign; 7] = [
             "exit",
             "unreachable",
         ],
-        help: "return a value that no serial run returns",
+        help: "write `assert EXPR`, which traps if EXPR is 0",
     },
     Foreign {
         words: &["new", "malloc", "calloc", "alloc", "box"],
@@ -380,7 +379,7 @@ static VALUES: [Foreign; 8] = [
     },
     Foreign {
         words: &["then", "do"],
-        help: "begin a block with `{` at the end of the line",
+        help: "begin a block with `{`",
     },
 ];
 

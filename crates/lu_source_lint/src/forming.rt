@@ -23,24 +23,24 @@ enum Place {
 }
 
 /// The word that begins a line, where such a line is allowed, and how it looks.
-const FORMS: [(&str, Place, &str); 18] = [
+const FORMS: [(&str, Place, &str); 19] = [
     ("let", Place::Operation, "`let NAME = EXPR`"),
     (
         "const",
         Place::Outside,
-        "`const NAME = N`, with a number or a constant N",
+        "`const NAME = EXPR`, with numbers and constants alone",
     ),
     (
         "word",
         Place::Outside,
-        "`word NAME`, `word NAME = N`, `word NAME[LEN]` or `word NAME[LEN] = N`",
+        "`word NAME`, `word NAME = EXPR`, `word NAME[LEN]` or `word NAME[LEN] = EXPR`",
     ),
     ("lock", Place::Anywhere, "`lock NAME`"),
     ("unlock", Place::Operation, "`unlock NAME`"),
     (
         "local",
         Place::Outside,
-        "`local N`, with a number or a constant N",
+        "`local EXPR`, with numbers and constants alone",
     ),
     ("object", Place::Outside, "`object NAME`"),
     ("op", Place::Outside, "`op NAME(A, B) {`"),
@@ -57,6 +57,11 @@ const FORMS: [(&str, Place, &str); 18] = [
         "await",
         Place::Operation,
         "`await CELL == EXPR` or `await CELL != EXPR`",
+    ),
+    (
+        "assert",
+        Place::Operation,
+        "`assert EXPR`, in a source with a shared word",
     ),
     ("cas", Place::Operation, "`cas(CELL, OLD, NEW)`"),
     (
@@ -165,14 +170,8 @@ fn found_words(
     Ok(Some(format!(in alloc; "expected {expected}, found `{word}`{help}")?))
 }
 
-/// What follows the `{` of a line, which should be its end.
-fn after_brace<'a>(words: &[&'a [u8]]) -> Option<&'a [u8]> {
-    let brace = brace_in(words)?;
-    words.get(brace.saturating_add(1)).copied()
-}
-
-/// A line that begins with `op` in an operation, or `else` without `}`, or whose `{` is missing, on a
-/// line of its own, or not at its end.
+/// A line that begins with `op` in an operation, or `else` without `}`, or whose `{` is missing or on a
+/// line of its own.
 fn block_words(
     alloc: Global,
     scope: &Scope<'_>,
@@ -199,12 +198,7 @@ fn block_words(
     } else if lacks_brace(scope, words) {
         brace_words(scope, words)
     } else {
-        return found_words(
-            alloc,
-            "the end of the line after `{`",
-            after_brace(words),
-            "; help: write each statement, and the `}`, on a line of its own",
-        );
+        return Ok(None);
     };
     Ok(Some(String::from_str(alloc, said)?))
 }
@@ -308,11 +302,17 @@ fn after_declaration<'a>(
             *next,
             "declare each name on a line of its own",
         )),
-        [_, _, sign, value, next, ..] if *sign == b"=".as_slice() && is_constant(scope, value) => {
-            Some((*next, "a declaration takes one number or constant"))
-        }
+        [_, _, sign, value, next, ..]
+            if *sign == b"=".as_slice()
+                && is_constant(scope, value)
+                && (is_free_name(next) || value_in(next).is_some()) => Some((
+            *next,
+            "a declaration takes one number or constant",
+        )),
         [_, _, opens, _, closes, _, _, next, ..]
-            if *opens == b"[".as_slice() && *closes == b"]".as_slice() => Some((
+            if *opens == b"[".as_slice()
+                && *closes == b"]".as_slice()
+                && *next == b",".as_slice() => Some((
             *next,
             "each cell of an array begins with the same number",
         )),
@@ -418,12 +418,7 @@ fn expression_words(alloc: Global, words: &[&[u8]]) -> Result<Option<String>, Al
     }
     if let Some(word) = last_operator(words) {
         let word = shown(word);
-        let expected = if word_is(words, 0, b"word") || word_is(words, 0, b"const") {
-            "a number or a constant"
-        } else {
-            "an expression"
-        };
-        return Ok(Some(format!(in alloc; "expected {expected} after `{word}`")?));
+        return Ok(Some(format!(in alloc; "expected an expression after `{word}`")?));
     }
     found_words(
         alloc,
@@ -749,16 +744,19 @@ fn is_constant(scope: &Scope<'_>, word: &[u8]) -> bool {
     value_in(word).is_some() || scope.value_declared(word) == Some(Declared::Constant)
 }
 
-/// The first word that is neither a number nor a constant where only these are allowed: after `[`
-/// or `=` in a declaration, and in `pick`.
+/// The first word that is neither a number nor a constant where only these are allowed: the name of
+/// something else in a declaration, what follows `[` or `=` there and begins no expression, and in
+/// `pick`.
 fn no_constant<'a>(scope: &Scope<'_>, words: &[&'a [u8]]) -> Option<&'a [u8]> {
     let declares = !word_is(words, 0, b"let") && declares(words) || word_is(words, 0, b"local");
     for (index, word) in words.iter().enumerate() {
         let (before, _) = words.split_at(index);
         let wanted = match before {
             [.., pick, opens] if *pick == b"pick".as_slice() => *opens == b"(".as_slice(),
+            [_, _, ..] if declares && is_free_name(word) => true,
             [.., sign] => {
                 declares
+                    && !begins_more(word)
                     && (*sign == b"[".as_slice()
                         || *sign == b"=".as_slice()
                         || *sign == b"local".as_slice())
@@ -770,6 +768,11 @@ fn no_constant<'a>(scope: &Scope<'_>, words: &[&'a [u8]]) -> Option<&'a [u8]> {
         }
     }
     None
+}
+
+/// Whether an expression may begin with the word, and go on.
+fn begins_more(word: &[u8]) -> bool {
+    word == b"(".as_slice() || word == b"-".as_slice() || word == b"!".as_slice()
 }
 
 /// The first word that begins with a digit and is no number.
@@ -815,13 +818,7 @@ pub(crate) fn number_words(
             "invalid number `{word}`; expected 0 to 4294967295, in decimal and without leading zeros"
         );
     }
-    let sign = b"-".as_slice();
     if let Some(word) = no_constant(scope, words) {
-        if word == sign {
-            let said =
-                "unexpected `-`: numbers are not negative; help: write 4294967295 for -1, since numbers are taken modulo 2^32";
-            return String::from_str(alloc, said);
-        }
         let said = shown(word);
         if let Some(line) = scope.line_below(word) {
             return format!(in alloc;
@@ -836,10 +833,6 @@ pub(crate) fn number_words(
         return format!(in alloc; "expected a number or a constant, found `{said}`{help}");
     }
     match no_operand(words) {
-        Some(word) if word == sign => String::from_str(
-            alloc,
-            "unexpected `-`: numbers are not negative; help: write `0 - N`, which is taken modulo 2^32",
-        ),
         Some(word) => no_operand_words(alloc, words, word),
         None => String::from_str(alloc, "expected a number (0 to 4294967295) or a constant"),
     }

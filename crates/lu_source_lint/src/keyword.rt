@@ -5,9 +5,9 @@ use lu_source_text::is_free_name;
 use lu_text::has_name_form;
 
 /// The keywords for which a word may be a slip.
-const KEYWORDS: [&str; 20] = [
+const KEYWORDS: [&str; 21] = [
     "object", "local", "const", "word", "lock", "op", "unlock", "let", "if", "else", "while",
-    "loop", "break", "continue", "return", "await", "cas", "pick", "true", "false",
+    "loop", "break", "continue", "return", "await", "assert", "cas", "pick", "true", "false",
 ];
 
 /// Whether the word is a keyword.

@@ -41,7 +41,7 @@ pub(crate) fn opens(words: &[&[u8]]) -> bool
 }
 
 /// Whether a line opens a block and closes it again.
-fn is_whole_block(words: &[&[u8]]) -> bool
+pub(crate) fn is_whole_block(words: &[&[u8]]) -> bool
     ensures { result ≡ spec.is_whole_block (texts words.now) }
 {
     !word_is(words, 0, b"}") && words.last().is_some_and(|word| *word == b"}".as_slice())
@@ -168,7 +168,7 @@ fn meant(kind: SourceFaultKind, words: &[&[u8]]) -> Mending
 }
 
 /// Each word, and a blank after it.
-fn spelled(alloc: Global, words: &[&[u8]]) -> Result<Vec<u8>, AllocError>
+pub(crate) fn spelled(alloc: Global, words: &[&[u8]]) -> Result<Vec<u8>, AllocError>
     ensures { HasItems result (spec.spelled (texts words.now)) }
 {
     let mut text = Vec::new(alloc);

@@ -19,6 +19,9 @@ pub enum Warning {
 
     /// An `await` that compares with a condition that has no parentheses around it.
     AwaitedCondition,
+
+    /// A `+=` or `-=` of a shared word that another line updates atomically.
+    PlainUpdate,
 }
 
 /// What is said of a line.

@@ -22,14 +22,20 @@ fn is_infix(word: &[u8]) -> bool {
 
 /// Whether an operand must follow the word.
 fn wants_operand(word: &[u8]) -> bool {
-    is_infix(word) || is_one_of(word, &["=", "(", "[", ",", "!", "return", "if", "while"])
+    is_infix(word)
+        || is_one_of(
+            word,
+            &[
+                "=", "+=", "-=", "(", "[", ",", "!", "return", "if", "while", "assert",
+            ],
+        )
 }
 
 /// Whether an operand may begin with the word.
 fn begins_operand(word: &[u8]) -> bool {
     is_free_name(word)
         || value_in(word).is_some()
-        || is_one_of(word, &["!", "(", "cas", "pick", "true", "false"])
+        || is_one_of(word, &["!", "-", "(", "cas", "pick", "true", "false"])
 }
 
 /// Whether an operand may end with the word.
@@ -48,7 +54,7 @@ pub(crate) fn is_prefix(words: &[&[u8]], index: usize) -> bool {
 
 /// Whether an expression may continue with the word, or end before it.
 fn follows_operand(word: &[u8]) -> bool {
-    is_infix(word) || is_one_of(word, &[")", "]", "[", ",", "{", "="])
+    is_infix(word) || is_one_of(word, &[")", "]", "[", ",", "{", "}", ";", "=", "+=", "-="])
 }
 
 /// The first word that is no operand where one must be.
@@ -66,7 +72,7 @@ pub(crate) fn no_operand<'a>(words: &[&'a [u8]]) -> Option<&'a [u8]> {
 /// The last word, where an operand must follow it.
 pub(crate) fn last_operator<'a>(words: &[&'a [u8]]) -> Option<&'a [u8]> {
     match words.last() {
-        Some(word) if is_infix(word) || is_one_of(word, &["=", "!", "if", "while"]) => {
+        Some(word) if is_infix(word) || is_one_of(word, &["=", "+=", "-=", "!", "if", "while"]) => {
             Some(*word)
         }
         _ => None,
@@ -75,10 +81,12 @@ pub(crate) fn last_operator<'a>(words: &[&'a [u8]]) -> Option<&'a [u8]> {
 
 /// Where the expression of a line begins that assigns, returns or tests.
 fn expression_start(words: &[&[u8]]) -> Option<usize> {
-    if word_is(words, 0, b"return") || word_is(words, 0, b"if") || word_is(words, 0, b"while") {
+    if is_one_of(words.first()?, &["return", "if", "while", "assert"]) {
         return Some(1);
     }
-    let equals = words.iter().position(|word| *word == b"=".as_slice());
+    let equals = words
+        .iter()
+        .position(|word| is_one_of(word, &["=", "+=", "-="]));
     Some(equals?.saturating_add(1))
 }
 

@@ -1,12 +1,16 @@
 //! What is said of a line, in words.
 
+use crate::faults::{mended_before, owned};
 use crate::forming::{form_words, number_words};
 use crate::limit::limit_words;
-use crate::meaning::{is_dashes, word_is};
+use crate::meaning::{is_dashes, spelled, word_is};
 use crate::message::{SourceMessage, Warning, What};
 use crate::naming::{name_words, shown};
 use crate::scope::{Leaving, Scope};
-use lu_source_text::{SourceFaultKind, source_words};
+use lu_source_text::{
+    MOST_NESTING, SourceFaultKind, nesting, read_source_lines, source_words, statements_of,
+};
+use lu_text::Fault;
 use std::alloc::{AllocError, Global};
 
 /// Whether a `return`, `break` or `continue` leaves the block before the line.
@@ -140,6 +144,19 @@ fn awaited_words(alloc: Global, words: &[&[u8]]) -> Result<String, AllocError> {
     )
 }
 
+/// A `+=` or `-=` of a word that other lines update atomically.
+fn plain_update_words(alloc: Global, words: &[&[u8]]) -> Result<String, AllocError> {
+    let name = words.first().map_or("?", |name| shown(name));
+    let call = if words.contains(&b"-=".as_slice()) {
+        "fetch_sub"
+    } else {
+        "fetch_add"
+    };
+    format!(in alloc;
+        "this is a load and a store of `{name}`, and not atomic; help: write `{call}({name}, EXPR)`"
+    )
+}
+
 /// What is odd about a line with these words, in this scope.
 fn warning_words(
     alloc: Global,
@@ -157,6 +174,7 @@ fn warning_words(
         ),
         Warning::SpinningLoop => spinning_words(alloc, scope, words),
         Warning::AwaitedCondition => awaited_words(alloc, words),
+        Warning::PlainUpdate => plain_update_words(alloc, words),
     }
 }
 
@@ -192,6 +210,62 @@ fn separator_words(alloc: Global, line: &[u8], dashes: usize) -> Result<String, 
     String::from_str(alloc, said)
 }
 
+/// Whether a source of these lines has a fault in one of them after the first `count`.
+fn is_faulty_after(alloc: Global, count: usize, lines: &[Vec<u8>]) -> Result<bool, AllocError> {
+    let lines: Vec<&[u8]> = lines.iter().map(|line| line.as_slice()).collect(alloc)?;
+    match read_source_lines(alloc, &lines) {
+        Err(Fault::At(SourceFaultKind::Missing, _)) | Ok(_) => Ok(false),
+        Err(Fault::At(_, line)) => Ok(line > count),
+        Err(Fault::Memory) => Err(AllocError),
+    }
+}
+
+/// Which of the statements of a line has its fault: the first with which the lines above, as they may
+/// have been meant, are refused; or else the last that has words.
+fn faulty_statement(
+    alloc: Global,
+    above: &[&[u8]],
+    statements: &[Vec<&[u8]>],
+) -> Result<usize, AllocError> {
+    let count = above.len();
+    let mut lines = mended_before(alloc, owned(alloc, above)?, count.saturating_add(1))?;
+    let mut last = 0;
+    for (index, statement) in statements.iter().enumerate() {
+        lines.push(spelled(alloc, statement)?)?;
+        if is_faulty_after(alloc, count, &lines)? {
+            return Ok(index);
+        }
+        if !statement.is_empty() {
+            last = index;
+        }
+    }
+    Ok(last)
+}
+
+/// A fault of a line, in this scope: of the statement that has it.
+fn line_words<'a>(
+    alloc: Global,
+    kind: SourceFaultKind,
+    mut scope: Scope<'a>,
+    above: &[&'a [u8]],
+    line: &'a [u8],
+) -> Result<String, AllocError> {
+    let words = source_words(alloc, line)?;
+    let is_too_long = words.len() > 256 || nesting(&words) > MOST_NESTING;
+    if kind == SourceFaultKind::Limit && is_too_long {
+        return limit_words(alloc, &scope, &words);
+    }
+    let statements = statements_of(alloc, &words)?;
+    let faulty = faulty_statement(alloc, above, &statements)?;
+    for (index, statement) in statements.iter().enumerate() {
+        if index == faulty {
+            return fault_words(alloc, kind, &scope, statement);
+        }
+        scope.pass(alloc, above.len().saturating_add(1), line, statement)?;
+    }
+    fault_words(alloc, kind, &scope, &words)
+}
+
 /// What a message says of the lines of its source, in one line, with what to do.
 ///
 /// # Errors
@@ -213,7 +287,7 @@ pub fn wording(
     }
     let scope = Scope::between(alloc, above, below)?;
     match message.what {
-        What::Fault(kind) => fault_words(alloc, kind, &scope, &words),
+        What::Fault(kind) => line_words(alloc, kind, scope, above, line),
         What::Warning(warning) => warning_words(alloc, warning, &scope, &words),
     }
 }

@@ -4,7 +4,7 @@ use crate::foreign_table::declares_name;
 use crate::meaning::{is_inline, opens, word_is};
 use crate::spelling::is_near;
 use indexmap::IndexMap;
-use lu_source_text::{is_free_name, source_words};
+use lu_source_text::{is_free_name, source_words, statements_of};
 use lu_text::value_in;
 use std::alloc::{AllocError, Global};
 
@@ -240,11 +240,24 @@ impl<'a> Scope<'a> {
         };
         for (index, line) in lines.iter().enumerate() {
             let words = source_words(alloc, line)?;
-            scope.declare(alloc, &words)?;
-            scope.count(&words);
-            scope.nest(index.saturating_add(1), indent_of(line), &words)?;
+            for statement in statements_of(alloc, &words)? {
+                scope.pass(alloc, index.saturating_add(1), line, &statement)?;
+            }
         }
         Ok(scope)
+    }
+
+    /// Goes past a statement of a line, which has this number.
+    pub(crate) fn pass(
+        &mut self,
+        alloc: Global,
+        number: usize,
+        line: &[u8],
+        statement: &[&'a [u8]],
+    ) -> Result<(), AllocError> {
+        self.declare(alloc, statement)?;
+        self.count(statement);
+        self.nest(number, indent_of(line), statement)
     }
 
     /// Adds a name that is declared so, with this many blocks around it.
@@ -286,7 +299,7 @@ impl<'a> Scope<'a> {
         let Some(value) = self.number(word) else {
             return Ok(());
         };
-        if !self.constants.contains_key(*name) {
+        if words.len() == 4 && !self.constants.contains_key(*name) {
             self.constants.insert(Vec::from_slice(alloc, name)?, value)?;
         }
         Ok(())

@@ -1,14 +1,16 @@
 //! What is odd in a source without faults.
 
-ghost use Rattle.std.specs.Prelude.{false, ◌≡◌, ◌≤◌, ◌++◌, ◌+◌, [], map, IfOk};
+ghost use Rattle.std.specs.Prelude.{false, ◌≡◌, ◌≤◌, ◌++◌, ◌+◌, [], drop, map, IfOk};
+ghost use Rattle.std.specs.List.{list_any};
 ghost use Rattle.lu_text.specs.Lines.{lines_of, texts};
 ghost use Rattle.lu_text.specs.Results.{HasItems};
 ghost use Rattle.lu_source_text.specs.Grammar.{is_among, source_words};
+ghost use Rattle.lu_source_lint.specs.declared.warnings.Sought.TheVariants.{Changes};
 ghost use Rattle.lu_source_lint.specs.declared.warnings.TheConstants.{MOST_BLOCKS};
 ghost use Rattle.lu_source_lint.specs.Warnings as spec;
 ghost use Rattle.lu_source_lint.specs.Warnings.{lines_in};
 
-use crate::meaning::{opens, word_is};
+use crate::meaning::{is_whole_block, opens, word_is};
 use crate::message::{SourceMessage, Warning, What};
 use lu_source_text::source_words;
 use lu_text::lines_of;
@@ -102,6 +104,8 @@ fn word_changes(word: &[u8]) -> bool
     ensures { result ≡ spec.word_changes word.now }
 {
     word == b"=".as_slice()
+        || word == b"+=".as_slice()
+        || word == b"-=".as_slice()
         || word == b"lock".as_slice()
         || word == b"unlock".as_slice()
         || word == b"await".as_slice()
@@ -205,11 +209,116 @@ fn tests_shared(shared: &[&[u8]], words: &[&[u8]], below: &[Vec<&[u8]>]) -> bool
         || (word_is(words, 0, b"loop") && first_names_shared(shared, below))
 }
 
+/// Whether a word is `{`.
+fn is_brace(word: &[u8]) -> bool
+    ensures { result ≡ spec.is_brace word.now }
+{
+    word == b"{".as_slice()
+}
+
+/// Where the first `{` is, or the number of words where there is none.
+fn brace(words: &[&[u8]]) -> usize
+    ensures { result ≡ spec.brace (texts words.now) }
+{
+    words
+        .iter()
+        .position(|word| is_brace(word))
+        .unwrap_or(words.len())
+}
+
+/// The words from the first `{` on.
+fn from_brace<'a, 'b>(words: &'b [&'a [u8]]) -> &'b [&'a [u8]]
+    ensures { texts result.now ≡ spec.from_brace (texts words.now) }
+{
+    let (_, rest) = words.split_at(brace(words).min(words.len()));
+    rest
+}
+
+/// The words after the first `{`, of which there is one.
+fn changes_in_braces(shared: &[&[u8]], words: &[&[u8]]) -> bool
+    ensures { result
+        ≡ spec.does (texts shared.now) Changes (drop 1 (spec.from_brace (texts words.now))) }
+{
+    match from_brace(words).split_first() {
+        Some((_, rest)) => does(shared, Sought::Changes, rest),
+        None => does(shared, Sought::Changes, &[]),
+    }
+}
+
+/// Whether a line begins a loop that is whole on this line, tests a shared word, and changes nothing.
+fn spins_here(shared: &[&[u8]], words: &[&[u8]]) -> bool
+    ensures { result ≡ spec.spins_here (texts shared.now) (texts words.now) }
+{
+    (word_is(words, 0, b"while") || word_is(words, 0, b"loop"))
+        && names_shared(shared, words)
+        && !changes_in_braces(shared, words)
+}
+
 /// Whether a line begins a loop that can only end when another thread changes a shared word.
 fn spins(shared: &[&[u8]], words: &[&[u8]], below: &[Vec<&[u8]>]) -> bool
     ensures { result ≡ spec.spins (texts shared.now) (texts words.now) (lines_in below.now) }
 {
-    tests_shared(shared, words, below) && ends_without(shared, Sought::Changes, below)
+    if is_whole_block(words) {
+        spins_here(shared, words)
+    } else {
+        tests_shared(shared, words, below) && ends_without(shared, Sought::Changes, below)
+    }
+}
+
+/// Whether a line begins a `loop` that never ends, and that others see nothing of.
+fn is_endless(shared: &[&[u8]], words: &[&[u8]], below: &[Vec<&[u8]>]) -> bool
+    ensures { result ≡ spec.is_endless (texts shared.now) (texts words.now) (lines_in below.now) }
+{
+    if !word_is(words, 0, b"loop") {
+        false
+    } else if is_whole_block(words) {
+        !acts(shared, words)
+    } else {
+        ends_without(shared, Sought::Acts, below)
+    }
+}
+
+/// Whether one of the words calls something that changes a shared word.
+fn has_call(words: &[&[u8]]) -> bool
+    ensures { result ≡ list_any (is_among spec.calling) (texts words.now) }
+{
+    words.iter().any(|word| is_call(word))
+}
+
+/// Whether a line calls something that changes this word.
+fn calls_on(name: &[u8], words: &[&[u8]]) -> bool
+    ensures { result ≡ spec.calls_on name.now (texts words.now) }
+{
+    has_call(words) && is_among(words, name)
+}
+
+/// Whether a line above or below calls something that changes this word.
+fn is_called_on(name: &[u8], above: &[Vec<&[u8]>], below: &[Vec<&[u8]>]) -> bool
+    ensures { result
+        ≡ list_any (spec.calls_on name.now) (lines_in above.now ++ lines_in below.now) }
+{
+    above.iter().chain(below).any(|words| calls_on(name, words))
+}
+
+/// The word that a line begins with.
+fn first_of<'a>(words: &[&'a [u8]]) -> &'a [u8]
+    ensures { result.now ≡ spec.first_of (texts words.now) }
+{
+    words.get(0).copied().unwrap_or(&[])
+}
+
+/// Whether a line changes a shared word by `+=` or `-=`, and another one by a call.
+fn is_plain_update(
+    shared: &[&[u8]],
+    above: &[Vec<&[u8]>],
+    words: &[&[u8]],
+    below: &[Vec<&[u8]>],
+) -> bool
+    ensures { result ≡ spec.plain_update_at shared.now above.now words.now below.now }
+{
+    is_among(shared, first_of(words))
+        && (is_among(words, b"+=") || is_among(words, b"-="))
+        && is_called_on(first_of(words), above, below)
 }
 
 /// Whether a word is `==` or `!=`.
@@ -273,12 +382,14 @@ fn warning_of(
         Some(Warning::UnusedLocal)
     } else if word_is(words, 0, b"word") && is_unused(name_of(words), above, below) {
         Some(Warning::UnusedWord)
-    } else if word_is(words, 0, b"loop") && ends_without(shared, Sought::Acts, below) {
+    } else if is_endless(shared, words, below) {
         Some(Warning::EndlessLoop)
     } else if spins(shared, words, below) {
         Some(Warning::SpinningLoop)
     } else if awaits_condition(words) {
         Some(Warning::AwaitedCondition)
+    } else if is_plain_update(shared, above, words, below) {
+        Some(Warning::PlainUpdate)
     } else {
         None
     }

@@ -20,7 +20,7 @@ use Rattle.lu_component.specs.Component.{AreDistinct, IsArray, IsComponent, IsIn
 use Rattle.lu_source.specs.declared.tree.Action.{Action}
 use Rattle.lu_source.specs.declared.tree.Action.TheVariants.{Set, Compute, Load, Store, Cas, Lock, Unlock, Await, AwaitNot, Pick, Return}
 use Rattle.lu_source.specs.Code.{instr_of, op_of, operation_code}
-use Rattle.lu_source_text.specs.Grammar.{Begun, Block, Drafted, Kind, all_read, aside, last_number, last_word, after_word, by_state, by_words, close_blocks, closes, end_block, constant_from, const_line, declaration, else_line, end_line, first_number, init_in, inside, is_free_name, is_operation, is_taken, is_too_long, is_whole, is_word, keeps_going, len_in, line_of, local_line, lock_line, names_from, names_in, name_of, new_name, nothing, nothing_left, object_line, on_first, on_ok, or_fault, op_line, other_side, position_from, program_of, shared_from, source_grammar, source_words, statement, whole_line, word_line}
+use Rattle.lu_source_text.specs.Grammar.{Begun, Block, Drafted, Kind, all_read, aside, last_number, last_word, after_word, by_state, by_statements, by_words, close_blocks, closes, end_block, constant_from, const_line, declaration, first_constant, else_line, end_line, init_in, inside, is_free_name, is_operation, is_taken, is_too_long, is_whole, is_word, keeps_going, len_in, line_of, local_line, lock_line, names_from, names_in, name_of, new_name, nothing, nothing_left, object_line, on_first, on_ok, or_fault, op_line, other_side, position_from, program_of, shared_from, source_grammar, source_words, statements, statement, whole_line, word_line}
 use Rattle.lu_source.specs.Programs.{operation_of}
 use Rattle.lu_source_text.specs.Drafts.{begun_of, drafted_of}
 use Rattle.lu_source_text.specs.declared.draft.Begun.{Begun as HeldBegun}
@@ -34,7 +34,7 @@ use Rattle.lu_source.specs.Sound.{IsTree}
 use Rattle.lu_source.specs.Trees.{Operation, Program, Tree}
 use Rattle.lu_source.specs.Trees.Tree.{Nothing, Plain, Then, If, IfElse, Loop, Break, BreakUnless, Continue}
 use Rattle.lu_source.proofs.Bounded.{code_sound}
-use Rattle.lu_source_text.proofs.Kept.{AreValues, Holds, any_holds, first_fine, if_holds, then_holds, unless_holds}
+use Rattle.lu_source_text.proofs.Kept.{AreValues, Holds, any_holds, constant_small, if_holds, then_holds, unless_holds}
 use Rattle.lu_source_text.proofs.Lines.{Goes, GoesOn, IsBlock, IsGoing, each_last, else_fine, end_fine, free_name, name_fine, new_named, statement_fine}
 
 -- ---- lists
@@ -218,7 +218,7 @@ module _ (d : Drafted) (h : IsDraft d) where
       record { name = h.name; local = ltb-false 16 most few; values = h.values; words_few = h.words_few; words = h.words; words_apart = h.words_apart; locks_few = h.locks_few; locks = h.locks; locks_apart = h.locks_apart; operations_few = h.operations_few; operations = h.operations; operations_apart = h.operations_apart; begun = h.begun })))
 
   number_holds : (ws : List Word) → Holds (λ n. n < 2 ^ 32) (last_number d.constants ws)
-  number_holds ws = then_holds (λ (r : ℕ × List Word). r.0 < 2 ^ 32) (λ n. n < 2 ^ 32) (first_number d.constants ws) all_read (first_fine d.constants ws h.values) (λ r small. read_all (λ n. n < 2 ^ 32) r.0 r.1 small)
+  number_holds ws = then_holds (λ (r : ℕ × List Word). r.0 < 2 ^ 32) (λ n. n < 2 ^ 32) (first_constant d.constants ws) all_read (constant_small d.constants ws h.values) (λ r small. read_all (λ n. n < 2 ^ 32) r.0 r.1 small)
 
   const_kept : (ws : List Word) → Holds IsDraft (const_line d ws)
   const_kept ws =
@@ -397,11 +397,16 @@ module _ (d : Drafted) (h : IsDraft d) where
   words_kept [] = h
   words_kept (w ∷ ws) = state_kept d.name d.begun refl h.begun w ws
 
+statements_kept : (d : Drafted) → IsDraft d → (all : List (List Word)) → Holds IsDraft (by_statements d all)
+statements_kept d h [] = h
+statements_kept d h (words ∷ others) = then_holds IsDraft IsDraft (by_words d words) _ (words_kept d h words) (λ next k. statements_kept next k others)
+
+module _ (d : Drafted) (h : IsDraft d) where
   pub line_kept : (line : List ℕ) → Holds IsDraft (line_of d line)
   unfolding line_of
   line_kept line =
       unless_holds IsDraft (not (list_all is_allowed line)) Byte _ (λ allowed.
-      unless_holds IsDraft (is_too_long (source_words line)) Limit _ (λ few. words_kept (source_words line)))
+      unless_holds IsDraft (is_too_long (source_words line)) Limit _ (λ few. statements_kept d h (statements (source_words line))))
 
 -- ---- texts
 

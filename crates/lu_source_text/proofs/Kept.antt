@@ -1,25 +1,28 @@
 -- What is read of a source names what is there.
-use Rattle.std.proofs.Common.{◌≡◌, ℕ, zero, suc, ◌+◌, ◌<◌, ◌^◌, nat_lt, Bool, true, false, ◌||◌, if◌then◌else◌, List, [], ◌∷◌, length, Option, Some, None, MatchOption, refl, lit<, arith}
+use Rattle.std.proofs.Common.{◌≡◌, ℕ, zero, suc, ◌+◌, ◌-◌, ◌*◌, ◌==◌, ◌<◌, ◌^◌, nat_lt, Bool, true, false, ◌||◌, if◌then◌else◌, List, [], ◌∷◌, length, Option, Some, None, MatchOption, refl, lit<, arith}
 use Rattle.std.specs.Prelude.{Result, Ok, Err, codes}
 use Rattle.std.specs.List.{AllByRecursion}
 use Rattle.std.specs.Option.{option_map, unwrap_or}
 use Rattle.std.specs.Str.{bytes_eq}
+use Rattle.std.proofs.Math.Nat.{mod-lt}
 use Rattle.std.proofs.lemmas.Bool.{ltb-false, or_parts}
 use Rattle.lu_text.specs.Numbers.{value_in}
 use Rattle.lu_text.specs.Words.{Word}
 use Rattle.lu_text.proofs.NumberText.{value_small}
-use Rattle.lu_source.specs.Expressions.{Expr}
-use Rattle.lu_source.specs.Expressions.Expr.{Number, Local}
+use Rattle.lu_source.specs.Expressions.{Expr, opposite, result}
+use Rattle.lu_source.specs.declared.expr.Operator.{Operator}
+use Rattle.lu_source.specs.declared.expr.Operator.TheVariants.{Plus, Minus, Times, Equals, Differs, Below, Above, AtMost, AtLeast}
+use Rattle.lu_source.specs.Expressions.Expr.{Number, Local, Read, Swap, Fetch, Pick, Binary, Not, And, Or}
 use Rattle.lu_source.specs.declared.updating.Answer.{Answer}
 use Rattle.lu_source.specs.declared.updating.Update.{Update}
 use Rattle.lu_source_text.specs.declared.updates.CellCall.{CellCall}
 use Rattle.lu_source_text.specs.declared.updates.CellCall.TheVariants as called
 use Rattle.lu_source_text.specs.declared.infix.Infix.{Infix}
 use Rattle.lu_source_text.specs.declared.infix.Infix.TheVariants.{Or as Or', And as And', Joins}
-use Rattle.lu_source_text.specs.Grammar.{Inner, Kind, Read', Scope, all_read, after_word, binding, call_in, call_with, cell_with, closed_with, constant_from, either, expr_from, fetch_with, first_number, infix_from, infix_in, inner_by, is_free_name, is_word, joined, local_in, most_after, name_with, named_expr, number_of, on_first, on_ok, operands_with, or_fault, pick_from, plain_with, shared_from, steps_for, swap_with, unary_with, unless, where_some}
+use Rattle.lu_source_text.specs.Grammar.{Inner, Kind, Read', Scope, all_read, alone, as_number, after_word, binding, call_in, call_with, cell_with, closed_with, constant_from, constants_alone, either, expr_from, fetch_with, first_constant, first_number, folded, infix_from, infix_in, inner_by, is_free_name, is_word, joined, local_in, most_after, name_with, negative, named_expr, on_first, of_both, on_ok, operands_with, or_fault, pick_from, plain_with, shared_from, steps_for, swap_with, unary_with, unless, where_some}
 use Rattle.lu_source_text.specs.Constants.{Constant}
 use Rattle.lu_source_text.specs.declared.draft.Shared.{Shared}
-use Rattle.lu_source_text.specs.declared.fault.SourceFaultKind.TheVariants.{Form, Number as Number', Limit, Name}
+use Rattle.lu_source_text.specs.declared.fault.SourceFaultKind.TheVariants.{Byte, Missing, Form, Number as Number', Limit, Registers, Flow, Name}
 use Rattle.lu_source.specs.Sound.{IsExpr}
 
 -- ---- results
@@ -87,14 +90,6 @@ constant_fine : (constants : List Constant) (w : Word) → AreValues constants �
 unfolding IsValue
 constant_fine [] w h = tt
 constant_fine (c ∷ cs) w h = match_if (λ n. n < 2 ^ 32) (bytes_eq c.name w) (Some c.value) (constant_from cs w) h.0 (constant_fine cs w h.1)
-
-pub number_fine : (constants : List Constant) (w : Word) → AreValues constants → Holds (λ n. n < 2 ^ 32) (number_of constants w)
-unfolding IsValue
-number_fine constants w h = or_holds (λ n. n < 2 ^ 32) Number' (either (value_in w) (constant_from constants w)) (match_either (λ n. n < 2 ^ 32) (value_in w) (constant_from constants w) (value_fine w) (constant_fine constants w h))
-
-pub first_fine : (constants : List Constant) (ws : List Word) → AreValues constants → Holds (λ r. r.0 < 2 ^ 32) (first_number constants ws)
-first_fine constants [] h = tt
-first_fine constants (w ∷ ws) h = then_holds (λ n. n < 2 ^ 32) (λ (r : ℕ × List Word). r.0 < 2 ^ 32) (number_of constants w) (λ k. Ok (k, ws)) (number_fine constants w h) (λ k fine. fine)
 
 shared_within : (k : ℕ) (xs : List Shared) (w : Word) → MatchOption (shared_from k xs w) (Unit {0}) (λ r. r.0 < k + length xs)
 shared_within k [] w = tt
@@ -197,16 +192,29 @@ module _ (s : Scope) (values : AreValues s.constants) where
         let high = ltb-false 8 r.0 parts.1 in
         after_holds Fine (codes ")") r.1 _ (λ more. (low, high)))))
 
+    negative_fine : (e : Expr) → IsExpr (length s.words) e → IsExpr (length s.words) (negative e)
+    negative_fine (Number n) h = mod-lt (0 + (2 ^ 32 - n)) (lit< tt)
+    negative_fine (Local r) h = (lit< tt, h)
+    negative_fine (Read w i) h = (lit< tt, h)
+    negative_fine (Swap answer w i old new) h = (lit< tt, h)
+    negative_fine (Fetch by w i e) h = (lit< tt, h)
+    negative_fine (Pick n) h = (lit< tt, h)
+    negative_fine (Binary by a b) h = (lit< tt, h)
+    negative_fine (Not a) h = (lit< tt, h)
+    negative_fine (And a b) h = (lit< tt, h)
+    negative_fine (Or a b) h = (lit< tt, h)
+
     -- an expression that calls nothing of a cell
     plain_fine : (w : Word) (ws : List Word) → Holds Fine (plain_with w inner ws)
     plain_fine w ws =
         if_holds Fine (is_word w (codes "!")) _ _ (then_holds Fine Fine (read 6 ws) _ (inner_fine 6 ws) (λ r h. h))
+        (if_holds Fine (is_word w (codes "-")) _ _ (then_holds Fine Fine (read 6 ws) _ (inner_fine 6 ws) (λ r h. negative_fine r.0 h))
         (if_holds Fine (is_word w (codes "(")) _ _ (closed_fine (codes ")") ws)
         (if_holds Fine (is_word w (codes "pick")) _ _ (pick_fine ws)
         (if_holds Fine (is_word w (codes "true")) (Ok (Number 1, ws)) _ (lit< tt)
         (if_holds Fine (is_word w (codes "false")) (Ok (Number 0, ws)) _ (lit< tt)
         (if_holds Fine (is_free_name w) _ _ (name_fine w ws)
-        (literal_fine w ws))))))
+        (literal_fine w ws)))))))
 
     unary_fine : (w : Word) (ws : List Word) → Holds Fine (unary_with w inner ws)
     unary_fine w ws =
@@ -244,3 +252,60 @@ module _ (s : Scope) (values : AreValues s.constants) where
       all_fine : (r : Expr × List Word) → Fine r → Holds (IsExpr (length s.words)) (all_read r)
       all_fine (e, []) h = h
       all_fine (e, w ∷ ws) h = tt
+
+-- ---- constant expressions
+
+bit_small : (b : Bool) → (if b then 1 else 0) < 2 ^ 32
+bit_small true = lit< tt
+bit_small false = lit< tt
+
+result_small : (by : Operator) (m n : ℕ) → result by m n < 2 ^ 32
+result_small Plus m n = mod-lt (m + n) (lit< tt)
+result_small Minus m n = mod-lt (m + (2 ^ 32 - n)) (lit< tt)
+result_small Times m n = mod-lt (m * n) (lit< tt)
+result_small Equals m n = bit_small (m == n)
+result_small Differs m n = bit_small ((if m == n then 1 else 0) == 0)
+result_small Below m n = bit_small (nat_lt m n)
+result_small Above m n = bit_small (nat_lt n m)
+result_small AtMost m n = bit_small ((if nat_lt n m then 1 else 0) == 0)
+result_small AtLeast m n = bit_small ((if nat_lt m n then 1 else 0) == 0)
+
+folded_small : (k : ℕ) (e : Expr) → IsExpr k e → MatchOption (folded e) (Unit {0}) (λ n. n < 2 ^ 32)
+folded_small k (Number n) h = h
+folded_small k (Local r) h = tt
+folded_small k (Read w i) h = tt
+folded_small k (Swap answer w i old new) h = tt
+folded_small k (Fetch by w i e) h = tt
+folded_small k (Pick n) h = tt
+folded_small k (Binary by a b) h = of_two (folded a) (folded b)
+  where
+    of_two : (x y : Option ℕ) → MatchOption (of_both by x y) (Unit {0}) (λ n. n < 2 ^ 32)
+    of_two None y = tt
+    of_two (Some m) None = tt
+    of_two (Some m) (Some n) = result_small by m n
+folded_small k (Not a) h = of_one (folded a)
+  where
+    of_one : (x : Option ℕ) → MatchOption (option_map opposite x) (Unit {0}) (λ n. n < 2 ^ 32)
+    of_one None = tt
+    of_one (Some n) = bit_small (n == 0)
+folded_small k (And a b) h = tt
+folded_small k (Or a b) h = tt
+
+number_holds_too : {A : Type 0} (P : A → Type 0) (r : Result A Kind) → Holds P r → Holds P (as_number r)
+number_holds_too P (Ok x) h = h
+number_holds_too P (Err Byte) h = tt
+number_holds_too P (Err Missing) h = tt
+number_holds_too P (Err Form) h = tt
+number_holds_too P (Err Number') h = tt
+number_holds_too P (Err Limit) h = tt
+number_holds_too P (Err Registers) h = tt
+number_holds_too P (Err Flow) h = tt
+number_holds_too P (Err Name) h = tt
+
+pub constant_small : (constants : List Constant) (ws : List Word) → AreValues constants → Holds (λ r. r.0 < 2 ^ 32) (first_constant constants ws)
+constant_small constants ws values =
+    let Fits : Expr × List Word → Type 0 = λ r. IsExpr 0 r.0 in
+    then_holds Fits (λ (r : ℕ × List Word). r.0 < 2 ^ 32) (alone constants ws) _
+    (number_holds_too Fits (expr_from (steps_for ws) (constants_alone constants) 1 ws) (expr_fine (constants_alone constants) values (steps_for ws) 1 ws)) (λ r h.
+    then_holds (λ n. n < 2 ^ 32) (λ (r : ℕ × List Word). r.0 < 2 ^ 32) (or_fault Number' (folded r.0)) _
+    (or_holds (λ n. n < 2 ^ 32) Number' (folded r.0) (folded_small 0 r.0 h)) (λ n small. small))

@@ -1,14 +1,17 @@
 -- Lines of a source: what they leave makes a component.
-use Rattle.std.proofs.Common.{◌≡◌, ℕ, zero, suc, ◌+◌, ◌<◌, ◌≤◌, nat_lt, Bool, true, false, not, ◌&&◌, ◌||◌, if◌then◌else◌, List, [], ◌∷◌, ◌++◌, length, Option, Some, None, MatchOption, refl, ap, ◌∙◌, lit<, arith, length-append}
+use Rattle.std.proofs.Common.{◌≡◌, ℕ, zero, suc, ◌+◌, ◌==◌, ◌<◌, ◌≤◌, nat_lt, Bool, true, false, not, ◌&&◌, ◌||◌, if◌then◌else◌, List, [], ◌∷◌, ◌++◌, length, Option, Some, None, MatchOption, refl, ap, ◌∙◌, lit<, arith, length-append}
 use Rattle.std.specs.Prelude.{Result, Ok, Err, codes, nat_le, take}
 use Rattle.std.specs.List.{AllByRecursion}
 use Rattle.std.specs.Str.{bytes_eq}
+use Rattle.std.proofs.lemmas.Bool.Decides.{nat_tests}
 use Rattle.std.proofs.lemmas.Bool.{leb-false, ltb-false, not-false, not_from_true, and_parts}
 use Rattle.std.proofs.lemmas.List.{length-take}
 use Rattle.lu_text.specs.Names.{IsName, has_name_form, is_long}
 use Rattle.lu_text.proofs.NameText.{name_from}
 use Rattle.lu_text.specs.Words.{Word, exactly_one}
 use Rattle.lu_component.specs.declared.instr.Operand.{Operand}
+use Rattle.lu_component.specs.declared.instr.Operand.TheVariants.{Reg, Num}
+use Rattle.lu_source.specs.declared.expr.Operator.{Operator}
 use Rattle.lu_component.specs.Component.{IsInstr, IsOperand}
 use Rattle.lu_source.specs.declared.expr.Operator.TheVariants.{Plus, Minus, Times, Equals, Differs, Below, Above, AtMost, AtLeast}
 use Rattle.lu_source.specs.declared.tree.Action.{Action}
@@ -16,7 +19,7 @@ use Rattle.lu_source.specs.declared.tree.Action.TheVariants as action
 use Rattle.lu_source.specs.Code.{falls, instr_of}
 use Rattle.lu_source.specs.Expressions.{Coded, Expr, as_test, coded, needed, past, put}
 use Rattle.lu_source.specs.Expressions.Expr.{Number, Local, Read, Swap, Fetch, Pick, Binary, Not, And, Or}
-use Rattle.lu_source_text.specs.Grammar.{Begun, Block, Drafted, Kind, Opening, added, added_to, assign, assigned_in, await_cell, await_tree, awaiting, after_word, both_of, call_in, call_tree, call_with, cell_in, closed_by, closing, code_for, compared, deeper, does_too, else_line, end_block, expr_before_brace, expr_from, first_value, expr_in, if_line, in_loop, inner_of, is_free_name, is_still, is_word, last_word, leave, let_line, local_in, lock_number, loop_line, name_of, new_name, nothing_left, on_first, on_ok, or_fault, other_by, other_side, owner_tree, plain, position_from, return_tree, scope_of, set_cell, set_local, simple, statement, steps_for, tested, where_some, while_line, with_blocks, is_keyword, is_taken}
+use Rattle.lu_source_text.specs.Grammar.{Begun, Block, Drafted, Kind, Opening, added, added_to, assert_tree, assign, assigned_in, await_cell, await_tree, awaiting, after_word, both_of, call_in, call_tree, call_with, cell_in, changed, changed_in, changing, closed_by, closing, code_for, compared, deeper, does_too, else_line, end_block, expr_at, expr_before_brace, expr_from, first_value, expr_in, if_line, in_loop, inner_of, is_free_name, is_still, is_word, last_word, leave, let_line, local_in, lock_number, loop_line, name_of, new_name, nothing_left, on_first, on_ok, or_fault, other_by, other_side, owner_tree, plain, position_from, return_tree, scope_of, set_cell, set_local, simple, statement, steps_for, tested, where_some, while_line, with_blocks, is_keyword, is_taken}
 use Rattle.lu_source_text.specs.declared.fault.SourceFaultKind.TheVariants.{Form, Limit, Registers, Flow, Name}
 use Rattle.lu_source_text.specs.Grammar.Opening.{Whole, Test, Other, Turns}
 use Rattle.lu_source.specs.Sound.{IsExpr, IsTree}
@@ -183,10 +186,28 @@ module _ (d : Drafted) (values : AreValues d.constants) where
   cell_holds : {A : Type 0} (P : A → Type 0) (b : Begun) (w : Word) (ws : List Word) (go : (ℕ × Expr) × List Word → Result A Kind) → ((r : (ℕ × Expr) × List Word) → r.0.0 < length d.words → IsExpr (length d.words) r.0.1 → Holds P (go r)) → Holds P (on_ok (cell_in w d b ws) go)
   cell_holds P b w ws go next = then_holds (λ (r : (ℕ × Expr) × List Word). (r.0.0 < length d.words) × IsExpr (length d.words) r.0.1) P (cell_in w d b ws) go (cell_fine (scope_of d b) values (expr_from (steps_for ws) (scope_of d b)) (expr_fine (scope_of d b) values (steps_for ws)) w ws) (λ r h. next r h.0 h.1)
 
-  cell_line_fine : (b : Begun) (w : Word) (ws : List Word) → Holds Sound (on_ok (cell_in w d b ws) (λ (cell, rest). on_ok (assigned_in d b rest) (set_cell b cell)))
+  -- an expression after `=`, `+=` or `-=`
+  changed_holds : {A : Type 0} (P : A → Type 0) (b : Begun) (ws : List Word) (go : Option Operator → Expr → Result A Kind) → ((by : Option Operator) (e : Expr) → IsExpr (length d.words) e → Holds P (go by e)) → Holds P (on_ok (changed_in d b ws) (λ (by, e). go by e))
+  changed_holds P b ws go next =
+      let Q : Option Operator × Expr → Type 0 = λ r. IsExpr (length d.words) r.1 in
+      then_holds Q P (changed_in d b ws) _
+      (first_holds Q ws _ (λ w rest. whatever Q (changing w) _ (λ by. expr_holds Q b rest _ (λ e fine. fine)))) (λ r fine. next r.0 r.1 fine)
+
+  changed_fine : (by : Option Operator) (old e : Expr) → IsExpr (length d.words) old → IsExpr (length d.words) e → IsExpr (length d.words) (changed by old e)
+  changed_fine None old e ho he = he
+  changed_fine (Some by) old e ho he = (ho, he)
+
+  at_fine : (at : Operand) → IsOperand at → IsExpr (length d.words) (expr_at at)
+  at_fine (Reg r) h = tt
+  at_fine (Num n) h = h
+
+  cell_line_fine : (b : Begun) (w : Word) (ws : List Word) → Holds Sound (on_ok (cell_in w d b ws) (λ (cell, rest). on_ok (changed_in d b rest) (λ (by, e). set_cell by b cell e)))
   cell_line_fine b w ws =
-      cell_holds Sound b w ws _ (λ r within fi. assigned_holds Sound b r.1 _ (λ e fe.
-      both_fine Sound b r.0.1 e _ fi fe (λ x y cx ax cy ay. (cx, (cy, (within, ax, ay))))))
+      cell_holds Sound b w ws _ (λ r within fi. changed_holds Sound b r.1 _ (λ by e fe.
+      code_fine Sound r.0.1 (length b.locals) (length b.locals) _ fi (omega arith) (λ x is_x cx ax.
+      code_fine Sound (changed by (Read r.0.0 (expr_at x.at)) e) (past (length b.locals) x.at) (past (length b.locals) x.at) _
+      (changed_fine by (Read r.0.0 (expr_at x.at)) e (within, at_fine x.at ax) fe) (omega arith) (λ y is_y cy ay.
+      (cx, (cy, (within, ax, ay)))))))
 
   compared_fine : (b : Begun) (ws : List Word) → Holds (λ (r : Bool × Expr). IsExpr (length d.words) r.1) (compared d b ws)
   compared_fine b ws =
@@ -226,6 +247,13 @@ module _ (d : Drafted) (values : AreValues d.constants) where
   test_fine (Not x) h = h
   test_fine (And x y) h = h
   test_fine (Or x y) h = h
+
+  assert_fine : (b : Begun) (ws : List Word) → Holds Sound (assert_tree d b ws)
+  assert_fine b ws =
+      unless_holds Sound (length d.words == 0) Form _ (λ some.
+      let there : 0 < length d.words = grind (arith, nat_tests) in
+      expr_holds Sound b ws _ (λ e fe. code_fine Sound (as_test e) (length b.locals) (length b.locals) _ (test_fine e fe) (omega arith) (λ x is_x cx ax.
+      (cx, (ax, tt, (lit< tt, there, lit< tt))))))
 
   -- what follows on a state that goes on
   fits_on : (a b c : Begun) → Fits a b → Fits b c → Fits a c
@@ -341,11 +369,11 @@ module _ (d : Drafted) (values : AreValues d.constants) where
   assign_fine : (b : Begun) (w : Word) (ws : List Word) → length b.locals ≤ 8 → Holds Sound (assign w d b ws)
   assign_fine b w ws few = by_place (local_in b.locals w) refl
     where
-      by_place : (o : Option ℕ) → local_in b.locals w ≡ o → Holds Sound (where_some o (on_ok (cell_in w d b ws) (λ (cell, rest). on_ok (assigned_in d b rest) (set_cell b cell))) (λ r. on_ok (assigned_in d b ws) (set_local r b)))
+      by_place : (o : Option ℕ) → local_in b.locals w ≡ o → Holds Sound (where_some o (on_ok (cell_in w d b ws) (λ (cell, rest). on_ok (changed_in d b rest) (λ (by, e). set_cell by b cell e))) (λ r. on_ok (changed_in d b ws) (λ (by, e). set_local r b (changed by (Local r) e))))
       by_place None at = cell_line_fine b w ws
       by_place (Some r) at =
           let within : r < length b.locals = (let l = place_within 0 b.locals w r at in omega arith) in
-          assigned_holds Sound b ws _ (λ e fine. local_fine Sound b r e (omega arith) (omega arith) fine (λ t sound. sound))
+          changed_holds Sound b ws _ (λ by e fine. local_fine Sound b r (changed by (Local r) e) (omega arith) (omega arith) (changed_fine by (Local r) e tt fine) (λ t sound. sound))
 
   plain_line_fine : (b : Begun) (w : Word) (ws : List Word) → length b.locals ≤ 8 → Holds Sound (plain w d b ws)
   plain_line_fine b w ws few =
@@ -355,8 +383,9 @@ module _ (d : Drafted) (values : AreValues d.constants) where
       (if_holds Sound (is_word w (codes "lock")) _ _ (owner_fine action.Lock ws (λ l h. h))
       (if_holds Sound (is_word w (codes "unlock")) _ _ (owner_fine action.Unlock ws (λ l h. h))
       (if_holds Sound (is_word w (codes "await")) _ _ (await_fine b ws)
+      (if_holds Sound (is_word w (codes "assert")) _ _ (assert_fine b ws)
       (if_holds Sound (not (is_free_name w)) (Err Form) _ tt
-      (assign_fine b w ws few)))))))
+      (assign_fine b w ws few))))))))
 
   simple_fine : (b : Begun) (w : Word) (ws : List Word) → length b.locals ≤ 8 → Holds Sound (simple w d b ws)
   simple_fine b w ws few =

@@ -5,11 +5,11 @@ use Rattle.std.specs.Option.{unwrap_or, option_map}
 use Rattle.std.specs.Str.{bytes_eq}
 use Rattle.lu_text.specs.Names.{has_name_form, is_long, is_name_part}
 use Rattle.lu_text.specs.Numbers.{value_in}
-use Rattle.lu_text.specs.Lines.{before_comment, is_allowed, is_blank}
+use Rattle.lu_text.specs.Lines.{is_allowed, is_blank}
 use Rattle.lu_text.specs.Words.{Word, exactly_one}
 use Rattle.lu_text.specs.Faults.{Grammar}
 use Rattle.lu_component.specs.declared.instr.Operand.{Operand}
-use Rattle.lu_component.specs.declared.instr.Operand.TheVariants.{Num}
+use Rattle.lu_component.specs.declared.instr.Operand.TheVariants.{Reg, Num}
 pub use Rattle.lu_source_text.specs.Constants.{Constant, constant_from}
 use Rattle.lu_source_text.specs.declared.draft.Shared.{Shared}
 pub use Rattle.lu_source_text.specs.declared.fault.SourceFaultKind.{SourceFaultKind as Kind}
@@ -21,12 +21,13 @@ use Rattle.lu_source_text.specs.declared.infix.Infix.TheVariants.{Or as Or', And
 use Rattle.lu_source.specs.declared.tree.Action.{Action}
 use Rattle.lu_source.specs.declared.tree.Action.TheVariants as action
 use Rattle.lu_source.specs.Code.{falls, operation_code}
-use Rattle.lu_source.specs.Expressions.{Coded, Expr, as_test, coded, needed, past, put_at}
+use Rattle.lu_source.specs.Expressions.{Coded, Expr, as_test, coded, needed, opposite, past, put_at, result}
 use Rattle.lu_source.specs.Expressions.Expr.{Number, Local, Read, Swap, Fetch, Pick, Binary, Not, And, Or}
 use Rattle.lu_source.specs.declared.updating.Answer.{Answer}
 use Rattle.lu_source.specs.declared.updating.Answer.TheVariants.{Success, Before}
 use Rattle.lu_source.specs.declared.updating.Update.{Update}
 use Rattle.lu_source.specs.declared.updating.Update.TheVariants as update
+use Rattle.lu_source.specs.declared.expr.Operator.{Operator}
 use Rattle.lu_source.specs.declared.expr.Operator.TheVariants.{Plus, Minus, Times, Equals, Differs, Below, Above, AtMost, AtLeast}
 use Rattle.lu_source.specs.Trees.{Operation, Program, Tree}
 use Rattle.lu_source.specs.Trees.Tree.{Nothing, Plain, Then, If, IfElse, Loop, Break, BreakUnless, Continue}
@@ -49,10 +50,10 @@ unless wrong kind rest = if wrong then Err kind else rest
 
 -- ---- words
 
--- two bytes that are one word: `==`, `!=`, `<=`, `>=`, `&&` and `||`
+-- two bytes that are one word: `==`, `!=`, `<=`, `>=`, `+=`, `-=`, `&&` and `||`
 abbrev pub is_pair : ℕ → ℕ → Bool
 is_pair a b =
-    b == 61 && (a == 61 || (a == 33 || (a == 60 || a == 62)))
+    b == 61 && (a == 61 || (a == 33 || (a == 60 || (a == 62 || (a == 43 || a == 45)))))
     || (a == 38 && b == 38 || a == 124 && b == 124)
 
 -- how many letters, digits and `_` stand first
@@ -65,24 +66,40 @@ item_len [] = 0
 item_len (b ∷ bs) =
     if is_name_part b then 1 + name_len bs else (if is_pair b (slice_index bs 0) then 2 else 1)
 
+-- whether no word is left: there are no bytes, or a comment begins, with `#` or `//`
+abbrev pub is_at_end : List ℕ → Bool
+is_at_end [] = true
+is_at_end (b ∷ bs) = b == 35 || b == 47 && slice_index bs 0 == 47
+
 -- the words of the bytes, at most n of them and of blanks
 abbrev pub words_by : ℕ → List ℕ → List Word
 words_by zero bytes = []
 words_by (suc n) [] = []
 words_by (suc n) (b ∷ bs) =
-    (if is_blank b then [] else take (item_len (b ∷ bs)) (b ∷ bs) ∷ [])
+    if is_at_end (b ∷ bs) then []
+    else (if is_blank b then [] else take (item_len (b ∷ bs)) (b ∷ bs) ∷ [])
     ++ words_by n (drop (item_len (b ∷ bs)) (b ∷ bs))
-
--- the words of bytes
-abbrev pub words_in : List ℕ → List Word
-words_in bytes = words_by (length bytes) bytes
 
 -- the words of a line, up to a comment
 abbrev pub source_words : List ℕ → List Word
-source_words line = words_in (before_comment line)
+source_words line = words_by (length line) line
 
 abbrev pub is_word : List ℕ → Word → Bool
 is_word a b = bytes_eq a b
+
+-- The statements that words make, after these words of the first one: `;` ends a statement, `{` is
+-- the last word of one, and `}` the first.
+abbrev pub statements_from : List Word → List Word → List (List Word)
+statements_from front [] = front ∷ []
+statements_from front (w ∷ ws) =
+    if is_word w (codes ";") then front ∷ statements_from [] ws
+    else (if is_word w (codes "{") then (front ++ w ∷ []) ∷ statements_from [] ws
+    else (if is_word w (codes "}") then front ∷ statements_from (w ∷ []) ws
+    else statements_from (front ++ w ∷ []) ws))
+
+-- the statements that words make; some may have no words
+abbrev pub statements : List Word → List (List Word)
+statements words = statements_from [] words
 
 -- keywords: of declarations, of statements, and of expressions
 abbrev pub declaring : List Word
@@ -93,7 +110,7 @@ declaring =
 abbrev pub stating : List Word
 stating =
     codes "unlock" ∷ codes "let" ∷ codes "if" ∷ codes "else" ∷ codes "while" ∷ codes "loop"
-    ∷ codes "break" ∷ codes "continue" ∷ codes "return" ∷ codes "await" ∷ []
+    ∷ codes "break" ∷ codes "continue" ∷ codes "return" ∷ codes "await" ∷ codes "assert" ∷ []
 
 abbrev pub valued : List Word
 valued = codes "cas" ∷ codes "pick" ∷ codes "true" ∷ codes "false" ∷ []
@@ -125,7 +142,7 @@ pub record Block : Type 0 where
   pub locals : ℕ
   pub chained : Bool
 
--- An open operation: how many lines it has so far, its locals by their registers, and its open
+-- An open operation: how many statements it has so far, its locals by their registers, and its open
 -- blocks, the innermost first.
 pub record Begun : Type 0 where
   pub name : Word
@@ -345,17 +362,23 @@ pick_from constants ws =
     unless (nat_lt k 1 || nat_lt 8 k) Limit
     (on_ok (after_word (codes ")") rest) (λ more. Ok (Pick k, more)))))
 
+-- 0 minus an expression
+abbrev pub negative : Expr → Expr
+negative (Number n) = Number (result Minus 0 n)
+negative e = Binary Minus (Number 0) e
+
 -- an expression without operators between two values in it, but for those in parentheses, where it
 -- calls nothing of a cell
 abbrev pub plain_with : Word → Inner → List Word → Read' Expr
 plain_with w inner ws =
     if is_word w (codes "!") then on_ok (inner.read 6 ws) (λ (e, rest). Ok (Not e, rest))
+    else (if is_word w (codes "-") then on_ok (inner.read 6 ws) (λ (e, rest). Ok (negative e, rest))
     else (if is_word w (codes "(") then closed_with (codes ")") inner ws
     else (if is_word w (codes "pick") then pick_from inner.scope.constants ws
     else (if is_word w (codes "true") then Ok (Number 1, ws)
     else (if is_word w (codes "false") then Ok (Number 0, ws)
     else (if is_free_name w then name_with w inner ws
-    else on_ok (or_fault Number' (value_in w)) (λ k. Ok (Number k, ws)))))))
+    else on_ok (or_fault Number' (value_in w)) (λ k. Ok (Number k, ws))))))))
 
 -- the same, or a call
 abbrev pub unary_with : Word → Inner → List Word → Read' Expr
@@ -408,9 +431,43 @@ inner_of s ws = inner_by (steps_for ws) s
 abbrev pub last_word : List ℕ → List Word → Result (Unit {0}) Kind
 last_word text ws = on_ok (after_word text ws) nothing_left
 
--- a number, after which no word is left
+-- ---- constant expressions
+
+-- what the operator gives of two values, where both are known
+abbrev pub of_both : Operator → Option ℕ → Option ℕ → Option ℕ
+of_both by None right = None
+of_both by (Some m) right = option_map (result by m) right
+
+-- the value of an expression that is made of numbers alone, by operators and `!`
+abbrev pub folded : Expr → Option ℕ
+folded (Number n) = Some n
+folded (Binary by a b) = of_both by (folded a) (folded b)
+folded (Not a) = option_map opposite (folded a)
+folded _ = None
+
+-- a name that is no constant is no number
+abbrev pub as_number : {A : Type 0} → Result A Kind → Result A Kind
+as_number (Ok x) = Ok x
+as_number (Err Name) = Err Number'
+as_number (Err kind) = Err kind
+
+-- what names mean where only constants do
+abbrev pub constants_alone : List Constant → Scope
+constants_alone constants = record { constants = constants; words = []; locals = [] }
+
+-- an expression in which only constants have names, and the words after it
+abbrev pub alone : List Constant → List Word → Read' Expr
+alone constants ws = as_number (expr_from (steps_for ws) (constants_alone constants) 1 ws)
+
+-- a constant expression, and the words after it
+abbrev pub first_constant : List Constant → List Word → Read' ℕ
+first_constant constants ws =
+    on_ok (alone constants ws) (λ (e, rest).
+    on_ok (or_fault Number' (folded e)) (λ n. Ok (n, rest)))
+
+-- a constant expression, after which no word is left
 abbrev pub last_number : List Constant → List Word → Result ℕ Kind
-last_number constants ws = on_ok (first_number constants ws) all_read
+last_number constants ws = on_ok (first_constant constants ws) all_read
 
 -- the name that a word is
 abbrev pub name_of : Word → Result Word Kind
@@ -435,7 +492,7 @@ local_line d ws =
     unless (is_some d.local || nat_lt 0 (length d.operations)) Form
     (unless (nat_lt 16 most) Limit (Ok (record d { local = Some most }))))
 
--- `const NAME = N`
+-- `const NAME = EXPR`, with a constant expression
 abbrev pub const_line : Drafted → List Word → Result Drafted Kind
 const_line d ws =
     on_first ws (λ w rest. on_ok (new_name d [] w) (λ name.
@@ -446,7 +503,7 @@ const_line d ws =
 abbrev pub len_in : Drafted → List Word → Read' (ℕ × Bool)
 len_in d [] = Ok ((1, false), [])
 len_in d (w ∷ ws) =
-    if is_word w (codes "[") then on_ok (first_number d.constants ws) (λ (n, rest).
+    if is_word w (codes "[") then on_ok (first_constant d.constants ws) (λ (n, rest).
     on_ok (after_word (codes "]") rest) (λ more. Ok ((n, true), more)))
     else Ok ((1, false), w ∷ ws)
 
@@ -559,12 +616,14 @@ code_for e to free = unless (nat_lt 8 (needed e to free)) Registers (Ok (coded e
 abbrev pub value_of : Begun → Expr → Result Coded Kind
 value_of b e = code_for e (length b.locals) (length b.locals)
 
+-- the same after the locals and a value
+abbrev pub value_after : Begun → Operand → Expr → Result Coded Kind
+value_after b at e = code_for e (past (length b.locals) at) (past (length b.locals) at)
+
 -- the code of an index, and of a value after it
 abbrev pub both_of : Begun → Expr → Expr → Result (Coded × Coded) Kind
 both_of b i e =
-    on_ok (value_of b i) (λ x.
-    on_ok (code_for e (past (length b.locals) x.at) (past (length b.locals) x.at)) (λ y.
-    Ok (x, y)))
+    on_ok (value_of b i) (λ x. on_ok (value_after b x.at e) (λ y. Ok (x, y)))
 
 -- what names mean in an open operation
 abbrev pub scope_of : Drafted → Begun → Scope
@@ -588,6 +647,19 @@ cell_in w d b ws = cell_with w (inner_of (scope_of d b) ws) ws
 abbrev pub assigned_in : Drafted → Begun → List Word → Result Expr Kind
 assigned_in d b ws = on_ok (after_word (codes "=") ws) (expr_in d b)
 
+-- the operator by which a word changes a value, besides `=`; none where it is `=`
+abbrev pub changing : Word → Result (Option Operator) Kind
+changing w =
+    if is_word w (codes "=") then Ok None
+    else (if is_word w (codes "+=") then Ok (Some Plus)
+    else (if is_word w (codes "-=") then Ok (Some Minus)
+    else Err Form))
+
+-- `= EXPR`, `+= EXPR` or `-= EXPR`, which all the words are
+abbrev pub changed_in : Drafted → Begun → List Word → Result (Option Operator × Expr) Kind
+changed_in d b ws =
+    on_first ws (λ w rest. on_ok (changing w) (λ by. on_ok (expr_in d b rest) (λ e. Ok (by, e))))
+
 -- the local becomes the value of the expression
 abbrev pub set_local : ℕ → Begun → Expr → Result Tree Kind
 set_local r b e = on_ok (code_for e r (length b.locals)) (λ x. Ok (put_at r x))
@@ -609,11 +681,23 @@ let_line d b ws =
 abbrev pub both_then : Tree → Tree → Action → Tree
 both_then first second last = Then first (Then second (Plain last))
 
--- the cell becomes the value of the expression
-abbrev pub set_cell : Begun → ℕ × Expr → Expr → Result Tree Kind
-set_cell b cell e =
-    on_ok (both_of b cell.1 e) (λ (x, y).
-    Ok (both_then x.code y.code (action.Store cell.0 x.at y.at)))
+-- what a value becomes by an expression: that, or what the operator makes of it and that
+abbrev pub changed : Option Operator → Expr → Expr → Expr
+changed None old e = e
+changed (Some by) old e = Binary by old e
+
+-- the expression that stands for a value
+abbrev pub expr_at : Operand → Expr
+expr_at (Reg r) = Local r
+expr_at (Num n) = Number n
+
+-- The cell becomes the value of the expression, or what the operator makes of its value and that,
+-- by a load and a store. Its index is evaluated once.
+abbrev pub set_cell : Option Operator → Begun → ℕ × Expr → Expr → Result Tree Kind
+set_cell by b cell e =
+    on_ok (value_of b cell.1) (λ x.
+    on_ok (value_after b x.at (changed by (Read cell.0 (expr_at x.at)) e)) (λ y.
+    Ok (both_then x.code y.code (action.Store cell.0 x.at y.at))))
 
 -- neither reads what is shared nor changes it
 abbrev pub is_still : Expr → Bool
@@ -687,12 +771,25 @@ call_tree by d b ws =
     on_ok (call_with by (inner_of (scope_of d b) ws) ws) (λ (e, rest).
     on_ok (nothing_left rest) (λ _. on_ok (value_of b e) (λ x. Ok x.code)))
 
--- `NAME = EXPR` and `NAME[EXPR] = EXPR`
+-- `NAME = EXPR` and `NAME[EXPR] = EXPR`, and the same with `+=` and `-=`
 abbrev pub assign : Word → Drafted → Begun → List Word → Result Tree Kind
 assign w d b ws =
     where_some (local_in b.locals w)
-    (on_ok (cell_in w d b ws) (λ (cell, rest). on_ok (assigned_in d b rest) (set_cell b cell)))
-    (λ r. on_ok (assigned_in d b ws) (set_local r b))
+    (on_ok (cell_in w d b ws) (λ (cell, rest).
+    on_ok (changed_in d b rest) (λ (by, e). set_cell by b cell e)))
+    (λ r. on_ok (changed_in d b ws) (λ (by, e). set_local r b (changed by (Local r) e)))
+
+-- a load of a cell that no array has, by which an operation traps
+abbrev pub trapping : Action
+trapping = action.Load 0 0 (Num 64)
+
+-- The operation traps where the expression is 0, by a load of the first shared word, which a source
+-- has to have.
+abbrev pub assert_tree : Drafted → Begun → List Word → Result Tree Kind
+assert_tree d b ws =
+    unless (length d.words == 0) Form
+    (on_ok (expr_in d b ws) (λ e. on_ok (value_of b (as_test e)) (λ x.
+    Ok (Then x.code (IfElse x.at Nothing (Plain trapping))))))
 
 -- what is tested by an expression of which only counts whether it is 0
 abbrev pub tested : Begun → Expr → Result (Begun × Operand) Kind
@@ -818,8 +915,9 @@ plain w d b ws =
     else (if is_word w (codes "lock") then owner_tree d action.Lock ws
     else (if is_word w (codes "unlock") then owner_tree d action.Unlock ws
     else (if is_word w (codes "await") then await_tree d b ws
+    else (if is_word w (codes "assert") then assert_tree d b ws
     else (if not (is_free_name w) then Err Form
-    else assign w d b ws))))))
+    else assign w d b ws)))))))
 
 -- the same, or a call
 abbrev pub simple : Word → Drafted → Begun → List Word → Result Tree Kind
@@ -834,7 +932,7 @@ statement w d b ws =
     else (if is_word w (codes "loop") then loop_line b ws
     else on_ok (simple w d b ws) (added b))))
 
--- a line of an operation, which has at most 256 of them
+-- a statement of an operation, which has at most 256 of them, each `}` counted
 abbrev pub inside : Word → Drafted → Begun → List Word → Result Drafted Kind
 inside w d b ws = unless (nat_le 256 b.lines) Limit (counted (record b { lines = b.lines + 1 }))
   where
@@ -862,12 +960,13 @@ abbrev pub by_words : Drafted → List Word → Result Drafted Kind
 by_words d [] = Ok d
 by_words d (w ∷ ws) = worded_line d w ws
 
--- Whether a word makes an expression of others, or lets one stand in another: an operator, `(` or
--- `[`.
+-- Whether a word makes an expression of others, or lets one stand in another: an operator, also
+-- that of `+=` and `-=`, `(` or `[`.
 abbrev pub is_nesting : Word → Bool
 is_nesting w =
     is_some (infix_in w)
-    || (is_word w (codes "!") || (is_word w (codes "(") || is_word w (codes "[")))
+    || (is_word w (codes "!") || (is_word w (codes "(") || (is_word w (codes "[")
+    || (is_word w (codes "+=") || is_word w (codes "-=")))))
 
 -- how many of the words do
 abbrev pub nesting : List Word → ℕ
@@ -877,11 +976,17 @@ nesting ws = length (filter is_nesting ws)
 abbrev pub is_too_long : List Word → Bool
 is_too_long ws = nat_lt 256 (length ws) || nat_lt 64 (nesting ws)
 
+-- one statement after the other
+abbrev pub by_statements : Drafted → List (List Word) → Result Drafted Kind
+by_statements d [] = Ok d
+by_statements d (words ∷ others) = on_ok (by_words d words) (λ next. by_statements next others)
+
 -- a line of bytes that are allowed, with at most 256 words and 64 operators, `(` and `[`
 unfoldable pub line_of : Drafted → List ℕ → Result Drafted Kind
 line_of d line =
     unless (not (list_all is_allowed line)) Byte
-    (unless (is_too_long (source_words line)) Limit (by_words d (source_words line)))
+    (unless (is_too_long (source_words line)) Limit
+    (by_statements d (statements (source_words line))))
 
 abbrev pub program_of : Drafted → Option Word → Option Begun → Result Program Kind
 program_of d None begun = Err Missing

@@ -4,6 +4,7 @@ pub mod Grammar
 pub mod Begins
 pub mod Drafts
 pub mod Reads
+pub mod Statements
 pub mod Cells
 pub mod Readers
 pub mod Origins

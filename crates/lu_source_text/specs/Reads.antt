@@ -7,6 +7,7 @@ use Rattle.lu_component.specs.declared.instr.Operand.{Operand}
 use Rattle.lu_source.specs.declared.expr.Expr.{Expr as Boxed}
 use Rattle.lu_source.specs.Evaluations.{coded_of, expr_of}
 use Rattle.lu_source.specs.declared.expr.Evaluation.{Evaluation}
+use Rattle.lu_source.specs.declared.expr.Operator.{Operator}
 use Rattle.lu_source.specs.declared.tree.Stmt.{Stmt}
 use Rattle.lu_source.specs.Expressions.{Coded, Expr}
 use Rattle.lu_source.specs.Shapes.{tree_of}
@@ -115,6 +116,11 @@ ReadsCell returned meant = Reads (with_rest cell_of) returned meant
 -- whether to be equal, and what to
 abbrev pub ReadsCompared : Result (Bool × Boxed) Refusal → Result (Bool × Expr) Kind → Type 0
 ReadsCompared returned meant = Reads (λ (equal, e). (equal, expr_of e)) returned meant
+
+-- the operator that changes a value, where there is one, and by what
+abbrev pub ReadsChanged : Result (Option Operator × Boxed) Refusal
+    → Result (Option Operator × Expr) Kind → Type 0
+ReadsChanged returned meant = Reads (λ (by, e). (by, expr_of e)) returned meant
 
 -- an expression that all the words are
 abbrev pub ReadsWhole : Result Boxed Refusal → Result Expr Kind → Type 0

@@ -10,8 +10,9 @@ ghost use Rattle.lu_source_text.specs.Reads.{DraftIs, ReadsAlone, ReadsBegun, Re
 
 use crate::constants::Constants;
 use crate::draft::{Begun, Block, Draft, Opening, Shared};
-use crate::expression::{after_word, first_number, first_word, last_word, nothing_left};
+use crate::expression::{after_word, first_word, last_word, nothing_left};
 use crate::fault::{Refusal, SourceFaultKind};
+use crate::folding::first_constant;
 use crate::names::{is_free_name, position_from, shared_from};
 use lu_component::{
     Array, MOST_ARGUMENTS, MOST_ARRAYS, MOST_CELLS, MOST_LOCAL, MOST_LOCKS, MOST_OPS,
@@ -68,20 +69,20 @@ pub(crate) fn object_line(alloc: Global, draft: &mut Draft, words: &[&[u8]]) -> 
     Ok(())
 }
 
-/// A number, after which no word is left.
-fn last_number(constants: &Constants, words: &[&[u8]]) -> Result<u32, Refusal>
+/// A constant expression, after which no word is left.
+fn last_number(alloc: Global, constants: &Constants, words: &[&[u8]]) -> Result<u32, Refusal>
     ensures { ReadsAlone result (spec.last_number constants.now (texts words.now)) }
 {
-    let (number, rest) = first_number(constants, words)?;
+    let (number, rest) = first_constant(alloc, constants, words)?;
     nothing_left(rest)?;
     Ok(number)
 }
 
 /// `local L`
-fn local_line(draft: &mut Draft, words: &[&[u8]]) -> Result<(), Refusal>
+fn local_line(alloc: Global, draft: &mut Draft, words: &[&[u8]]) -> Result<(), Refusal>
     ensures { DraftIs result draft.new (in_draft spec.local_line draft.old words.now) }
 {
-    let most = last_number(&draft.constants, words)?;
+    let most = last_number(alloc, &draft.constants, words)?;
     if draft.local.is_some() || !draft.operations.is_empty() {
         return Err(Refusal::Kind(SourceFaultKind::Form));
     }
@@ -92,20 +93,24 @@ fn local_line(draft: &mut Draft, words: &[&[u8]]) -> Result<(), Refusal>
     Ok(())
 }
 
-/// `const NAME = N`
+/// `const NAME = EXPR`, with a constant expression
 fn const_line(alloc: Global, draft: &mut Draft, words: &[&[u8]]) -> Result<(), Refusal>
     ensures { DraftIs result draft.new (in_draft spec.const_line draft.old words.now) }
 {
     let (word, rest) = first_word(words)?;
     let name = new_name(alloc, draft, &[], word)?;
     let more = after_word(b"=".as_slice(), rest)?;
-    let value = last_number(&draft.constants, more)?;
+    let value = last_number(alloc, &draft.constants, more)?;
     draft.constants.declare(alloc, &name, value)?;
     Ok(())
 }
 
 /// `[LEN]` or nothing: the length, whether it is written, and the words after it.
-fn len_in<'a>(draft: &Draft, words: &'a [&'a [u8]]) -> Result<(u32, bool, &'a [&'a [u8]]), Refusal>
+fn len_in<'a>(
+    alloc: Global,
+    draft: &Draft,
+    words: &'a [&'a [u8]],
+) -> Result<(u32, bool, &'a [&'a [u8]]), Refusal>
     ensures { ReadsSize result (spec.len_in (drafted_of draft.now) (texts words.now)) }
 {
     let Some((word, rest)) = words.split_first() else {
@@ -114,20 +119,20 @@ fn len_in<'a>(draft: &Draft, words: &'a [&'a [u8]]) -> Result<(u32, bool, &'a [&
     if *word != b"[".as_slice() {
         return Ok((1, false, words));
     }
-    let (len, more) = first_number(&draft.constants, rest)?;
+    let (len, more) = first_constant(alloc, &draft.constants, rest)?;
     let end = after_word(b"]".as_slice(), more)?;
     Ok((len, true, end))
 }
 
 /// `= INIT` or nothing.
-fn init_in(draft: &Draft, words: &[&[u8]]) -> Result<u32, Refusal>
+fn init_in(alloc: Global, draft: &Draft, words: &[&[u8]]) -> Result<u32, Refusal>
     ensures { ReadsAlone result (spec.init_in (drafted_of draft.now) (texts words.now)) }
 {
     if words.is_empty() {
         return Ok(0);
     }
     let rest = after_word(b"=".as_slice(), words)?;
-    last_number(&draft.constants, rest)
+    last_number(alloc, &draft.constants, rest)
 }
 
 /// `word NAME`, `word NAME = INIT`, `word NAME[LEN]` or `word NAME[LEN] = INIT`
@@ -136,8 +141,8 @@ fn word_line(alloc: Global, draft: &mut Draft, words: &[&[u8]]) -> Result<(), Re
 {
     let (word, rest) = first_word(words)?;
     let name = new_name(alloc, draft, &[], word)?;
-    let (len, indexed, more) = len_in(draft, rest)?;
-    let init = init_in(draft, more)?;
+    let (len, indexed, more) = len_in(alloc, draft, rest)?;
+    let init = init_in(alloc, draft, more)?;
     if draft.words.len() >= MOST_ARRAYS || len < 1 || len > MOST_CELLS {
         return Err(Refusal::Kind(SourceFaultKind::Limit));
     }
@@ -278,7 +283,7 @@ pub(crate) fn declaration(
     ensures { DraftIs result draft.new (in_line spec.declaration draft.old word.now words.now) }
 {
     if word == b"local".as_slice() {
-        local_line(draft, words)
+        local_line(alloc, draft, words)
     } else if word == b"const".as_slice() {
         const_line(alloc, draft, words)
     } else if word == b"word".as_slice() {

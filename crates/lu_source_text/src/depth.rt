@@ -9,7 +9,7 @@ use crate::infix::infix_in;
 /// The most operators, `(` and `[` that a line has.
 pub const MOST_NESTING: usize = 64;
 
-/// Whether the word is an operator, `(` or `[`.
+/// Whether the word is an operator, also that of `+=` and `-=`, `(` or `[`.
 fn is_nesting(word: &[u8]) -> bool
     ensures { result ≡ spec.is_nesting word.now }
 {
@@ -17,6 +17,8 @@ fn is_nesting(word: &[u8]) -> bool
         || word == b"!".as_slice()
         || word == b"(".as_slice()
         || word == b"[".as_slice()
+        || word == b"+=".as_slice()
+        || word == b"-=".as_slice()
 }
 
 /// How many of the words are operators, `(` or `[`: in a line, expressions stand in each other no

@@ -15,7 +15,7 @@ use crate::infix::{Infix, binding, infix_in, most_after};
 use crate::names::{is_free_name, position_from, shared_from};
 use crate::scope::{Cell, Scope};
 use crate::updates::{CellCall, call_in};
-use lu_source::{Answer, Expr, Update};
+use lu_source::{Answer, Expr, Operator, Update};
 use lu_text::{Name, value_in};
 use std::alloc::{AllocError, Global};
 
@@ -232,6 +232,20 @@ pub(crate) fn call_with<'a>(
     }
 }
 
+/// 0 minus an expression.
+fn negative(alloc: Global, expr: Expr) -> Result<Expr, AllocError>
+    ensures { IfOk result (λ e. expr_of e ≡ spec.negative (expr_of expr)) }
+{
+    match expr {
+        Expr::Number(number) => Ok(Expr::Number(0_u32.wrapping_sub(number))),
+        other => {
+            let zero = Box::new(alloc, Expr::Number(0))?;
+            let other = Box::new(alloc, other)?;
+            Ok(Expr::Binary(Operator::Minus, zero, other))
+        }
+    }
+}
+
 /// An expression without operators between two values in it, but for those in parentheses, where it
 /// calls nothing of a cell.
 #[cycle(expression)]
@@ -247,6 +261,9 @@ fn plain_with<'a>(
     if word == b"!".as_slice() {
         let (expr, rest) = expr_from(alloc, steps, scope, 6, words)?;
         Ok((Expr::Not(Box::new(alloc, expr)?), rest))
+    } else if word == b"-".as_slice() {
+        let (expr, rest) = expr_from(alloc, steps, scope, 6, words)?;
+        Ok((negative(alloc, expr)?, rest))
     } else if word == b"(".as_slice() {
         closed_with(alloc, steps, scope, b")".as_slice(), words)
     } else if word == b"pick".as_slice() {

@@ -25,11 +25,12 @@ pub enum SourceFaultKind {
     Form,
 
     /// `O4`: a word where a number is wanted that is neither a number up to 4294967295 nor a
-    /// constant.
+    /// constant, or an expression there that is not constant.
     Number,
 
     /// `O5`: a limit is passed: of a number, of a name's length, of a line's words, of its operators,
-    /// `(` and `[`, or by one array, lock, operation, argument, line, block or instruction too many.
+    /// `(` and `[`, or by one array, lock, operation, argument, statement, block or instruction too
+    /// many.
     Limit,
 
     /// `O8`: more than 8 registers.

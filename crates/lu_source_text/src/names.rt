@@ -78,6 +78,7 @@ fn states(word: &[u8]) -> bool
         || word == b"continue".as_slice()
         || word == b"return".as_slice()
         || word == b"await".as_slice()
+        || word == b"assert".as_slice()
 }
 
 /// Whether the word is a keyword of expressions.

@@ -8,7 +8,8 @@ ghost use Rattle.lu_source_text.specs.Drafts.{drafted_of};
 ghost use Rattle.lu_source_text.specs.Grammar as spec;
 ghost use Rattle.lu_source_text.specs.Grammar.{source_grammar};
 ghost use Rattle.lu_source_text.specs.Readers.{GivesDraft, GivesSource, IsCompiledFrom, component_meant};
-ghost use Rattle.lu_source_text.specs.Reads.{DraftIs, DraftTakes, in_line};
+ghost use Rattle.lu_source_text.specs.Reads.{DraftIs, DraftTakes, in_draft, in_line};
+ghost use Rattle.lu_source_text.specs.Statements.{lists};
 
 use crate::closing::close_line;
 use crate::constants::Constants;
@@ -18,14 +19,14 @@ use crate::draft::{Begun, Draft};
 use crate::fault::{Refusal, SourceFault, SourceFaultKind};
 use crate::source::Source;
 use crate::statement::statement;
-use crate::words::source_words;
+use crate::words::{source_words, statements_of};
 use lu_component::{Array, Component};
 use lu_source::compile;
 use lu_text::{Fault, are_allowed, lines_of};
 use std::alloc::{AllocError, Global};
 
-/// The most lines that an operation has.
-const MOST_LINES: u16 = 256;
+/// The most statements that an operation has, each `}` counted.
+const MOST_STATEMENTS: u16 = 256;
 
 /// The most words that a line has.
 const MOST_WORDS: usize = 256;
@@ -45,7 +46,7 @@ pub(crate) fn new_draft(alloc: Global) -> Draft
     }
 }
 
-/// A line of an operation, which has at most 256 of them.
+/// A statement of an operation, which has at most 256 of them, each `}` counted.
 fn inside(
     alloc: Global,
     draft: &mut Draft,
@@ -55,7 +56,7 @@ fn inside(
 ) -> Result<(), Refusal>
     ensures { DraftTakes result (spec.inside word.now) draft.old begun words.now draft.new }
 {
-    if begun.lines >= MOST_LINES {
+    if begun.lines >= MOST_STATEMENTS {
         return Err(Refusal::Kind(SourceFaultKind::Limit));
     }
     begun.lines += 1;
@@ -96,6 +97,32 @@ fn is_too_long(words: &[&[u8]]) -> bool
     words.len() > MOST_WORDS || nesting(words) > MOST_NESTING
 }
 
+/// A statement, which may have no words.
+fn read_statement(alloc: Global, draft: &mut Draft, words: &[&[u8]]) -> Result<(), Refusal>
+    ensures { DraftIs result draft.new (in_draft spec.by_words draft.old words.now) }
+{
+    match words.split_first() {
+        None => Ok(()),
+        Some((word, rest)) => worded_line(alloc, draft, word, rest),
+    }
+}
+
+/// One statement after the other.
+fn read_statements(
+    alloc: Global,
+    draft: &mut Draft,
+    statements: &[Vec<&[u8]>],
+) -> Result<(), Refusal>
+    ensures { DraftIs result draft.new
+        (spec.by_statements (drafted_of draft.old) (lists statements.now)) }
+{
+    let Some((first, rest)) = statements.split_first() else {
+        return Ok(());
+    };
+    read_statement(alloc, draft, first)?;
+    read_statements(alloc, draft, rest)
+}
+
 #[tactic(auto, unfolding(crate::specs::Grammar::line_of))]
 fn read_line(alloc: Global, draft: &mut Draft, text: &[u8]) -> Result<(), Refusal>
     ensures { DraftIs result draft.new (spec.line_of (drafted_of draft.old) text.now) }
@@ -107,10 +134,8 @@ fn read_line(alloc: Global, draft: &mut Draft, text: &[u8]) -> Result<(), Refusa
     if is_too_long(&words) {
         return Err(Refusal::Kind(SourceFaultKind::Limit));
     }
-    match words.split_first() {
-        None => Ok(()),
-        Some((word, rest)) => worded_line(alloc, draft, word, rest),
-    }
+    let statements = statements_of(alloc, &words)?;
+    read_statements(alloc, draft, &statements)
 }
 
 /// The draft takes in a line; a fault has the line's number.

@@ -8,7 +8,7 @@ ghost use Rattle.lu_source.specs.Expressions as expressions;
 ghost use Rattle.lu_source.specs.Shapes.{tree_of};
 ghost use Rattle.lu_source_text.specs.Drafts.{begun_of, blocks_of, drafted_of, opening_of};
 ghost use Rattle.lu_source_text.specs.Grammar as spec;
-ghost use Rattle.lu_source_text.specs.Reads.{Reads, ReadsBoth, ReadsCell, ReadsCode, ReadsCompared, ReadsTree, ReadsWhole, cell_of, in_begun, meanings, within, on_cell};
+ghost use Rattle.lu_source_text.specs.Reads.{Reads, ReadsBoth, ReadsCell, ReadsChanged, ReadsCode, ReadsCompared, ReadsTree, ReadsWhole, cell_of, in_begun, meanings, within, on_cell};
 
 use crate::draft::{Begun, Block, Draft, Opening};
 use crate::expression::{
@@ -19,7 +19,7 @@ use crate::names::{is_free_name, position_from};
 use crate::scope::{Cell, Scope};
 use crate::updates::{CellCall, call_in};
 use lu_component::Operand;
-use lu_source::{Action, Evaluation, Expr, Stmt, coded, past, put, then};
+use lu_source::{Action, Evaluation, Expr, Operator, Stmt, coded, past, put, then};
 use lu_text::exactly_one;
 use std::alloc::{AllocError, Global};
 
@@ -93,6 +93,19 @@ pub(crate) fn value_of(alloc: Global, begun: &Begun, expr: &Expr) -> Result<Eval
     code_for(alloc, expr, free, free)
 }
 
+/// The same after the locals and a value.
+fn value_after(
+    alloc: Global,
+    begun: &Begun,
+    at: Operand,
+    expr: &Expr,
+) -> Result<Evaluation, Refusal>
+    ensures { ReadsCode result (spec.value_after (begun_of begun.now) at (expr_of expr.now)) }
+{
+    let free = past(begun.locals.len() as u8, at);
+    code_for(alloc, expr, free, free)
+}
+
 /// The code of an index, and of a value after it.
 fn both_of(
     alloc: Global,
@@ -103,8 +116,7 @@ fn both_of(
     ensures { ReadsBoth result begun.now index.now expr.now }
 {
     let first = value_of(alloc, begun, index)?;
-    let free = past(begun.locals.len() as u8, first.at);
-    let second = code_for(alloc, expr, free, free)?;
+    let second = value_after(alloc, begun, first.at, expr)?;
     Ok((first, second))
 }
 
@@ -143,11 +155,76 @@ pub(crate) fn set_local(
     Ok(then(alloc, value.code, put(register, value.at))?)
 }
 
-/// The cell becomes the value of the expression.
-fn set_cell(alloc: Global, begun: &Begun, cell: &Cell, expr: &Expr) -> Result<Stmt, Refusal>
-    ensures { ReadsTree result (on_cell spec.set_cell begun.now cell.now expr.now) }
+/// The operator by which a word changes a value, besides `=`; none where it is `=`.
+fn changing(word: &[u8]) -> Result<Option<Operator>, Refusal>
+    ensures { Reads (λ by. by) result (spec.changing word.now) }
 {
-    let (index, value) = both_of(alloc, begun, &cell.index, expr)?;
+    if word == b"=".as_slice() {
+        Ok(None)
+    } else if word == b"+=".as_slice() {
+        Ok(Some(Operator::Plus))
+    } else if word == b"-=".as_slice() {
+        Ok(Some(Operator::Minus))
+    } else {
+        Err(Refusal::Kind(SourceFaultKind::Form))
+    }
+}
+
+/// `= EXPR`, `+= EXPR` or `-= EXPR`, which all the words are.
+fn changed_in(
+    alloc: Global,
+    draft: &Draft,
+    begun: &Begun,
+    words: &[&[u8]],
+) -> Result<(Option<Operator>, Expr), Refusal>
+    ensures { ReadsChanged result (in_begun spec.changed_in draft.now begun.now words.now) }
+{
+    let (word, rest) = first_word(words)?;
+    let by = changing(word)?;
+    let expr = expr_in(alloc, draft, begun, rest)?;
+    Ok((by, expr))
+}
+
+/// What a value becomes by an expression: that, or what the operator makes of it and that.
+fn changed(alloc: Global, by: Option<Operator>, old: Expr, expr: Expr) -> Result<Expr, AllocError>
+    ensures { IfOk result
+        (λ e. expr_of e ≡ spec.changed by (expr_of old) (expr_of expr)) }
+{
+    match by {
+        None => Ok(expr),
+        Some(operator) => {
+            let old = Box::new(alloc, old)?;
+            Ok(Expr::Binary(operator, old, Box::new(alloc, expr)?))
+        }
+    }
+}
+
+/// The expression that stands for a value.
+fn expr_at(at: Operand) -> Expr
+    ensures { expr_of result ≡ spec.expr_at at }
+{
+    match at {
+        Operand::Reg(register) => Expr::Local(register),
+        Operand::Num(number) => Expr::Number(number),
+    }
+}
+
+/// The cell becomes the value of the expression, or what the operator makes of its value and that,
+/// by a load and a store. Its index is evaluated once.
+fn set_cell(
+    alloc: Global,
+    begun: &Begun,
+    by: Option<Operator>,
+    cell: &Cell,
+    expr: Expr,
+) -> Result<Stmt, Refusal>
+    ensures { ReadsTree result
+        (spec.set_cell by (begun_of begun.now) (cell_of cell.now) (expr_of expr)) }
+{
+    let index = value_of(alloc, begun, &cell.index)?;
+    let old = Expr::Read(cell.array, Box::new(alloc, expr_at(index.at))?);
+    let new = changed(alloc, by, old, expr)?;
+    let value = value_after(alloc, begun, index.at, &new)?;
     let action = Action::Store {
         array: cell.array,
         index: index.at,
@@ -303,7 +380,7 @@ fn call_tree(
     Ok(value_of(alloc, begun, &expr)?.code)
 }
 
-/// `NAME = EXPR` and `NAME[EXPR] = EXPR`.
+/// `NAME = EXPR` and `NAME[EXPR] = EXPR`, and the same with `+=` and `-=`.
 fn assign(
     alloc: Global,
     draft: &Draft,
@@ -315,12 +392,52 @@ fn assign(
         (in_begun (spec.assign word.now) draft.now begun.now words.now) }
 {
     if let Some(register) = local_in(&begun.locals, word) {
-        let expr = assigned_in(alloc, draft, begun, words)?;
-        return set_local(alloc, begun, register, &expr);
+        let (by, expr) = changed_in(alloc, draft, begun, words)?;
+        let new = changed(alloc, by, Expr::Local(register), expr)?;
+        return set_local(alloc, begun, register, &new);
     }
     let (cell, rest) = cell_in(alloc, draft, begun, word, words)?;
-    let expr = assigned_in(alloc, draft, begun, rest)?;
-    set_cell(alloc, begun, &cell, &expr)
+    let (by, expr) = changed_in(alloc, draft, begun, rest)?;
+    set_cell(alloc, begun, by, &cell, expr)
+}
+
+/// An expression of which only counts whether it is 0: a difference serves for `!=`.
+pub(crate) fn as_test(expr: Expr) -> Expr
+    ensures { expr_of result ≡ expressions.as_test (expr_of expr) }
+{
+    match expr {
+        Expr::Binary(Operator::Differs, left, right) => {
+            Expr::Binary(Operator::Minus, left, right)
+        }
+        other => other,
+    }
+}
+
+/// A load of a cell that no array has, by which an operation traps.
+const TRAPPING: Action = Action::Load {
+    to: 0,
+    array: 0,
+    index: Operand::Num(64),
+};
+
+/// `assert EXPR`: the operation traps where the expression is 0, by a load of the first shared word,
+/// which a source has to have.
+fn assert_tree(
+    alloc: Global,
+    draft: &Draft,
+    begun: &Begun,
+    words: &[&[u8]],
+) -> Result<Stmt, Refusal>
+    ensures { ReadsTree result (in_begun spec.assert_tree draft.now begun.now words.now) }
+{
+    if draft.words.is_empty() {
+        return Err(Refusal::Kind(SourceFaultKind::Form));
+    }
+    let test = as_test(expr_in(alloc, draft, begun, words)?);
+    let value = value_of(alloc, begun, &test)?;
+    let holds = Box::new(alloc, Stmt::Nothing)?;
+    let fails = Box::new(alloc, Stmt::Plain(TRAPPING))?;
+    Ok(then(alloc, value.code, Stmt::IfElse(value.at, holds, fails))?)
 }
 
 /// A statement that opens no block, declares no local, and calls nothing of a cell.
@@ -345,6 +462,8 @@ fn plain(
         Ok(Stmt::Plain(Action::Unlock(lock_number(draft, words)?)))
     } else if word == b"await".as_slice() {
         await_tree(alloc, draft, begun, words)
+    } else if word == b"assert".as_slice() {
+        assert_tree(alloc, draft, begun, words)
     } else if is_free_name(word) {
         assign(alloc, draft, begun, word, words)
     } else {

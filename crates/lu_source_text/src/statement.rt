@@ -2,8 +2,6 @@
 
 ghost use Rattle.std.specs.Prelude.{◌≡◌, ◌<◌, length, IfOk};
 ghost use Rattle.lu_text.specs.Lines.{texts};
-ghost use Rattle.lu_source.specs.Evaluations.{expr_of};
-ghost use Rattle.lu_source.specs.Expressions as expressions;
 ghost use Rattle.lu_source.specs.Shapes.{tree_of};
 ghost use Rattle.lu_source_text.specs.Drafts.{begun_of, opening_of};
 ghost use Rattle.lu_source_text.specs.Grammar as spec;
@@ -14,9 +12,9 @@ use crate::declaration::{new_name, open_block};
 use crate::draft::{Begun, Draft, Opening};
 use crate::expression::{first_word, last_word};
 use crate::fault::{Refusal, SourceFaultKind};
-use crate::simple::{assigned_in, expr_before_brace, set_local, simple, value_of};
+use crate::simple::{as_test, assigned_in, expr_before_brace, set_local, simple, value_of};
 use lu_component::Operand;
-use lu_source::{Expr, Operator, REGISTERS, Stmt};
+use lu_source::{Expr, REGISTERS, Stmt};
 use std::alloc::Global;
 
 /// The innermost block does this too.
@@ -74,18 +72,6 @@ fn let_line(alloc: Global, draft: &Draft, begun: &mut Begun, words: &[&[u8]]) ->
     add(alloc, begun, stmt)?;
     begun.locals.push(name)?;
     Ok(())
-}
-
-/// An expression of which only counts whether it is 0: a difference serves for `!=`.
-fn as_test(expr: Expr) -> Expr
-    ensures { expr_of result ≡ expressions.as_test (expr_of expr) }
-{
-    match expr {
-        Expr::Binary(Operator::Differs, left, right) => {
-            Expr::Binary(Operator::Minus, left, right)
-        }
-        other => other,
-    }
 }
 
 /// What is tested by an expression.

@@ -10,14 +10,15 @@ syntax keyword lineupDeclaration component object const word local op end let
 syntax keyword lineupMatrix thread setup
 syntax keyword lineupInstruction set add sub mul eq lt load store cas lock unlock await awaitne pick jump jz return
 syntax match lineupInstruction /\%(\<op\s\+\)\@<!\<\%(fetch_\%(add\|sub\|max\|min\)\|swap\|compare_exchange\)\>\ze\s*(/
-syntax keyword lineupControl if else while loop break continue
+syntax keyword lineupControl if else while loop break continue assert
 syntax keyword lineupConstant true false
-syntax match lineupOperator /&&\|||\|[=!<>]=\|[-+*<>!=]/
+syntax match lineupOperator /&&\|||\|[-+=!<>]=\|[-+*<>!=]/
 syntax keyword lineupReport lineup report spec bound serial pass complete stuck cut fail nondeterministic before earlier
 syntax keyword lineupReport schedule history trap call ret
 syntax match lineupReport /\<serial-cut\>/
 syntax match lineupSeparator /^---$/
 syntax match lineupComment /#.*$/
+syntax match lineupComment /\/\/.*$/
 highlight default link lineupSeparator PreProc
 highlight default link lineupComment Comment
 highlight default link lineupLabel Label
