@@ -114,7 +114,7 @@ const ASSIGNMENTS: [(&str, &str, &str); 5] = [
     (
         "-",
         "-",
-        "there is no `--` operator; help: write `NAME -= 1`, or `#` before a comment",
+        "there is no `--` operator; help: write `NAME -= 1`, or `//` before a comment",
     ),
     (
         "*",
@@ -152,6 +152,8 @@ fn row_words(alloc: Global, word: &[u8], row: &Foreign) -> Result<String, AllocE
 /// Whether a word before these is assigned to, or has an index, a field or a path after it.
 fn is_accessed(rest: &[&[u8]]) -> bool {
     word_is(rest, 0, b"=")
+        || word_is(rest, 0, b"+=")
+        || word_is(rest, 0, b"-=")
         || word_is(rest, 0, b"[")
         || word_is(rest, 0, b".")
         || (word_is(rest, 0, b":") && !rest.is_empty() && word_is(rest, 1, b":"))
@@ -247,7 +249,7 @@ fn pair_among(
 /// What is said of two signs that are one in other languages.
 fn pair_words(words: &[&[u8]]) -> Option<&'static str> {
     if word_is(words, 0, b"(") && word_is(words, 1, b"*") {
-        return Some("unexpected `(*`; help: a comment begins with `#`");
+        return Some("unexpected `(*`; help: a comment begins with `//` or `#`");
     }
     pair_among(&PAIRS, words)
         .or(pair_among(&OPERATORS, words))

@@ -69,7 +69,7 @@ static STATEMENTS: [Foreign; 9] = [
     },
     Foreign {
         words: &["begin"],
-        help: "begin a block with `{` at the end of a line",
+        help: "begin a block with `{`",
     },
     Foreign {
         words: &["end", "endif", "endwhile", "fi", "done", "od"],
@@ -309,18 +309,21 @@ static WAITS: [Foreign; 8] = [
 ];
 
 /// Other functions.
-static FUNCTIONS: [Foreign; 8] = [
+static FUNCTIONS: [Foreign; 7] = [
     Foreign {
         words: &["print", "println", "printf", "log", "debug", "writeln"],
         help: "return the value, and see it in a trace",
     },
     Foreign {
-        words: &["assert_eq", "debug_assert", "assert_ne"],
-        help: "write `assert EXPR`",
-    },
-    Foreign {
-        words: &["panic", "abort", "exit", "unreachable"],
-        help: "write `assert false`, which traps",
+        words: &[
+            "assert_eq",
+            "debug_assert",
+            "panic",
+            "abort",
+            "exit",
+            "unreachable",
+        ],
+        help: "write `assert EXPR`, which traps if EXPR is 0",
     },
     Foreign {
         words: &["new", "malloc", "calloc", "alloc", "box"],
@@ -376,7 +379,7 @@ static VALUES: [Foreign; 8] = [
     },
     Foreign {
         words: &["then", "do"],
-        help: "begin a block with `{` at the end of the line",
+        help: "begin a block with `{`",
     },
 ];
 

@@ -288,11 +288,6 @@ fn keyword_argument<'a>(words: &[&'a [u8]]) -> Option<&'a [u8]> {
     }
 }
 
-/// Whether a word is a name or a number.
-fn is_value(word: &[u8]) -> bool {
-    is_free_name(word) || value_in(word).is_some()
-}
-
 /// A word after the whole declaration of a shared word or a constant, and what to do.
 fn after_declaration<'a>(
     scope: &Scope<'_>,
@@ -308,23 +303,25 @@ fn after_declaration<'a>(
             "declare each name on a line of its own",
         )),
         [_, _, sign, value, next, ..]
-            if *sign == b"=".as_slice() && is_constant(scope, value) && is_value(next) => Some((
+            if *sign == b"=".as_slice()
+                && is_constant(scope, value)
+                && (is_free_name(next) || value_in(next).is_some()) => Some((
             *next,
             "a declaration takes one number or constant",
         )),
         [_, _, opens, _, closes, _, _, next, ..]
             if *opens == b"[".as_slice()
                 && *closes == b"]".as_slice()
-                && (*next == b",".as_slice() || is_value(next)) => Some((
+                && *next == b",".as_slice() => Some((
             *next,
             "each cell of an array begins with the same number",
         )),
         [_, _, next, ..] if *next == b"=".as_slice() || *next == b"[".as_slice() => None,
         [_, _, next, ..] if is_word => Some((
             *next,
-            "write `word NAME = EXPR`, or `word NAME[LEN]` for an array",
+            "write `word NAME = N`, or `word NAME[LEN]` for an array",
         )),
-        [_, _, next, ..] => Some((*next, "write `const NAME = EXPR`")),
+        [_, _, next, ..] => Some((*next, "write `const NAME = N`")),
         _ => None,
     }
 }
@@ -421,12 +418,7 @@ fn expression_words(alloc: Global, words: &[&[u8]]) -> Result<Option<String>, Al
     }
     if let Some(word) = last_operator(words) {
         let word = shown(word);
-        let expected = if word_is(words, 0, b"word") || word_is(words, 0, b"const") {
-            "a number or a constant"
-        } else {
-            "an expression"
-        };
-        return Ok(Some(format!(in alloc; "expected {expected} after `{word}`")?));
+        return Ok(Some(format!(in alloc; "expected an expression after `{word}`")?));
     }
     found_words(
         alloc,

@@ -129,7 +129,8 @@ fn misuse_words(
     next: &[u8],
 ) -> Result<Option<String>, AllocError> {
     let is_indexed = next == b"[".as_slice();
-    let is_assigned = is_first && next == b"=".as_slice();
+    let is_assigned = is_first
+        && (next == b"=".as_slice() || next == b"+=".as_slice() || next == b"-=".as_slice());
     let said = match declared {
         Declared::Operation if next == b"(".as_slice() => format!(in alloc;
             "cannot call `{name}`: an operation cannot call another one"
