@@ -1,8 +1,7 @@
 -- Attempts at a linearization of a run stay sound, step by step.
-use Rattle.std.proofs.Common.{arith, ◌≡◌, ◌≢◌, ℕ, zero, suc, ◌+◌, ◌<◌, ◌≤◌, ◌==◌, List, [], ◌∷◌, ◌++◌, drop, length, replicate, set, take, Option, Some, None, slice_get, refl, sym, ◌∙◌, ap, subst, inl, inr, add-one, append_assoc}
+use Rattle.std.proofs.Common.{arith, ◌≡◌, ℕ, zero, suc, ◌+◌, ◌<◌, ◌≤◌, ◌==◌, List, [], ◌∷◌, ◌++◌, drop, length, replicate, take, Some, None, slice_get, refl, sym, ◌∙◌, ap, subst, inl, inr, add-one}
 use Rattle.std.specs.Prelude.{◌⊎◌, Vec, if◌then◌else◌}
-use Rattle.std.proofs.lemmas.Bool.Decides.{eqb_tells}
-use Rattle.std.proofs.lemmas.List.{append-nil, get_or-set_other, get_or-set_same, length-set, take_all}
+use Rattle.std.proofs.lemmas.List.{get_or-set_other, get_or-set_same, length-set, take_all}
 use Rattle.std.proofs.lemmas.Option.{same_Some}
 use Rattle.lu_component.specs.Component.{Component}
 use Rattle.lu_test.specs.declared.matrix.Call.{Call as ACall}
@@ -30,10 +29,10 @@ use Rattle.lu_run.specs.declared.run.RunEvent.TheVariants.{Call as Calls, Return
 use Rattle.lu_run.specs.declared.table.Table.{Table}
 use Rattle.lu_run.specs.declared.following.SerialRuns.{SerialRuns}
 use Rattle.lu_run.specs.Finding.{AreSound, IsAfterCall, IsAfterEffect, IsAfterReturn, IsAlike, IsAttempt, IsLinearized, IsSound, Opens}
-use Rattle.lu_run.specs.Following.{AreSeated, HasState, NextState}
+use Rattle.lu_run.specs.Following.{AreSeated, HasState}
 use Rattle.lu_run.specs.Judging.{HasLinearization, InState, StartsAt, call_of}
 use Rattle.lu_run.specs.Offending.{NextRest}
-use Rattle.lu_run.specs.Runs.{AreEventsOf, IsEventOf, IsRun, history_of, matrix_of, next_event}
+use Rattle.lu_run.specs.Runs.{IsRun, history_of, matrix_of, next_event}
 use Rattle.lu_run.specs.Tables.{Grows, IsTable}
 use Rattle.lu_run.specs.Asking.{rest_at}
 use Rattle.lu_run.proofs.Advanced.{changed, one_more, seats, seats_fewer}
@@ -41,7 +40,6 @@ use Rattle.lu_run.proofs.Automated.{automaton}
 use Rattle.lu_run.proofs.Beginning.{no_pending}
 use Rattle.lu_run.proofs.Finished.{first_of}
 use Rattle.lu_run.proofs.Followed.{in_earlier}
-use Rattle.lu_run.proofs.Foresight.{own_thread}
 use Rattle.lu_run.proofs.Histories.{calls_next, history_push, sequential_front}
 use Rattle.lu_run.proofs.Known.{has_later}
 use Rattle.lu_run.proofs.Simulated.{from_state, next_state}

@@ -1,40 +1,33 @@
 -- The order of a linearization, step by step.
-use Rattle.std.proofs.Common.{arith, ◌≡◌, ◌≢◌, ℕ, zero, suc, ◌+◌, ◌<◌, ◌≤◌, ◌==◌, List, [], ◌∷◌, ◌++◌, length, set, take, Option, Some, None, slice_get, refl, sym, ◌∙◌, ap, subst, inl, inr, append_assoc}
-use Rattle.std.specs.Prelude.{if◌then◌else◌, map}
+use Rattle.std.proofs.Common.{arith, ◌≡◌, ◌≢◌, ℕ, zero, suc, ◌+◌, ◌≤◌, List, [], ◌∷◌, ◌++◌, length, Option, Some, None, slice_get, refl, sym, ◌∙◌, ap, subst, append_assoc}
+use Rattle.std.specs.Prelude.{if◌then◌else◌}
 use Rattle.std.proofs.lemmas.Bool.{ne_eqb}
-use Rattle.std.proofs.lemmas.Bool.Decides.{eqb_tells}
-use Rattle.std.proofs.lemmas.List.{append-nil, get_or-set_other, get_or-set_same}
-use Rattle.std.proofs.lemmas.Option.{same_Some, slice_get_past}
-use Rattle.lu_component.specs.Component.{Component}
+use Rattle.std.proofs.lemmas.List.{append-nil}
+use Rattle.std.proofs.lemmas.Option.{slice_get_past}
 use Rattle.lu_test.specs.declared.matrix.Call.{Call as ACall}
 use Rattle.lu_machine.specs.declared.event.Event.{Event}
 use Rattle.lu_machine.specs.declared.event.Event.TheVariants.{Call, Return}
 use Rattle.lu_machine.specs.declared.event.Outcome.{Outcome}
-use Rattle.lu_machine.specs.Starts.{IsStart}
-use Rattle.lu_machine.specs.States.{State}
 use Rattle.lu_history.specs.declared.operation.OpId.{OpId}
 use Rattle.lu_history.specs.declared.serial.SerialOp.{SerialOp}
 use Rattle.lu_history.specs.declared.serial.SerialOutcome.{SerialOutcome}
-use Rattle.lu_history.specs.Histories.{calls as calls_count, outcomes}
+use Rattle.lu_history.specs.Histories.{outcomes}
 use Rattle.lu_history.specs.Parts.{as_serial}
 use Rattle.lu_history.proofs.Events.{last_at, same_number}
 use Rattle.lu_history.proofs.Keeping.{calls_same, outcomes_more, outcomes_same}
 use Rattle.lu_witness.specs.Witnesses.{entries}
 use Rattle.lu_witness.specs.Search.{next_of}
 use Rattle.lu_witness.proofs.Entries.{entries-append, entries_own}
-use Rattle.lu_client.specs.Alone.{Rest, RestAfter}
-use Rattle.lu_linearization.specs.Linearizations.{ComesNext, HasOnlyCalled, HasOutcome, HasSequentialThreads, IsLinearization}
+use Rattle.lu_client.specs.Alone.{Rest}
+use Rattle.lu_linearization.specs.Linearizations.{ComesNext, HasOutcome, HasSequentialThreads, IsLinearization}
 use Rattle.lu_linearization.specs.Configurations.{IsAutomaton, Reads, effects_in, pending_call}
-use Rattle.lu_linearization.specs.Monitors.{by_thread}
 use Rattle.lu_linearization.proofs.Configured.{waiting_tells}
 use Rattle.lu_linearization.proofs.Ended.{has_returned}
 use Rattle.lu_linearization.proofs.Goes.{call_keeps, put_goes_on, return_goes_on}
 use Rattle.lu_linearization.proofs.Sequential.{last}
-use Rattle.lu_run.specs.declared.automaton.ThreadCall.{ThreadCall}
 use Rattle.lu_run.specs.declared.ordering.RunOperation.{RunOperation}
 use Rattle.lu_run.specs.declared.run.RunEvent.{RunEvent}
 use Rattle.lu_run.specs.Judging.{call_of}
-use Rattle.lu_run.specs.Offending.{NextRest}
 use Rattle.lu_run.specs.Ordering.{HaveCalls, entries_of, entry_of}
 
 -- ---- one entry more

@@ -1,5 +1,5 @@
 -- A replay of a linearization goes on, step by step.
-use Rattle.std.proofs.Common.{arith, ◌≡◌, ◌≢◌, ℕ, zero, suc, ◌+◌, ◌<◌, ◌≤◌, List, [], ◌∷◌, ◌++◌, length, replicate, set, take, Option, Some, None, slice_get, refl, sym, ◌∙◌, ap, subst, inl, inr}
+use Rattle.std.proofs.Common.{arith, ◌≡◌, ℕ, zero, suc, ◌<◌, ◌≤◌, List, [], ◌∷◌, ◌++◌, length, replicate, set, take, Option, Some, None, slice_get, refl, sym, ◌∙◌, ap, subst, inl, inr}
 use Rattle.std.specs.Prelude.{IfSome}
 use Rattle.std.proofs.lemmas.Bool.Decides.{eqb_tells}
 use Rattle.std.proofs.lemmas.List.{get_or-set_other, get_or-set_same}
@@ -12,7 +12,6 @@ use Rattle.lu_machine.specs.Starts.{IsStart}
 use Rattle.lu_machine.specs.States.{State}
 use Rattle.lu_history.specs.declared.operation.OpId.{OpId}
 use Rattle.lu_history.specs.declared.serial.SerialOp.{SerialOp}
-use Rattle.lu_history.specs.declared.serial.SerialOutcome.{SerialOutcome}
 use Rattle.lu_history.specs.Histories.{calls as calls_count, outcomes}
 use Rattle.lu_history.specs.Parts.{as_serial}
 use Rattle.lu_history.proofs.Events.{kept_at}
@@ -23,7 +22,6 @@ use Rattle.lu_linearization.specs.Linearizations.{HasOnlyCalled, HasSequentialTh
 use Rattle.lu_linearization.specs.Configurations.{Reads, effects_in, pending_call}
 use Rattle.lu_linearization.specs.Monitors.{by_thread}
 use Rattle.lu_run.specs.declared.automaton.ThreadCall.{ThreadCall}
-use Rattle.lu_run.specs.declared.finding.Attempt.{Attempt}
 use Rattle.lu_run.specs.declared.following.SerialRuns.{SerialRuns}
 use Rattle.lu_run.specs.declared.ordering.Replay.{Replay}
 use Rattle.lu_run.specs.declared.ordering.RunOperation.{RunOperation}
@@ -31,11 +29,11 @@ use Rattle.lu_run.specs.declared.run.RunEvent.{RunEvent}
 use Rattle.lu_run.specs.declared.run.RunEvent.TheVariants.{Call as Calls, Return as Back}
 use Rattle.lu_run.specs.declared.table.Table.{Table}
 use Rattle.lu_run.specs.Asking.{rest_at}
-use Rattle.lu_run.specs.Finding.{HasEffect, IsAfterCall, IsAfterEffect, IsAfterReturn, IsAttempt, IsLinearized, IsSound}
+use Rattle.lu_run.specs.Finding.{IsAfterCall, IsAfterEffect, IsAfterReturn, IsAttempt, IsLinearized}
 use Rattle.lu_run.specs.Following.{HasState}
 use Rattle.lu_run.specs.Judging.{InState, call_of, thread_of}
 use Rattle.lu_run.specs.Offending.{NextRest}
-use Rattle.lu_run.specs.Ordering.{FollowsTo, HaveCalls, IsNextEvent, IsOperationOf, IsOrder, IsReplay, IsReplayed, IsSeated, PlacesTo, StepsTo, entries_of, entry_of}
+use Rattle.lu_run.specs.Ordering.{FollowsTo, HaveCalls, IsNextEvent, IsOperationOf, IsReplay, IsReplayed, IsSeated, PlacesTo, StepsTo, entries_of, entry_of}
 use Rattle.lu_run.specs.Runs.{IsEventOf, IsRun, history_of, matrix_of}
 use Rattle.lu_run.specs.Tables.{Grows, IsTable}
 use Rattle.lu_run.proofs.Automated.{automaton}

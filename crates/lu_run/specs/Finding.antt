@@ -1,5 +1,5 @@
 -- The search for one linearization of a run.
-use Rattle.std.specs.Prelude.{◌≡◌, ℕ, ◌+◌, ◌<◌, ◌≤◌, Bool, true, List, [], ◌∷◌, drop, length, set, take, Option, Some, None, IfOk, IsSome, OnOk, Result, Vec, slice_get}
+use Rattle.std.specs.Prelude.{◌≡◌, ℕ, ◌+◌, Bool, true, List, drop, length, set, take, Option, Some, None, IfOk, IsSome, OnOk, Result, Vec, slice_get}
 use Rattle.lu_component.specs.Component.{Component}
 use Rattle.lu_test.specs.declared.matrix.Call.{Call as ACall}
 use Rattle.lu_machine.specs.States.{State}

@@ -1,5 +1,5 @@
 -- The verdicts on several runs, and what is said of one that does not pass.
-use Rattle.std.specs.Prelude.{◌≡◌, ◌≢◌, ℕ, ◌+◌, ◌<◌, ◌==◌, ◌++◌, All, List, [], ◌∷◌, Option, Some, None, codes, if◌then◌else◌, length, slice_get, take}
+use Rattle.std.specs.Prelude.{◌≡◌, ◌≢◌, ℕ, ◌<◌, ◌==◌, ◌++◌, All, List, [], ◌∷◌, Option, Some, None, codes, if◌then◌else◌, length, slice_get, take}
 use Rattle.std.specs.Fmt.{decimal}
 use Rattle.lu_component.specs.Component.{Component}
 use Rattle.lu_test.specs.Matrix.{Matrix}

@@ -31,6 +31,6 @@ returns-then-member_count-gt-MOST_LISTED g c =
     )
 
 pub certify_listed-requires-clause-set : goal.certify_listed-requires-clause-set
-certify_listed-requires-clause-set g c = λ s start.
+certify_listed-requires-clause-set g c = λ κs lives s start.
     (let set = c.in-Ok.ensures.set s c.serial.result (c.in_ok-learnt.ensures.learnt s start) in
     subst (λ n. IsSetOf s n (members_of c.in-Ok.graph)) c.serial.ensures.serial set)

@@ -4,7 +4,7 @@ use Rattle.std.proofs.lemmas.Result.{IfOk-weaker}
 use Rattle.lu_test.specs.Matrix.{Matrix}
 use Rattle.lu_client.specs.Rounds.{times}
 use Rattle.lu_cli.specs.declared.request.Repetition.{Repetition}
-use Rattle.lu_cli.specs.declared.request.Repetition.TheVariants.{Forever, UpTo}
+use Rattle.lu_cli.specs.declared.request.Repetition.TheVariants.{UpTo}
 use Rattle.lu_cli.specs.Unrolled.{IsCertifiedUnrolled, IsVerdictOn}
 use Rattle.lu_cli.proofs.unrolled.certify_unrolled.Goals as goal
 

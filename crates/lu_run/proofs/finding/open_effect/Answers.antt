@@ -1,4 +1,4 @@
-use Rattle.std.proofs.Common.{sym, subst, ◌++◌, ◌∷◌, []}
+use Rattle.std.proofs.Common.{sym, subst}
 use Rattle.lu_run.specs.Finding.{AreSound}
 use Rattle.lu_run.proofs.Found.{all_later, sound_alike, sound_effect, sound_later, sound_pushed}
 use Rattle.lu_run.proofs.finding.open_effect.Goals as goal

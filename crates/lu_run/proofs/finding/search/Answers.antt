@@ -1,6 +1,5 @@
-use Rattle.std.proofs.Common.{◌≡◌, List, ◌++◌, ◌∷◌, [], sym, ◌∙◌, subst}
+use Rattle.std.proofs.Common.{◌++◌, ◌∷◌, [], sym, subst}
 use Rattle.std.proofs.lemmas.Result.{err_from_is_err_and}
-use Rattle.lu_run.specs.declared.finding.Attempt.{Attempt}
 use Rattle.lu_run.specs.Finding.{AreSound}
 use Rattle.lu_run.specs.Offending.{Learns}
 use Rattle.lu_run.proofs.Found.{sound_dropped, sound_first, sound_last, sound_last_event, sound_nothing, sound_pushed, sound_rest}

@@ -1,4 +1,4 @@
-use Rattle.std.proofs.Common.{◌≡◌, ℕ, length, inr, sym, ◌∙◌, ap, subst, take}
+use Rattle.std.proofs.Common.{inr, sym, ◌∙◌, ap, subst, take}
 use Rattle.std.proofs.lemmas.Result.{err_from_is_err_and}
 use Rattle.lu_linearization.specs.Configurations.{effects_in}
 use Rattle.lu_run.specs.Judging.{StartsAt}

@@ -1,9 +1,8 @@
-use Rattle.std.proofs.Common.{arith, ◌≡◌, ◌<◌, ◌++◌, ℕ, List, Some, refl, sym, ◌∙◌, ap, subst, inl, inr, length, take, drop, slice_get}
+use Rattle.std.proofs.Common.{arith, ◌≡◌, ◌<◌, ◌++◌, List, Some, refl, sym, ◌∙◌, ap, subst, inl, inr, length, take, drop, slice_get}
 use Rattle.std.specs.Prelude.{◌⊎◌, []}
 use Rattle.std.proofs.lemmas.List.{length-take-le, take-append-drop}
 use Rattle.std.proofs.lemmas.Option.{slice_get_within}
 use Rattle.lu_test.specs.declared.matrix.Call.{Call as ACall}
-use Rattle.lu_run.specs.declared.ordering.RunOperation.{RunOperation}
 use Rattle.lu_run.specs.declared.run.RunEvent.{RunEvent}
 use Rattle.lu_run.specs.Judging.{OfRun, StartsAt, thread_of}
 use Rattle.lu_run.specs.Ordering.{IsKnownOrder, IsOrderFor, IsOrderWith}

@@ -1,4 +1,4 @@
-use Rattle.std.proofs.Common.{arith, ◌≡◌, ◌≤◌, ◌++◌, [], length, List, sym, ◌∙◌, subst}
+use Rattle.std.proofs.Common.{arith, [], sym}
 use Rattle.std.proofs.lemmas.List.{append-nil}
 use Rattle.std.proofs.lemmas.Result.{err_from_is_err_and}
 use Rattle.lu_run.specs.declared.ordering.Replay.{Replay}
