@@ -220,26 +220,39 @@ fn is_faulty_after(alloc: Global, count: usize, lines: &[Vec<u8>]) -> Result<boo
     }
 }
 
+/// The most lines above a fault that are read once more, to see which statement of its line has it.
+const MOST_LINES_ABOVE: usize = 2000;
+
+/// The last of these statements that has words.
+fn last_statement(statements: &[Vec<&[u8]>]) -> usize {
+    let mut last = 0;
+    for (index, statement) in statements.iter().enumerate() {
+        if !statement.is_empty() {
+            last = index;
+        }
+    }
+    last
+}
+
 /// Which of the statements of a line has its fault: the first with which the lines above, as they may
-/// have been meant, are refused; or else the last that has words.
+/// have been meant, are refused; or else the last that has words, also below too many lines.
 fn faulty_statement(
     alloc: Global,
     above: &[&[u8]],
     statements: &[Vec<&[u8]>],
 ) -> Result<usize, AllocError> {
     let count = above.len();
+    if statements.len() < 2 || count > MOST_LINES_ABOVE {
+        return Ok(last_statement(statements));
+    }
     let mut lines = mended_before(alloc, owned(alloc, above)?, count.saturating_add(1))?;
-    let mut last = 0;
     for (index, statement) in statements.iter().enumerate() {
         lines.push(spelled(alloc, statement)?)?;
         if is_faulty_after(alloc, count, &lines)? {
             return Ok(index);
         }
-        if !statement.is_empty() {
-            last = index;
-        }
     }
-    Ok(last)
+    Ok(last_statement(statements))
 }
 
 /// A fault of a line, in this scope: of the statement that has it.
