@@ -87,10 +87,10 @@ pub(crate) struct Past {
 }
 
 /// The number of attempts that are remembered, and of those that may be open.
-const MOST_KEPT: usize = 65_536;
+const MOST_KEPT: usize = 131_072;
 
 /// The number of attempts without a further event after which the search gives up.
-const MOST_IDLE: u32 = 65_536;
+const MOST_IDLE: u32 = 524_288;
 
 /// The number of attempts, for each event, after which the search gives up.
 const MOST_FOR_EVENT: usize = 64;
