@@ -14,7 +14,7 @@ use std::alloc::{AllocError, Global};
 /// How many values may be waited for at the same time.
 const MOST_WAITING: usize = 64;
 
-/// How many values that came earlier may be left behind by one that leaves in order.
+/// How many earlier values may still be waited for when one leaves in order.
 const MOST_OVERTAKEN: usize = 8;
 
 /// The event that an operation is expected to take effect at if nothing is known: after all others.

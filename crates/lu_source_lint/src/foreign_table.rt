@@ -127,7 +127,7 @@ static DECLARATIONS: [Foreign; 9] = [
     },
     Foreign {
         words: &["import", "use", "package", "module", "mod", "namespace"],
-        help: "remove the line, since a source stands alone",
+        help: "remove the line, since a source imports nothing",
     },
     Foreign {
         words: &["type", "typedef"],
